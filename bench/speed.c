@@ -25,17 +25,16 @@ static void decode(icysixel *decoder, const uint8_t *bytes, size_t length, size_
     icysixel_free_bytes(&pixels);
 }
 
-/* Encodes pixels in the output of a kind. */
-static uint32_t encode(icysixel *handle, const uint8_t *pixels, size_t length,
-                       icysixel_encoding *it, uint16_t colors, const char *kind, size_t *text)
+/* The settings of a kind of output. */
+static icysixel_encoding encoding_of(const char *kind)
 {
-    if (strcmp(kind, "compact") == 0)
-        return icysixel_encode_compact(handle, pixels, length, it, colors, text);
+    icysixel_encoding it = {.palette = ICYSIXEL_PALETTE_FARTHEST};
+    if (strcmp(kind, "compact") == 0) it.form = ICYSIXEL_FORM_COMPACT;
+    if (strcmp(kind, "refined") == 0 || strcmp(kind, "diffused") == 0)
+        it.palette = ICYSIXEL_PALETTE_REFINED;
     if (strcmp(kind, "diffused") == 0)
-        it->dithering = (icysixel_dithering){ICYSIXEL_DITHER_DIFFUSION, 6};
-    if (*kind) return icysixel_encode_refined(handle, pixels, length, it, colors, text);
-    return icysixel_encode(handle, pixels, length, it->stride, it->width, it->height, it->p1,
-                           it->p2, colors, text);
+        it.dithering = (icysixel_dithering){ICYSIXEL_DITHER_DIFFUSION, 6};
+    return it;
 }
 
 int main(int argc, char **argv)
@@ -46,7 +45,10 @@ int main(int argc, char **argv)
     size_t chunk = *kind ? strtoull(kind, NULL, 10) : SIZE_MAX;
     icysixel_shape shape = {0};
     int is_raw = turns > 0 && part_size(argv[1], &shape.width, &shape.height);
-    icysixel_encoding encoding = {0, shape.width, shape.height, 9, 1, {0}, 0};
+    icysixel_encoding encoding = encoding_of(kind);
+    encoding.width = shape.width;
+    encoding.height = shape.height;
+    encoding.max_colors = colors;
     uint8_t *bytes = turns > 0 ? read_file(argv[1], &length) : NULL;
     double *times = calloc(turns, sizeof *times);
     if (bytes == NULL || times == NULL || (*kind && is_raw != (chunk == 0)))
@@ -57,7 +59,7 @@ int main(int argc, char **argv)
     for (size_t turn = 0; turn < turns; turn++) {
         double begun = now();
         if (is_raw)
-            want(encode(&handle, bytes, length, &encoding, colors, kind, &text));
+            want(icysixel_encode_image(&handle, bytes, length, &encoding, &text));
         else
             decode(&handle, bytes, length, chunk, &shape);
         times[turn] = now() - begun;

@@ -1,7 +1,6 @@
 /* Writes a red square to standard output, as compact SIXEL in a refined palette. */
 #include "icysixel.h"
 #include <stdio.h>
-#include <stdlib.h>
 
 enum { WIDTH = 12, HEIGHT = 6 };
 
@@ -12,23 +11,23 @@ int main(void)
 
     icysixel handle = {0};
     size_t length = 0;
-    icysixel_encoding encoding = {.width = WIDTH, .height = HEIGHT, .p1 = 9, .p2 = 1};
+    icysixel_encoding encoding = {.width = WIDTH, .height = HEIGHT, .max_colors = 16};
     encoding.dithering = (icysixel_dithering){ICYSIXEL_DITHER_DIFFUSION, 6};
     encoding.form = ICYSIXEL_FORM_COMPACT;
     uint32_t code = icysixel_new(&handle);
     if (code == ICYSIXEL_OK)
-        code = icysixel_encode_refined(&handle, pixels, sizeof pixels, &encoding, 16, &length);
+        code = icysixel_encode_image(&handle, pixels, sizeof pixels, &encoding, &length);
 
-    uint8_t *text = malloc(length);
-    if (code == ICYSIXEL_OK) code = icysixel_copy_text(&handle, text, text ? length : 0, &length);
+    icysixel_bytes text = {0};
+    if (code == ICYSIXEL_OK) code = icysixel_take_text(&handle, &text);
     if (code == ICYSIXEL_OK) {
-        fwrite(text, 1, length, stdout);
+        fwrite(text.data, 1, text.length, stdout);
     } else {
         char message[64];
         icysixel_strerror(code, message, sizeof message);
         fprintf(stderr, "%s\n", message);
     }
-    free(text);
+    icysixel_free_bytes(&text);
     icysixel_free(&handle);
     return code == ICYSIXEL_OK ? 0 : 1;
 }

@@ -58,21 +58,21 @@ static void copy_stored(struct filter *filter)
 /* Writes an image of this shape, which was finished; returns whether it succeeds. */
 static int write_image(icysixel *decoder, const icysixel_shape *shape)
 {
-    icysixel_encoding encoding = {
-        .width = shape->width, .height = shape->height, .p1 = shape->p1, .p2 = 1};
-    icysixel_bytes pixels = {0};
-    uint8_t *text = NULL;
+    icysixel_encoding encoding = {.width = shape->width, .height = shape->height};
+    icysixel_bytes pixels = {0}, text = {0};
     size_t length;
+    encoding.pixel_height = (uint8_t)shape->pixel_height;
+    encoding.palette = ICYSIXEL_PALETTE_FARTHEST;
+    encoding.form = ICYSIXEL_FORM_COMPACT;
     if (icysixel_take_pixels(decoder, ICYSIXEL_ORDER_RGBA, &pixels) == ICYSIXEL_OK &&
-        icysixel_encode_compact(decoder, pixels.data, pixels.length, &encoding, 256, &length) ==
+        icysixel_encode_image(decoder, pixels.data, pixels.length, &encoding, &length) ==
             ICYSIXEL_OK)
-        text = malloc(length);
+        icysixel_take_text(decoder, &text);
+    int is_written = text.data != NULL;
+    if (is_written) fwrite(text.data, 1, text.length, stdout);
     icysixel_free_bytes(&pixels);
-    if (text == NULL) return 0;
-    icysixel_copy_text(decoder, text, length, &length);
-    fwrite(text, 1, length, stdout);
-    free(text);
-    return 1;
+    icysixel_free_bytes(&text);
+    return is_written;
 }
 
 /* Opens a DCS sequence at `P` after ESC, or at the 8-bit control. */

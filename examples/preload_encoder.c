@@ -6,7 +6,6 @@
 #include "icysixel.h"
 #include <sixel.h>
 #include <stdlib.h>
-#include <string.h>
 
 struct sixel_output {
     sixel_write_function write;
@@ -76,25 +75,22 @@ int sixel_dither_get_num_of_histogram_colors(sixel_dither_t *dither) { return di
 SIXELSTATUS sixel_encode(unsigned char *pixels, int width, int height, int depth,
                          sixel_dither_t *dither, sixel_output_t *output)
 {
-    size_t columns = (size_t)width, rows = (size_t)height, length = 0, wanted;
-    uint8_t *rgba = NULL, *text = NULL;
+    icysixel_encoding encoding = {.width = (size_t)width, .height = (size_t)height};
+    icysixel_bytes text = {0};
+    size_t length;
     (void)depth;
     if (width <= 0 || height <= 0) return SIXEL_BAD_ARGUMENT;
+    encoding.format = ICYSIXEL_FORMAT_RGB;
+    encoding.background = ICYSIXEL_BACKGROUND_OPAQUE;
+    encoding.palette = ICYSIXEL_PALETTE_FARTHEST;
+    encoding.max_colors = dither->max_colors;
     uint32_t code = ICYSIXEL_OK;
     if (icysixel_is_empty(&output->encoder)) code = icysixel_new(&output->encoder);
-    if (code == ICYSIXEL_OK && (rgba = malloc(4 * columns * rows)) == NULL)
-        code = ICYSIXEL_OUT_OF_MEMORY;
-    for (size_t i = 0; code == ICYSIXEL_OK && i < columns * rows; i++) {
-        memcpy(rgba + 4 * i, pixels + 3 * i, 3);
-        rgba[4 * i + 3] = 255;
-    }
     if (code == ICYSIXEL_OK)
-        code = icysixel_encode(&output->encoder, rgba, 4 * columns * rows, 0, columns, rows, 9, 0,
-                               dither->max_colors, &length);
-    if (code == ICYSIXEL_OK && (text = malloc(length)) == NULL) code = ICYSIXEL_OUT_OF_MEMORY;
-    if (code == ICYSIXEL_OK) code = icysixel_copy_text(&output->encoder, text, length, &wanted);
-    if (code == ICYSIXEL_OK) output->write((char *)text, (int)length, output->data);
-    free(rgba);
-    free(text);
+        code = icysixel_encode_image(&output->encoder, pixels,
+                                     3 * encoding.width * encoding.height, &encoding, &length);
+    if (code == ICYSIXEL_OK) code = icysixel_take_text(&output->encoder, &text);
+    if (code == ICYSIXEL_OK) output->write((char *)text.data, (int)text.length, output->data);
+    icysixel_free_bytes(&text);
     return code == ICYSIXEL_OK ? SIXEL_OK : SIXEL_BAD_INPUT;
 }

@@ -64,22 +64,20 @@ static uint32_t write_image(GdkPixbuf *image, int frame)
     GdkPixbuf *scaled =
         frame > 0 ? gdk_pixbuf_composite_color_simple(image, width, height, by, 255, 8, 0, 0)
                   : gdk_pixbuf_scale_simple(image, width, height, by);
-    GdkPixbuf *rgba = gdk_pixbuf_add_alpha(scaled, FALSE, 0, 0, 0);
     icysixel_encoding encoding = {.width = (size_t)width, .height = (size_t)height};
-    encoding.p1 = 9;
-    encoding.p2 = 1;
-    encoding.stride = (size_t)gdk_pixbuf_get_rowstride(rgba);
+    encoding.max_colors = (uint16_t)colors;
+    encoding.stride = (size_t)gdk_pixbuf_get_rowstride(scaled);
+    if (!gdk_pixbuf_get_has_alpha(scaled)) encoding.format = ICYSIXEL_FORMAT_RGB;
     encoding.dithering = (icysixel_dithering){(uint8_t)kind, amounts[kind]};
     encoding.form = ICYSIXEL_FORM_COMPACT;
-    size_t length = gdk_pixbuf_get_byte_length(rgba);
-    uint32_t code = icysixel_encode_refined(&encoder, gdk_pixbuf_read_pixels(rgba), length,
-                                            &encoding, (uint16_t)colors, &length);
-    uint8_t *text = g_malloc(length);
-    if (code == ICYSIXEL_OK) code = icysixel_copy_text(&encoder, text, length, &length);
-    if (code == ICYSIXEL_OK) fwrite(text, 1, length, stdout);
+    size_t length = gdk_pixbuf_get_byte_length(scaled);
+    uint32_t code = icysixel_encode_image(&encoder, gdk_pixbuf_read_pixels(scaled), length,
+                                          &encoding, &length);
+    icysixel_bytes text = {0};
+    if (code == ICYSIXEL_OK) code = icysixel_take_text(&encoder, &text);
+    if (code == ICYSIXEL_OK) fwrite(text.data, 1, text.length, stdout);
     fflush(stdout);
-    g_free(text);
-    g_object_unref(rgba);
+    icysixel_free_bytes(&text);
     g_object_unref(scaled);
     return code;
 }

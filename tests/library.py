@@ -9,12 +9,25 @@ PLAIN, COMPACT = range(2)
 OFF, DIFFUSION, ORDERED = range(3)
 
 
-class Encoding(ctypes.Structure):
-    """icysixel_encoding. Its dithering is `kind` and `amount`."""
+RGBA, BGRA, RGB, BGR, INDEXED, CLEAR = range(6)
+REFINED, FARTHEST, GIVEN = range(3)
 
-    _fields_ = [(it, ctypes.c_size_t) for it in ("stride", "width", "height")]
-    _fields_ += [("p1", ctypes.c_int32), ("p2", ctypes.c_int32)]
-    _fields_ += [(it, ctypes.c_uint8) for it in ("kind", "amount", "form")]
+
+class Encoding(ctypes.Structure):
+    """icysixel_encoding. Its dithering is `kind` and `amount`. Its colors are one after another."""
+
+    _fields_ = [(it, ctypes.c_size_t) for it in ("width", "height", "stride")]
+    _fields_ += [("reserved", ctypes.c_uint32)]
+    _fields_ += [(it, ctypes.c_uint16) for it in ("max_colors", "color_count")]
+    _fields_ += [(it, ctypes.c_uint8) for it in ("format", "pixel_height", "background")]
+    _fields_ += [(it, ctypes.c_uint8) for it in ("palette", "kind", "amount", "form")]
+    _fields_ += [("transparent", ctypes.c_uint8), ("colors", ctypes.c_uint8 * 768)]
+
+    def given(self, colors, palette=GIVEN):
+        """The encoding with these colors."""
+        self.palette, self.color_count = palette, len(colors)
+        self.colors[: 3 * len(colors)] = [*itertools.chain(*colors)]
+        return self
 
 
 def call(name, *arguments):
@@ -28,12 +41,12 @@ def call(name, *arguments):
         raise ValueError(f"{name} returns {code}")
 
 
-def encoded(name, pixels, encoding, *arguments):
-    """The output of a call that encodes pixels, given as bytes."""
+def encoded(pixels, encoding):
+    """The SIXEL output of pixels, given as bytes."""
     handle, size = (ctypes.c_void_p * 2)(), ctypes.c_size_t()
     call("icysixel_new", handle)
     source = pixels, len(pixels), ctypes.byref(encoding)
-    call(name, handle, *source, *arguments, ctypes.byref(size))
+    call("icysixel_encode_image", handle, *source, ctypes.byref(size))
     text = ctypes.create_string_buffer(size.value)
     call("icysixel_copy_text", handle, text, size.value, ctypes.byref(size))
     ctypes.CDLL(str(SHARED)).icysixel_free(handle)

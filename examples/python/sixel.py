@@ -20,6 +20,18 @@ class Layout(c.Structure):
     _fields_ = [("stride", c.c_size_t), ("columns", c.c_size_t), ("order", c.c_uint8)]
 
 
+class Encoding(c.Structure):
+    _fields_ = [(name, c.c_size_t) for name in ("width", "height", "stride")]
+    _fields_ += [("reserved", c.c_uint32)]
+    _fields_ += [(name, c.c_uint16) for name in ("max_colors", "color_count")]
+    _fields_ += [(name, c.c_uint8) for name in ("format", "pixel_height", "background", "palette")]
+    _fields_ += [(name, c.c_uint8) for name in ("dither", "amount", "form", "transparent")]
+    _fields_ += [("colors", c.c_uint8 * 768)]
+
+
+RGB = 2
+
+
 library = c.CDLL("libicysixel.so.0")
 handle, size = c.byref(Handle()), c.c_size_t()
 
@@ -47,9 +59,9 @@ def decode(data):
 def encode(ppm):
     """The DCS sequence of a PPM file without comments, whose channels have one byte."""
     width, height, data = re.fullmatch(rb"P6\s+(\d+)\s+(\d+)\s+255\s(.*)", ppm, re.S).groups()
-    rgba = b"".join(data[at : at + 3] + b"\xff" for at in range(0, len(data), 3))
-    sizes = [c.c_size_t(it) for it in (len(rgba), 0, int(width), int(height))]
-    call("icysixel_encode", rgba, *sizes, 9, 1, 256, c.byref(size))
+    encoding = Encoding(width=int(width), height=int(height), format=RGB)
+    source = data, c.c_size_t(len(data)), c.byref(encoding)
+    call("icysixel_encode_image", *source, c.byref(size))
     text = c.create_string_buffer(size.value)
     call("icysixel_copy_text", text, c.c_size_t(size.value), c.byref(size))
     return text.raw

@@ -30,8 +30,8 @@ struct call {
 
 enum {
     DECODE, CLIPPED, DECODE_PAYLOAD, DECODE_TAGS, OF_DCS, OF_PAYLOAD, OF_TAGS, IN_BANDS,
-    ENCODE_16, ENCODE_64, COMPACT, REFINED, REFINED_PLAIN, REFINED_ORDERED, IN_PALETTE, INDEXED,
-    CHOOSE, REFINE, NEAREST, ORDERED, DIFFUSED, NEW,
+    ENCODE_16, ENCODE_64, COMPACT, REFINED, REFINED_PLAIN, REFINED_ORDERED, IN_PALETTE, BGRA, RGB,
+    DENSE_BGR, INDEXED, CLEAR, CHOOSE, REFINE, NEAREST, ORDERED, DIFFUSED, NEW,
 };
 
 /* Wide runs over drawn pixels, which set tags, also in chunks. */
@@ -108,32 +108,38 @@ static uint32_t make_rows(icysixel *h, int kind, struct bytes *made)
     return ICYSIXEL_OK;
 }
 
-/* How 31 of 32 columns are encoded, so that the rows are copied. */
-#define COLUMNS .stride = 128, .width = 31, .height = 40, .p1 = 9, .p2 = 1
-static const icysixel_encoding plain = {
-    COLUMNS, .dithering = {ICYSIXEL_DITHER_OFF, 0}, .form = ICYSIXEL_FORM_PLAIN,
-}, ordered = {
-    COLUMNS, .dithering = {ICYSIXEL_DITHER_ORDERED, 8}, .form = ICYSIXEL_FORM_COMPACT,
-}, compact = {
-    COLUMNS, .dithering = {ICYSIXEL_DITHER_DIFFUSION, 6}, .form = ICYSIXEL_FORM_COMPACT,
+/* How 31 of 32 columns are encoded, so that the rows are copied. Other formats than RGBA find their
+ * pixels in the same bytes. */
+#define COLUMNS(bytes) .stride = (bytes) * 32, .width = 31, .height = 40
+#define TWO .color_count = 2, .colors = {{0, 0, 9}, {200, 200, 9}}
+#define DIFFUSED_BY_6 .dithering = {ICYSIXEL_DITHER_DIFFUSION, 6}
+#define TO_COMPACT .form = ICYSIXEL_FORM_COMPACT
+#define FARTHEST .palette = ICYSIXEL_PALETTE_FARTHEST
+#define IN_TWO .palette = ICYSIXEL_PALETTE_GIVEN, TWO
+static const icysixel_encoding encodings[] = {
+    [ENCODE_16] = {COLUMNS(4), .max_colors = 16, FARTHEST},
+    [ENCODE_64] = {COLUMNS(4), .max_colors = 64, FARTHEST},
+    [COMPACT] = {COLUMNS(4), .max_colors = 16, FARTHEST, TO_COMPACT},
+    [REFINED] = {COLUMNS(4), .max_colors = 16, DIFFUSED_BY_6, TO_COMPACT},
+    [REFINED_PLAIN] = {COLUMNS(4), .max_colors = 16},
+    [REFINED_ORDERED]
+    = {COLUMNS(4), .max_colors = 16, .dithering = {ICYSIXEL_DITHER_ORDERED, 8}, TO_COMPACT},
+    [IN_PALETTE] = {COLUMNS(4), IN_TWO, DIFFUSED_BY_6, TO_COMPACT},
+    [BGRA] = {COLUMNS(4), IN_TWO, .format = ICYSIXEL_FORMAT_BGRA},
+    [RGB] = {COLUMNS(3), .max_colors = 16, .format = ICYSIXEL_FORMAT_RGB},
+    [DENSE_BGR] = {.width = 32, .height = 40, FARTHEST, .format = ICYSIXEL_FORMAT_BGR},
+    [INDEXED] = {COLUMNS(1), TWO, .format = ICYSIXEL_FORMAT_INDEXED},
+    [CLEAR] = {COLUMNS(1), TWO, .format = ICYSIXEL_FORMAT_INDEXED_TRANSPARENT, .transparent = 0},
 };
-static const icysixel_color two[] = {{0, 0, 9}, {200, 200, 9}};
 
 /* Encodes the columns and copies the stored text. After an error there is none. */
 static uint32_t make_text(icysixel *h, int kind, struct bytes *made)
 {
-    static const uint8_t indices[31 * 40] = {1};
-    const icysixel_encoding *e
-        = kind == REFINED_PLAIN ? &plain : kind == REFINED_ORDERED ? &ordered : &compact;
-    size_t size = sizeof pixels, length = 0, wanted;
-    uint32_t code
-        = kind == COMPACT ? icysixel_encode_compact(h, pixels, size, e, 16, &length)
-        : kind >= REFINED && kind <= REFINED_ORDERED
-        ? icysixel_encode_refined(h, pixels, size, e, 16, &length)
-        : kind == IN_PALETTE ? icysixel_encode_with_palette(h, pixels, size, e, two, 2, &length)
-        : kind == INDEXED ? icysixel_encode_indexed(h, pixels, size, e, two, 2, indices,
-                                                    sizeof indices, &length)
-        : icysixel_encode(h, pixels, size, 128, 31, 40, 9, 1, kind == ENCODE_16 ? 16 : 64, &length);
+    static const uint8_t indices[32 * 40] = {1};
+    size_t length = 0, wanted;
+    uint32_t code = kind >= INDEXED
+        ? icysixel_encode_image(h, indices, sizeof indices, &encodings[kind], &length)
+        : icysixel_encode_image(h, pixels, sizeof pixels, &encodings[kind], &length);
     if (code == ICYSIXEL_OK) *made = (struct bytes){malloc(length), length};
     CHECK(icysixel_copy_text(h, made->at, made->length, &wanted)
           == (code == ICYSIXEL_OK ? ICYSIXEL_OK : ICYSIXEL_NO_TEXT));
@@ -148,8 +154,10 @@ static uint32_t make_palette(icysixel *h, int kind, struct bytes *made)
     icysixel_refined refined = {0};
     uint8_t indices[sizeof pixels / 4] = {0};
     size_t size = sizeof pixels, count = sizeof indices;
-    const icysixel_dithering *dithering = kind == NEAREST ? &plain.dithering
-        : kind == ORDERED ? &ordered.dithering : &compact.dithering;
+    const icysixel_color *two = encodings[IN_PALETTE].colors;
+    const icysixel_dithering *dithering
+        = &encodings[kind == NEAREST ? REFINED_PLAIN : kind == ORDERED ? REFINED_ORDERED : REFINED]
+               .dithering;
     uint32_t code
         = kind == CHOOSE ? icysixel_choose_palette(pixels, size, 16, colors, 16, witnesses, 17,
                                                    indices, count, &chosen)
@@ -176,9 +184,13 @@ static const struct call calls[] = {
     CALL(image, DECODE), CALL(image, CLIPPED), CALL(image, DECODE_PAYLOAD),
     CALL(image, DECODE_TAGS), CALL(text, ENCODE_16), CALL(text, ENCODE_64), CALL(text, COMPACT),
     CALL(text, REFINED), CALL(text, REFINED_PLAIN), CALL(text, REFINED_ORDERED),
-    CALL(text, IN_PALETTE), CALL(text, INDEXED), CALL(palette, CHOOSE), CALL(palette, REFINE),
+    CALL(text, IN_PALETTE), CALL(text, BGRA), CALL(text, RGB), CALL(text, DENSE_BGR),
+    CALL(text, INDEXED), CALL(text, CLEAR), CALL(palette, CHOOSE), CALL(palette, REFINE),
     CALL(palette, NEAREST), CALL(palette, ORDERED), CALL(palette, DIFFUSED), CALL(new, NEW),
 };
+
+/* A pixel in a palette of its own. */
+static const icysixel_encoding one = {.width = 1, .height = 1};
 
 /* A decoder with a register that no new one has, an image and a text. */
 static icysixel full_decoder(void)
@@ -189,7 +201,7 @@ static icysixel full_decoder(void)
     OK(icysixel_new(&h));
     icysixel_set_register(&h, 200, 1, 2, 3);
     OK(icysixel_decode(&h, (const uint8_t *)"#1;2;9;9;9!9~", 13, &shape));
-    OK(icysixel_encode(&h, pixels, 4, 0, 1, 1, 9, 1, 256, &length));
+    OK(icysixel_encode_image(&h, pixels, 4, &one, &length));
     return h;
 }
 
@@ -234,9 +246,11 @@ static void test_rejected(icysixel *h)
     icysixel_palette chosen;
     icysixel_refined refined;
     size_t length;
-    CHECK(icysixel_encode(h, pixels, 0, 0, 0, 4, 9, 1, 256, &length) == ICYSIXEL_BAD_DIMENSIONS);
-    CHECK(icysixel_encode(h, pixels, 9, 0, 2, 2, 9, 1, 256, &length) == ICYSIXEL_BUFFER_MISMATCH);
-    CHECK(icysixel_encode(h, pixels, 0, 0, SIZE_MAX, 2, 9, 1, 256, &length) == ICYSIXEL_OVERFLOW);
+    icysixel_encoding none = {.height = 4}, four = {.width = 2, .height = 2};
+    icysixel_encoding all = {.width = SIZE_MAX, .height = 2};
+    CHECK(icysixel_encode_image(h, pixels, 0, &none, &length) == ICYSIXEL_BAD_DIMENSIONS);
+    CHECK(icysixel_encode_image(h, pixels, 9, &four, &length) == ICYSIXEL_BUFFER_MISMATCH);
+    CHECK(icysixel_encode_image(h, pixels, 0, &all, &length) == ICYSIXEL_OVERFLOW);
     CHECK(icysixel_choose_palette(pixels, 3, 2, colors, 2, colors, 3, NULL, 0, &chosen)
           == ICYSIXEL_BUFFER_MISMATCH);
     CHECK(icysixel_refine_palette(pixels, 3, 2, colors, 2, colors, 3, NULL, 0, &refined)
@@ -284,6 +298,11 @@ static void test_no_allocation(void)
     OK(icysixel_decode(&h, string, sizeof string - 1, &shape));
     memory.requests = 0, memory.all_fail = true;
     OK(icysixel_take_pixels(&h, 0, &block)), CHECK(block.length == shape.bytes);
+    icysixel_free_bytes(&block);
+    memory.all_fail = false;
+    OK(icysixel_encode_image(&h, pixels, 4, &one, &wanted));
+    memory.requests = 0, memory.all_fail = true;
+    OK(icysixel_take_text(&h, &block)), CHECK(block.length == wanted);
     icysixel_free(&h);
     icysixel_free_bytes(&block);
     CHECK(memory.requests == 0 && memory.blocks == 0 && memory.bytes == 0);

@@ -4,7 +4,7 @@
 _Static_assert(sizeof(icysixel) == 16 && sizeof(icysixel_fed) == 16 && sizeof(icysixel_size) == 16
     && sizeof(icysixel_shape) == 72 && sizeof(icysixel_color) == 3 && sizeof(icysixel_bytes) == 24
     && sizeof(icysixel_palette) == 24 && sizeof(icysixel_refined) == 32
-    && sizeof(icysixel_dithering) == 2 && sizeof(icysixel_encoding) == 40
+    && sizeof(icysixel_dithering) == 2 && sizeof(icysixel_encoding) == 808
     && sizeof(icysixel_layout) == 24, "the sizes of the structs");
 
 /* Checks that a call returns the code of this name. */
@@ -14,8 +14,7 @@ _Static_assert(sizeof(icysixel) == 16 && sizeof(icysixel_fed) == 16 && sizeof(ic
 #define BYTES(text) (const uint8_t *)(text), strlen(text)
 #define DECODE(text) icysixel_decode(h, BYTES(text), &shape)
 #define FEED(text) icysixel_feed(h, BYTES(text), &fed)
-#define ENCODE(call, pixels, ...)                                                                  \
-    icysixel_encode_##call(h, SIZED(pixels), &e, __VA_ARGS__, &length)
+#define ENCODE(pixels) icysixel_encode_image(h, SIZED(pixels), &e, &length)
 #define HAS_IMAGE                                                                                  \
     (icysixel_copy_pixels(h, 0, 0, &(icysixel_layout){0}, NULL, 0) != ICYSIXEL_NO_IMAGE)
 #define RED "\377\0\0\377"
@@ -40,6 +39,9 @@ static icysixel_shape shape;
 static icysixel_size size;
 static icysixel_color color;
 static size_t wanted, length;
+
+/* A pixel in a palette of its own. */
+static const icysixel_encoding one = {.width = 1, .height = 1};
 
 /* Twelve columns of six red pixels, and four bytes that are not part of the image. */
 static const char red[] = "\033P9;1q#1;2;100;0;0!12~\033\\more";
@@ -74,7 +76,6 @@ static void test_empty_handle(void)
 {
     icysixel_bytes block = {&(uint8_t){7}, 7, 7};
     icysixel_layout layout = {4, 1, ICYSIXEL_ORDER_RGBA};
-    icysixel_encoding e = {.width = 1, .height = 1, .p1 = 9, .p2 = 1};
     uint8_t buffer[4] = {7, 7, 7, 7};
     fed.consumed = shape.width = shape.bytes = size.width = length = color.red = 7;
     make_silent_calls();
@@ -85,13 +86,10 @@ static void test_empty_handle(void)
         icysixel_copy_rows(h, 0, 1, &layout, buffer, 4),
         DECODE(red), icysixel_decode_payload(h, BYTES("~"), 9, 1, &shape),
         icysixel_copy_pixels(h, 0, 1, &layout, buffer, 4), icysixel_take_pixels(h, 0, &block),
+        icysixel_take_text(h, &block),
         icysixel_get_register(h, 1, &color), icysixel_get_registers(h, 1, &color, 1),
         icysixel_get_clip(h, &size),
-        icysixel_encode(h, BYTES("rgba"), 0, 1, 1, 9, 1, 9, &length),
-        icysixel_encode_compact(h, BYTES("rgba"), &e, 9, &length),
-        icysixel_encode_refined(h, BYTES("rgba"), &e, 9, &length),
-        icysixel_encode_with_palette(h, BYTES("rgba"), &e, &color, 1, &length),
-        icysixel_encode_indexed(h, BYTES("rgba"), &e, &color, 1, BYTES("0"), &length),
+        icysixel_encode_image(h, BYTES("rgba"), &one, &length),
     };
     EACH(code, codes) CHECK(*code == ICYSIXEL_NO_HANDLE);
     CHECK(fed.consumed == 7 && shape.width == 7 && shape.bytes == 7 && size.width == 7);
@@ -393,7 +391,7 @@ static void test_new_on_full_handle(void)
         RETURNS(NO_TEXT, icysixel_copy_text(h, NULL, 0, &wanted));
         CHECK(!HAS_IMAGE && icysixel_get_limit(h) == 67108864 && icysixel_get_height(h) == 0);
         CHECK(DECODE(red) == OK && red_of_1() == 255);
-        RETURNS(OK, icysixel_encode(h, BYTES("rgb\377"), 0, 1, 1, 9, 1, 256, &length));
+        RETURNS(OK, icysixel_encode_image(h, BYTES("rgb\377"), &one, &length));
         icysixel_set_limit(h, 99), icysixel_set_height(h, 1);
         icysixel_begin_payload(h, 9, 1);
         if (line_number > 0) RETURNS(OK, FEED("!7~"));
@@ -552,19 +550,57 @@ static void test_encode(void)
 {
     static const uint8_t rgba[] = {255, 0, 0, 255, 7, 7, 7, 7, 7, 0, 0, 255, 255};
     static const char expected[] = "\033P9;1;0q\"1;1;1;2#0;2;0;0;100#1;2;100;0;0#0A$#1@$-\033\\";
+    icysixel_encoding e = {
+        .width = 1, .height = 2, .stride = 3, .palette = ICYSIXEL_PALETTE_FARTHEST};
     uint8_t text[64];
     CHECK(icysixel_copy_text(h, NULL, 0, &wanted) == ICYSIXEL_NO_TEXT && wanted == 0);
     length = 7;
-    RETURNS(BAD_STRIDE, icysixel_encode(h, rgba, 13, 3, 1, 2, 9, 1, 256, &length));
-    RETURNS(BUFFER_MISMATCH, icysixel_encode(h, rgba, 13, 10, 1, 2, 9, 1, 256, &length));
+    RETURNS(BAD_STRIDE, ENCODE(rgba));
+    e.stride = 10;
+    RETURNS(BUFFER_MISMATCH, ENCODE(rgba));
     CHECK(length == 7);
-    RETURNS(OK, icysixel_encode(h, rgba, 13, 9, 1, 2, 9, 1, 256, &length));
+    e.stride = 9;
+    RETURNS(OK, ENCODE(rgba));
     RETURNS(BUFFER_TOO_SMALL, icysixel_copy_text(h, text, length - 1, &wanted));
     CHECK(wanted == length && has_text(OK, expected, ""));
     CHECK(icysixel_copy_text(h, text, sizeof text, &wanted) == ICYSIXEL_NO_TEXT && wanted == 0);
-    RETURNS(OK, icysixel_encode(h, rgba, 4, 0, 1, 1, 2, 0, 2, &length));
+    RETURNS(OK, icysixel_encode_image(h, rgba, 4, &one, &length));
     icysixel_discard_image(h);
     RETURNS(NO_TEXT, icysixel_copy_text(h, text, sizeof text, &wanted));
+}
+
+/* The shape of a pixel and the background are those of P1, P2 and the raster attributes. */
+static void test_shapes(void)
+{
+    static const struct { uint8_t height, background; const char *start; } shapes[] = {
+        {0, 0, "\033P9;1;0q\"1;1;1;1"}, {1, 1, "\033P9;0;0q\"1;1;1;1"},
+        {2, 0, "\033P0;1;0q\"2;1;1;1"}, {3, 7, "\033P3;0;0q\"3;1;1;1"},
+        {5, 0, "\033P2;1;0q\"5;1;1;1"}, {4, 0, "\033P9;1;0q\"1;1;1;1"},
+    };
+    EACH(it, shapes) {
+        icysixel_encoding e = one;
+        e.pixel_height = it->height, e.background = it->background;
+        uint32_t code = icysixel_encode_image(h, (const uint8_t *)RED, 4, &e, &length);
+        CHECK(has_text(code, it->start, "#0;2;100;0;0#0@$-\033\\"));
+    }
+}
+
+/* The library's own block of a text belongs to the caller, and outlives the handle. */
+static void test_take_text(void)
+{
+    icysixel_bytes text = {&(uint8_t){7}, 7, 7};
+    RETURNS(NO_TEXT, icysixel_take_text(h, &text));
+    CHECK(text.length == 7 && text.capacity == 7);
+    CHECK(DECODE(red) == OK);
+    RETURNS(OK, icysixel_encode_image(h, (const uint8_t *)RED, 4, &one, &length));
+    RETURNS(OK, icysixel_take_text(h, &text));
+    CHECK(text.length == length && text.capacity >= length && HAS_IMAGE);
+    RETURNS(NO_TEXT, icysixel_copy_text(h, NULL, 0, &wanted));
+    icysixel_free(h);
+    CHECK(memcmp(text.data, "\033P9;1;0q\"1;1;1;1#0;2;100;0;0#0@$-\033\\", 35) == 0);
+    icysixel_free_bytes(&text);
+    CHECK(text.data == NULL && text.length == 0 && text.capacity == 0);
+    RETURNS(OK, icysixel_new(h));
 }
 
 /* Black, 10 of 255 red and white, and the text of a row of them in black and white. */
@@ -577,35 +613,123 @@ static const icysixel_color black_white[] = {{0, 0, 0}, {255, 255, 255}};
  * percent of red. Compact rows end at their last pixel, and both fit one pass. */
 static void test_encodings(void)
 {
+    enum { REFINED, FARTHEST, GIVEN, OPAQUE = ICYSIXEL_FORMAT_INDEXED, CLEAR };
     static const char *const ends[] = {"#0@@?$#1??@$-\033\\", "#0@@#1@\033\\"};
     static const char mean[] = ROW "#0;2;2;0;0#1;2;100;100;100";
     static const uint8_t nearest[] = {0, 0, 1}, others[] = {1, 0, 1}, above[] = {0, 2, 1};
-    static const struct { icysixel_encoding encoding; uint32_t code; } wrong[] = {
-        {{.stride = 11, .width = 3, .height = 2}, STRIDE}, {{.width = 3, .height = 2}, MISMATCH},
-        {{.width = 3, .height = 0}, ICYSIXEL_BAD_DIMENSIONS},
-    };
-    icysixel_encoding e = {.width = 3, .height = 1, .p1 = 9, .p2 = 1};
-    const icysixel_color *two = black_white;
-    CHECK(has_text(ENCODE(compact, row, 2), BLACK_WHITE, ends[1]));
-    CHECK(has_text(ENCODE(indexed, row, two, 2, others, 3), BLACK_WHITE, "#0?@?$#1@?@$-\033\\"));
+    icysixel_encoding e = {.width = 3, .height = 1, .max_colors = 2, .color_count = 2};
+    memcpy(e.colors, black_white, sizeof black_white);
     for (; e.form <= ICYSIXEL_FORM_COMPACT; e.form++) {
-        CHECK(has_text(ENCODE(refined, row, 2), mean, ends[e.form]));
-        CHECK(has_text(ENCODE(with_palette, row, two, 2), BLACK_WHITE, ends[e.form]));
-        CHECK(has_text(ENCODE(indexed, row, two, 2, nearest, 3), BLACK_WHITE, ends[e.form]));
+        e.format = 0, e.palette = REFINED;
+        CHECK(has_text(ENCODE(row), mean, ends[e.form]));
+        e.palette = FARTHEST;
+        CHECK(has_text(ENCODE(row), BLACK_WHITE, ends[e.form]));
+        e.palette = GIVEN;
+        CHECK(has_text(ENCODE(row), BLACK_WHITE, ends[e.form]));
+        for (e.format = OPAQUE, e.palette = 0; e.palette <= GIVEN; e.palette++)
+            CHECK(has_text(ENCODE(nearest), BLACK_WHITE, ends[e.form]));
     }
-    RETURNS(OK, ENCODE(compact, row, 2));
+    e.form = ICYSIXEL_FORM_PLAIN;
+    CHECK(has_text(ENCODE(others), BLACK_WHITE, "#0?@?$#1@?@$-\033\\"));
+    e.format = CLEAR, e.transparent = 2;
+    CHECK(has_text(ENCODE(above), BLACK_WHITE, "#0@??$#1??@$-\033\\"));
+    RETURNS(OK, ENCODE(above));
     length = 7;
-    RETURNS(COLOR_COUNT, ENCODE(refined, row, 0));
+    e.transparent = 1;
+    RETURNS(INDEX_RANGE, ENCODE(above));
     RETURNS(NO_TEXT, icysixel_copy_text(h, NULL, 0, &wanted));
-    RETURNS(COLOR_COUNT, ENCODE(refined, row, 257));
-    RETURNS(COLOR_COUNT, ENCODE(with_palette, row, NULL, 0));
-    RETURNS(INDEX_RANGE, ENCODE(indexed, row, two, 2, above, 3));
-    RETURNS(BUFFER_MISMATCH, ENCODE(indexed, row, two, 2, above, 2));
-    EACH(it, wrong) {
-        e = it->encoding;
-        CHECK(ENCODE(compact, row, 2) == it->code);
+    e.format = OPAQUE;
+    RETURNS(INDEX_RANGE, ENCODE(above));
+    static const struct {
+        uint8_t format, palette;
+        uint16_t max, count;
+        uint32_t code;
+    } counts[] = {
+        {0, REFINED, 257, 0, COLORS}, {0, REFINED, 256, 0, OK}, {0, REFINED, 1, 0, OK},
+        {0, FARTHEST, 1, 0, OK}, {0, FARTHEST, 65535, 0, OK}, {0, GIVEN, 0, 0, COLORS},
+        {0, GIVEN, 0, 1, OK}, {0, GIVEN, 0, 256, OK}, {0, GIVEN, 0, 257, COLORS},
+        {6, REFINED, 0, 0, OK}, {0, 9, 0, 0, OK}, {OPAQUE, REFINED, 9, 0, COLORS},
+        {OPAQUE, REFINED, 9, 257, COLORS},
+    };
+    EACH(it, counts) {
+        e.format = it->format, e.palette = it->palette;
+        e.max_colors = it->max, e.color_count = it->count;
+        CHECK(ENCODE(row) == it->code);
     }
-    CHECK(length == 7);
+    static const struct { size_t stride, width, height; uint32_t code; } wrong[] = {
+        {11, 3, 2, STRIDE}, {SIZE_MAX, 3, 3, STRIDE}, {0, 3, 2, MISMATCH},
+        {0, 3, 0, ICYSIXEL_BAD_DIMENSIONS}, {0, 1000001, 1, ICYSIXEL_BAD_DIMENSIONS},
+        {0, SIZE_MAX, 2, ICYSIXEL_OVERFLOW},
+    };
+    EACH(it, wrong) {
+        e = (icysixel_encoding){.width = it->width, .height = it->height, .stride = it->stride};
+        length = 7;
+        CHECK(ENCODE(row) == it->code && length == 7);
+    }
+}
+
+/* The bytes of a pixel in a format. Index 9 is transparent. */
+static struct bytes pixel_in(uint8_t format, icysixel_color c, uint8_t index, bool is_opaque)
+{
+    static const size_t lengths[] = {4, 4, 3, 3, 1, 1};
+    static uint8_t pixel[4];
+    uint8_t alpha = is_opaque ? 128 : 127;
+    const uint8_t in[][4] = {
+        {c.red, c.green, c.blue, alpha}, {c.blue, c.green, c.red, alpha},
+        {c.red, c.green, c.blue}, {c.blue, c.green, c.red}, {index}, {is_opaque ? index : 9},
+    };
+    return (struct bytes){memcpy(pixel, in[format], 4), lengths[format]};
+}
+
+/* The picture in a format, in rows that are some bytes apart. Every fifth pixel is transparent if
+ * there are holes. */
+enum { COLUMNS = 7, ROWS = 8 };
+static const icysixel_color four[] = {{0, 0, 0}, {200, 10, 30}, {10, 200, 90}, {255, 254, 253}};
+static struct bytes picture_in(uint8_t format, size_t gap, bool has_holes)
+{
+    struct bytes picture = {0};
+    for (size_t i = 0; i < COLUMNS * ROWS; i++) {
+        if (i > 0 && i % COLUMNS == 0) append(&picture, "\1\2\3\4\5\6\7", gap);
+        uint8_t index = (uint8_t)((i * i % 5 + i / COLUMNS) % 4);
+        struct bytes pixel = pixel_in(format, four[index], index, i % 5 > 0 || !has_holes);
+        append(&picture, pixel.at, pixel.length);
+    }
+    return picture;
+}
+
+/* One picture has one text in all formats, with and without gaps, whatever the palette. */
+static void test_formats(void)
+{
+    icysixel_encoding e = {.width = COLUMNS, .height = ROWS, .max_colors = 3, .color_count = 4};
+    memcpy(e.colors, four, sizeof four);
+    e.transparent = 9;
+    for (line_number = 0; line_number < 12; line_number++) {
+        bool has_holes = line_number % 2 > 0;
+        uint8_t palette = (uint8_t)(line_number / 4);
+        struct bytes expected = {0};
+        e.form = line_number / 2 % 2, e.format = 0, e.stride = 0;
+        for (uint8_t format = 0; format <= ICYSIXEL_FORMAT_INDEXED_TRANSPARENT; format++) {
+            bool is_indexed = format >= ICYSIXEL_FORMAT_INDEXED;
+            bool has_alpha = format < 2 || format == ICYSIXEL_FORMAT_INDEXED_TRANSPARENT;
+            if (has_holes && !has_alpha) continue;
+            if (is_indexed && palette != ICYSIXEL_PALETTE_GIVEN) continue;
+            for (size_t gap = 0; gap < 8; gap += 7) {
+                struct bytes picture = picture_in(format, gap, has_holes);
+                e.format = format, e.palette = palette;
+                e.stride = gap > 0 ? (picture.length + gap) / ROWS : 0;
+                RETURNS(OK, icysixel_encode_image(h, picture.at, picture.length, &e, &length));
+                struct bytes text = text_of(h, length);
+                if (expected.at == NULL) expected = text;
+                CHECK(length == expected.length && memcmp(text.at, expected.at, length) == 0);
+                if (text.at != expected.at) free(text.at);
+                picture.length--;
+                RETURNS(BUFFER_MISMATCH,
+                        icysixel_encode_image(h, picture.at, picture.length, &e, &length));
+                free(picture.at);
+            }
+        }
+        free(expected.at);
+    }
 }
 
 /* An image of the greatest width, 15 * 65535 + 16975 columns, in both forms of output. The last
@@ -624,19 +748,23 @@ static void test_widest(void)
     static uint8_t pixels[4000000], indices[1000000] = {[999999] = 1}, found[1000000];
     static const icysixel_dithering dithers[] = {
         {ICYSIXEL_DITHER_OFF, 0}, {ICYSIXEL_DITHER_ORDERED, 64}, {ICYSIXEL_DITHER_DIFFUSION, 8}};
-    icysixel_encoding e = {.width = 1000000, .height = 1, .p1 = 9, .p2 = 1};
+    icysixel_encoding e = {.width = 1000000, .height = 1, .color_count = 2};
     icysixel_color colors[2], witnesses[3];
     icysixel_refined r;
+    memcpy(e.colors, red_blue, sizeof red_blue);
     for (size_t i = 0; i < 1000000; i++) memcpy(pixels + 4 * i, (uint8_t[]){255, 0, 0, 255}, 4);
     for (; e.form <= ICYSIXEL_FORM_COMPACT; e.form++) {
-        CHECK(has_text(ENCODE(refined, pixels, 256), WIDEST "#0" LONG_RUNS, reds[e.form]));
-        CHECK(has_text(ENCODE(indexed, pixels, red_blue, 2, SIZED(indices)), start, blues[e.form]));
+        e.format = ICYSIXEL_FORMAT_RGBA;
+        CHECK(has_text(ENCODE(pixels), WIDEST "#0" LONG_RUNS, reds[e.form]));
+        e.format = ICYSIXEL_FORMAT_INDEXED;
+        CHECK(has_text(ENCODE(indices), start, blues[e.form]));
     }
     memcpy(pixels + 3999996, (uint8_t[]){0, 0, 255, 255}, 4);
+    e.format = ICYSIXEL_FORMAT_RGBA, e.palette = ICYSIXEL_PALETTE_GIVEN;
     EACH(row, dithers) {
         e.dithering = *row;
         for (e.form = 0; e.form <= ICYSIXEL_FORM_COMPACT; e.form++)
-            CHECK(has_text(ENCODE(with_palette, pixels, red_blue, 2), start, blues[e.form]));
+            CHECK(has_text(ENCODE(pixels), start, blues[e.form]));
         RETURNS(OK,
                 icysixel_palette_indices(SIZED(pixels), 1000000, red_blue, 2, row, SIZED(found)));
         CHECK(memcmp(found, indices, sizeof found) == 0);
@@ -733,8 +861,8 @@ int main(void)
         TEST(bands), TEST(copied_rows), TEST(wider_end), TEST(whole_rows), TEST(lenient),
         TEST(transparent), TEST(cropped_rows), TEST(pixels), TEST(errors), TEST(drawn_height),
         TEST(raster_size), TEST(take_pixels), TEST(new_on_full_handle), TEST(registers),
-        TEST(settings), TEST(encode), TEST(encodings), TEST(widest), TEST(palettes), TEST(indices),
-        TEST(code_texts), TEST(version),
+        TEST(settings), TEST(encode), TEST(shapes), TEST(take_text), TEST(encodings), TEST(formats),
+        TEST(widest), TEST(palettes), TEST(indices), TEST(code_texts), TEST(version),
     };
     for (size_t i = 0; i < COUNT_OF(tests); i++) subject = tests[i].name, tests[i].test();
     icysixel_free(h);

@@ -78,8 +78,11 @@ static size_t peak_of(int way, struct bytes pixels, icysixel_size size, struct b
         }
         CHECK(icysixel_finish(&h, &shape) == ICYSIXEL_OK);
     } else {
-        CHECK(icysixel_encode(&h, pixels.at, pixels.length, 0, size.width, size.height, 9, 1,
-                              way == ENCODE_16 ? 16 : 256, &text->length) == ICYSIXEL_OK);
+        icysixel_encoding encoding = {.width = size.width, .height = size.height};
+        encoding.max_colors = way == ENCODE_16 ? 16 : 256;
+        encoding.palette = ICYSIXEL_PALETTE_FARTHEST;
+        CHECK(icysixel_encode_image(&h, pixels.at, pixels.length, &encoding, &text->length)
+              == ICYSIXEL_OK);
         free(text->at);
         *text = text_of(&h, text->length);
     }

@@ -162,9 +162,11 @@ static void try_pixels(icysixel *h)
     add(entries, 3 * palette.colors), add(witnesses, 3 * palette.witnesses);
     add(&palette.error, 4), add(indices.at, indices.length);
     CHECK(icysixel_new(h) == ICYSIXEL_OK);
-    int32_t p1 = (int32_t)below(10), p2 = (int32_t)below(2);
-    CHECK(icysixel_encode(h, pixels.at, pixels.length, 0, width, height, p1, p2, colors, &length)
-          == ICYSIXEL_OK);
+    icysixel_encoding encoding = {.width = width, .height = height};
+    encoding.max_colors = colors > 0 ? colors : 1;
+    encoding.palette = ICYSIXEL_PALETTE_FARTHEST;
+    encoding.pixel_height = (uint8_t)below(6), encoding.background = (uint8_t)below(2);
+    CHECK(icysixel_encode_image(h, pixels.at, pixels.length, &encoding, &length) == ICYSIXEL_OK);
     struct bytes text = text_of(h, length);
     add(text.at, text.length);
     CHECK(icysixel_decode(h, text.at, text.length, &shape) == ICYSIXEL_OK);

@@ -143,9 +143,11 @@ static void encode(const struct vector *vector)
     icysixel_shape shape = vector->shape;
     struct bytes pixels = vector->pixels;
     size_t length = 0;
-    uint32_t code = icysixel_encode(&encoder, pixels.at, pixels.length, 0, shape.width,
-                                    shape.height, shape.p1, shape.p2, (uint16_t)vector->colors,
-                                    &length);
+    icysixel_encoding encoding = {.width = shape.width, .height = shape.height};
+    encoding.max_colors = (uint16_t)(vector->colors > 0 ? vector->colors : 1);
+    encoding.palette = ICYSIXEL_PALETTE_FARTHEST;
+    encoding.pixel_height = (uint8_t)shape.pixel_height, encoding.background = !shape.p2;
+    uint32_t code = icysixel_encode_image(&encoder, pixels.at, pixels.length, &encoding, &length);
     /* Bytes after the last row are no error in C. */
     bool is_longer = code == ICYSIXEL_OK && vector->error.length > 0;
     CHECK(code_of(vector) == (is_longer ? ICYSIXEL_BUFFER_MISMATCH : code));

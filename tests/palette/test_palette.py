@@ -13,7 +13,8 @@ import unittest
 from pathlib import Path
 
 from build import needs, run
-from library import COMPACT, DIFFUSION, OFF, ORDERED, PLAIN, SHARED, Encoding, call, encoded
+from library import CLEAR, COMPACT, DIFFUSION, INDEXED, OFF, ORDERED, PLAIN, REFINED, SHARED
+from library import Encoding, call, encoded
 
 COUNT, SEED = int(os.environ.get("FUZZ_COUNT", "300")), int(os.environ.get("FUZZ_SEED", "1"))
 # Where the error of a pixel goes: sixteenths, columns ahead, rows down. The last takes the rest.
@@ -239,12 +240,16 @@ class PaletteTest(unittest.TestCase):
             source = data, len(data), count, colors, len(colors)
             call("icysixel_palette_indices", *source, dithering, found, count)
             self.assertEqual(list(found.raw), indices)
-            encoding = Encoding(0, count, 1, 9, 1, kind, amount, form)
-            text = encoded("icysixel_encode_with_palette", data, encoding, colors, len(colors))
+            options = {"width": count, "height": 1, "form": form}
+            encoding = Encoding(kind=kind, amount=amount, **options).given(colors)
+            text = encoded(data, encoding)
             self.assertEqual(drawn(text), shown(colors, pixels, indices))
-            arguments = colors, len(colors), bytes(indices), count
-            text = encoded("icysixel_encode_indexed", data, encoding, *arguments)
-            self.assertEqual(drawn(text), shown(colors, pixels, indices))
+            # As palette indices, with one that no opaque pixel has for transparent pixels.
+            used = {index for index, it in zip(indices, pixels) if it[3] >= 128}
+            clear = min({*range(257)} - used)
+            listed = bytes(index if it[3] >= 128 else clear for index, it in zip(indices, pixels))
+            options |= {"format": INDEXED if clear == 256 else CLEAR, "transparent": clear % 256}
+            self.assertEqual(encoded(listed, Encoding(**options).given(colors, REFINED)), text)
 
     def check_refined(self, pixels, most, colors):
         """Checks the refined palette of a row of pixels, and the output in it."""
@@ -262,9 +267,8 @@ class PaletteTest(unittest.TestCase):
         self.assertEqual(properties.error, sum(distance(*it) for it in pairs))
         self.assertEqual(properties.witnesses, 0)
         for form in (PLAIN, COMPACT):
-            encoding = Encoding(0, count, 1, 9, 1, OFF, 0, form)
-            text = encoded("icysixel_encode_refined", data, encoding, most)
-            self.assertEqual(drawn(text), picture)
+            encoding = Encoding(width=count, height=1, max_colors=most, form=form)
+            self.assertEqual(drawn(encoded(data, encoding)), picture)
 
     @needs("sixel2png", "img2sixel", "convert")
     def test_compact(self):
@@ -277,9 +281,9 @@ class PaletteTest(unittest.TestCase):
             # Most pixels equal the one before them or the one above, so that there are runs.
             for place in range(width, len(pixels)):
                 pixels[place] = pixels[place - rng.choice([0, 1, 1, width, width])]
-            name, data = "icysixel_encode_with_palette", bytes(itertools.chain(*pixels))
-            forms = (Encoding(0, width, height, 7, 1, OFF, 0, it) for it in (COMPACT, PLAIN))
-            text, plain = (encoded(name, data, it, colors, len(colors)) for it in forms)
+            data, sizes = bytes(itertools.chain(*pixels)), {"width": width, "height": height}
+            forms = (Encoding(form=it, **sizes).given(colors) for it in (COMPACT, PLAIN))
+            text, plain = (encoded(data, it) for it in forms)
             expected = bytes(itertools.chain(*(it[:3] for it in pixels)))
             with self.subTest(turn=turn, few=few), tempfile.TemporaryDirectory() as folder:
                 self.assertLessEqual(len(text), len(plain))

@@ -18,9 +18,13 @@ def parts(text, mark):
 
 def in_c(text):
     """The C declarations of `name: type, ..` in Rust."""
-    found = re.findall(r"(\w+): (\*const |\*mut |&mut )?(\w+)", text)
-    const = {"*const ": "const "}
-    return [f"{const.get(by, '')}{TYPES[kind]} {'*' * bool(by)}{name}" for name, by, kind in found]
+    found = re.findall(r"(\w+): (\*const |\*mut |&mut |\[)?(\w+)(?:; (\d+)\])?", text)
+    signs = {"*const ": ("const ", "*"), "*mut ": ("", "*"), "&mut ": ("", "*")}
+    return [
+        f"{const}{TYPES[kind]} {star}{name}{size and f'[{size}]'}"
+        for name, by, kind, size in found
+        for const, star in [signs.get(by, ("", ""))]
+    ]
 
 
 def of_header(text):

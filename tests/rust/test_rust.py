@@ -54,7 +54,7 @@ class TestRust(unittest.TestCase):
         self.assertEqual(found, ["ffi.rs"])
         declared = of_rust("".join((CRATE / f"src/{it}.rs").read_text() for it in ("ffi", "codes")))
         header = of_header((HEADERS / "icysixel.h").read_text())
-        self.assertEqual(len(declared), 77)
+        self.assertEqual(len(declared), 73)
         self.assertEqual(declared, {name: header.get(name) for name in declared})
 
     def test_missing_archive(self):

@@ -14,8 +14,9 @@
  *
  * Ownership. icysixel_free frees all memory behind a handle. The library stores no pointer that the
  * caller passes. It copies input, and it copies pixels and text to the caller's buffers. Only
- * icysixel_take_pixels transfers a block of memory to the caller. A pointer to bytes may be null if
- * their number is 0. Other pointers must not be null. The arguments of a call must not overlap.
+ * icysixel_take_pixels and icysixel_take_text transfer a block of memory to the caller. A pointer
+ * to bytes may be null if their number is 0. Other pointers must not be null. The arguments of a
+ * call must not overlap.
  *
  * Threads. Different handles can be used by different threads at the same time, because the library
  * has no global state. Calls on one handle must not overlap in time. No function is safe in a
@@ -35,8 +36,9 @@
  * ICYSIXEL_OUT_OF_MEMORY. No function aborts the process.
  *
  * Sizes are in bytes unless a comment names another unit. A pixel is four bytes: red, green, blue
- * and alpha. Pixels are stored row by row from the top, and each row from the left. A stride is the
- * number of bytes from the start of a row to the start of the next. A stride of 0 means 4 * width.
+ * and alpha, unless an icysixel_encoding names another format. Pixels are stored row by row from
+ * the top, and each row from the left. A stride is the number of bytes from the start of a row to
+ * the start of the next. A stride of 0 means rows without gaps.
  *
  * Results. A function that returns uint32_t returns an enum icysixel_code, except for
  * icysixel_version. With ICYSIXEL_OK it has written to each output argument. With an error it
@@ -44,8 +46,8 @@
  *
  * Stored image and text. An image is stored by icysixel_finish, icysixel_decode and
  * icysixel_decode_payload. Each error of these calls drops an image that was stored before, and
- * each error of an encoding call drops a text. icysixel_new drops both. No error of another call
- * drops either.
+ * each error of icysixel_encode_image drops a text. icysixel_new drops both. No error of another
+ * call drops either.
  */
 #ifndef ICYSIXEL_H
 #define ICYSIXEL_H
@@ -138,15 +140,24 @@ typedef struct {
     uint8_t amount; /* diffusion: 1 to 8 eighths of the error; ordered: the amplitude in levels */
 } icysixel_dithering;
 
-/* The layout of pixels, and how they are encoded. */
+/* Pixels, and how they are encoded. Set `width` and `height`. Zeros elsewhere mean RGBA rows
+ * without gaps, square pixels, a transparent background, and a refined palette of up to 256 colors
+ * without dithering. */
 typedef struct {
-    size_t stride;                /* bytes from the start of a row to the next, or 0 */
-    size_t width;                 /* pixels in a row */
-    size_t height;                /* rows */
-    int32_t p1;                   /* the shape of a pixel, as in icysixel_begin_payload */
-    int32_t p2;                   /* the background, as in icysixel_begin_payload */
+    size_t width;         /* pixels in a row */
+    size_t height;        /* rows */
+    size_t stride;        /* bytes from the start of a row to the next, or 0 for no gaps */
+    uint32_t reserved;    /* no effect */
+    uint16_t max_colors;  /* entries of a refined or farthest palette at most, or 0 for 256 */
+    uint16_t color_count; /* colors at `colors` */
+    uint8_t format;       /* an enum icysixel_format; numbers above 5 are RGBA, too */
+    uint8_t pixel_height; /* the displayed height of a pixel of width 1: 2, 3 or 5, else 1 */
+    uint8_t background;   /* an enum icysixel_background; numbers above 1 are opaque, too */
+    uint8_t palette;      /* an enum icysixel_palette_mode; numbers above 2 are refined, too */
     icysixel_dithering dithering; /* for refined and given palettes */
     uint8_t form;                 /* an enum icysixel_form; numbers above 1 are compact, too */
+    uint8_t transparent;          /* the transparent index, if the format has one */
+    icysixel_color colors[256];   /* the given palette */
 } icysixel_encoding;
 
 /* How rows of pixels lie in a buffer. */
@@ -194,6 +205,30 @@ enum icysixel_code {
 enum icysixel_order {
     ICYSIXEL_ORDER_RGBA = 0, /* red, green, blue, alpha */
     ICYSIXEL_ORDER_BGRA = 1  /* blue, green, red, alpha, as most window systems have them */
+};
+
+/* Formats of pixels to encode. A pixel with an alpha below 128 is transparent. */
+enum icysixel_format {
+    ICYSIXEL_FORMAT_RGBA = 0,    /* red, green, blue, alpha */
+    ICYSIXEL_FORMAT_BGRA = 1,    /* blue, green, red, alpha, as most window systems have them */
+    ICYSIXEL_FORMAT_RGB = 2,     /* red, green, blue: opaque */
+    ICYSIXEL_FORMAT_BGR = 3,     /* blue, green, red: opaque */
+    ICYSIXEL_FORMAT_INDEXED = 4, /* one byte, the index of a given color: opaque */
+    /* The same, but pixels with the index `transparent` are transparent. */
+    ICYSIXEL_FORMAT_INDEXED_TRANSPARENT = 5
+};
+
+/* Backgrounds of encoded images. */
+enum icysixel_background {
+    ICYSIXEL_BACKGROUND_TRANSPARENT = 0, /* transparent pixels stay as they are: P2 is 1 */
+    ICYSIXEL_BACKGROUND_OPAQUE = 1       /* they get the color of register 0: P2 is 0 */
+};
+
+/* Palettes of encoded images. Indexed pixels have the given palette in each mode. */
+enum icysixel_palette_mode {
+    ICYSIXEL_PALETTE_REFINED = 0,  /* that of icysixel_refine_palette, best for most images */
+    ICYSIXEL_PALETTE_FARTHEST = 1, /* that of icysixel_choose_palette, which keeps rare colors */
+    ICYSIXEL_PALETTE_GIVEN = 2     /* the color_count colors of the caller */
 };
 
 /* Where images end. */
@@ -444,73 +479,52 @@ void icysixel_set_clip(icysixel *handle, size_t width, size_t height);
 /* -- Encoding -- */
 
 /* Encodes pixels as a DCS sequence, stores this text and writes its length. It replaces a text that
- * is stored. p1 and p2 are the parameters of the DCS sequence, as in icysixel_begin_payload: the
- * shape of a pixel and the background. A pixel with an alpha below 128 is transparent. The palette
- * has at most max_colors entries, where a number below 2 is taken as 2 and one above 256 as 256.
- * `length` is the number of bytes at `pixels`. They may continue after the last row. The errors, in
- * this order, are:
+ * is stored. `length` is the number of bytes at `pixels`. They may continue after the last row.
+ * Pixels of other formats than RGBA, and rows with gaps, are copied first.
+ *
+ * - A refined palette has at most max_colors entries. A decoder shows them without rounding.
+ * - A farthest palette has at most max_colors entries, where 1 is taken as 2 and a number above 256
+ *   as 256. It has no dithering.
+ * - In a given palette pixels have the indices of icysixel_palette_indices. Indexed pixels have
+ *   their own, without dithering.
+ *
+ * The errors, in this order, are:
  *
  * - ICYSIXEL_BAD_DIMENSIONS for a zero size;
  * - ICYSIXEL_OVERFLOW if 4 * width * height overflows size_t;
  * - ICYSIXEL_BAD_DIMENSIONS for a size above the limits of the format;
  * - ICYSIXEL_BAD_STRIDE;
  * - ICYSIXEL_BUFFER_MISMATCH if there are too few pixels;
- * - ICYSIXEL_OUT_OF_MEMORY.
+ * - ICYSIXEL_COLOR_COUNT for a refined palette if max_colors is above 256, and for a given one
+ *   unless color_count is 1 to 256;
+ * - ICYSIXEL_INDEX_RANGE if the index of an opaque pixel is not below color_count;
+ * - ICYSIXEL_OUT_OF_MEMORY, which can come before the last two if pixels are copied.
  *
  * After an error no text is stored. */
-uint32_t icysixel_encode(icysixel *handle, const uint8_t *pixels, size_t length, size_t stride,
-                         size_t width, size_t height, int32_t p1, int32_t p2, uint16_t max_colors,
-                         size_t *text_length);
-
-/* Encodes pixels in compact form with the palette of icysixel_encode. A decoder returns the same
- * image from both texts. Only registers that a pixel has are defined. The text is never longer than
- * that of icysixel_encode. `dithering` and `form` have no effect. The errors are those of
- * icysixel_encode. */
-uint32_t icysixel_encode_compact(icysixel *handle, const uint8_t *pixels, size_t length,
-                                 const icysixel_encoding *encoding, uint16_t max_colors,
-                                 size_t *text_length);
-
-/* Encodes pixels in the palette of icysixel_refine_palette, stores the text and writes its length.
- * A decoder shows the entries of this palette without rounding. The errors are those of
- * icysixel_encode, and ICYSIXEL_COLOR_COUNT unless max_colors is 1 to 256. */
-uint32_t icysixel_encode_refined(icysixel *handle, const uint8_t *pixels, size_t length,
-                                 const icysixel_encoding *encoding, uint16_t max_colors,
-                                 size_t *text_length);
-
-/* Encodes pixels in a given palette of 1 to 256 colors, stores the text and writes its length. The
- * indices are those of icysixel_palette_indices. The errors are those of icysixel_encode, and
- * ICYSIXEL_COLOR_COUNT for any other number of colors. */
-uint32_t icysixel_encode_with_palette(icysixel *handle, const uint8_t *pixels, size_t length,
-                                      const icysixel_encoding *encoding,
-                                      const icysixel_color *colors, size_t count,
-                                      size_t *text_length);
-
-/* Encodes pixels in a given palette by given indices: one byte for each pixel, row by row without
- * gaps. Colors of pixels have no effect, nor do indices of transparent pixels, nor `dithering`. The
- * errors are those of icysixel_encode_with_palette. Then ICYSIXEL_BUFFER_MISMATCH for another
- * number of indices than there are pixels, and ICYSIXEL_INDEX_RANGE if the index of an opaque pixel
- * is not below `count`. */
-uint32_t icysixel_encode_indexed(icysixel *handle, const uint8_t *pixels, size_t length,
-                                 const icysixel_encoding *encoding, const icysixel_color *colors,
-                                 size_t count, const uint8_t *indices, size_t index_count,
-                                 size_t *text_length);
+uint32_t icysixel_encode_image(icysixel *handle, const uint8_t *pixels, size_t length,
+                               const icysixel_encoding *encoding, size_t *text_length);
 
 /* Copies the stored text to `buf` and releases it. The text has no zero at its end. `wanted` is the
  * length of the text, also with ICYSIXEL_BUFFER_TOO_SMALL. With another error it is 0. After an
  * error the text is still stored. It does not allocate. */
 uint32_t icysixel_copy_text(icysixel *handle, uint8_t *buf, size_t size, size_t *wanted);
 
+/* Transfers the stored text to the caller without a copy, as icysixel_take_pixels does with pixels.
+ * icysixel_free_bytes frees the block. The text has no zero at its end. The error is
+ * ICYSIXEL_NO_TEXT. The call does not allocate, and does not free an earlier block in `text`. */
+uint32_t icysixel_take_text(icysixel *handle, icysixel_bytes *text);
+
 /* -- Palettes -- */
 
-/* Chooses the palette of pixels as icysixel_encode does, with a certificate of its quality. It
- * needs no handle.
+/* Chooses the palette of pixels farthest first, with a certificate of its quality. It needs no
+ * handle.
  *
- * A pixel with an alpha of at least 128 is opaque. The palette has at most max_colors entries, with
- * the bounds of icysixel_encode. If there are no more opaque colors than that, they are the
- * entries. Otherwise the entries are chosen by a farthest-first traversal (Gonzalez). The first
- * entry is the least opaque color by red, green and blue. Each next entry is the color that is
- * farthest from its nearest entry so far, the least of these. A distance is the sum of the squared
- * differences of the channels.
+ * A pixel with an alpha of at least 128 is opaque. The palette has at most max_colors entries,
+ * where 0 and 1 are taken as 2 and a number above 256 as 256. If there are no more opaque colors
+ * than that, they are the entries. Otherwise the entries are chosen by a farthest-first traversal
+ * (Gonzalez). The first entry is the least opaque color by red, green and blue. Each next entry is
+ * the color that is farthest from its nearest entry so far, the least of these. A distance is the
+ * sum of the squared differences of the channels.
  *
  * `colors` receives the entries. `indices` receives one byte for each pixel: the index of its
  * nearest entry, the first of these, and 0 for a transparent pixel. `witnesses` receives the

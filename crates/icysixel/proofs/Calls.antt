@@ -1,10 +1,10 @@
 -- The errors of a call on an image and a palette are known, and have the code of their fault. What
 -- an encoding leaves in the handle.
-use Rattle.std.proofs.Common.{◌≡◌, ◌≢◌, ℕ, ◌*◌, Bool, true, false, cond, length, refl, ap, sym}
+use Rattle.std.proofs.Common.{◌≡◌, ◌≢◌, ℕ, Bool, true, false, cond, length, ap, sym}
 use Rattle.std.proofs.Common.{subst, ◌∙◌, inl, inr}
-use Rattle.std.proofs.lemmas.Bool.{cases_lt, false≢true}
+use Rattle.std.proofs.lemmas.Bool.{cases_lt}
 use Rattle.std.specs.Prelude.{◌==◌, ◌||◌, ◌<◌, ◌≤◌, nat_lt, List, Option, Some, None, Result, Ok}
-use Rattle.std.specs.Prelude.{Err, OnOk, OnErr, IfOk, IfErr, IsErrAnd, IsTrue}
+use Rattle.std.specs.Prelude.{Err, OnOk, OnErr, IfOk, IfErr, IsErrAnd}
 use Rattle.std.specs.List.{list_any, range_with_len}
 use Rattle.std.specs.Option.{option_map, option_or}
 use Rattle.sixel_base.specs.CallFault.{CallFault, ColorCount, Exactly, FailsBy, IndexRange}
@@ -18,11 +18,14 @@ use Rattle.sixel_base.specs.declared.error.SixelError.TheVariants.{InvalidDimens
 use Rattle.sixel_base.specs.declared.error.SixelError.TheVariants.{BufferSizeMismatch, InvalidData}
 use Rattle.sixel_base.specs.declared.error.SixelError.TheVariants.{NoSixelData, IntegerOverflow}
 use Rattle.sixel_base.specs.declared.error.SixelError.TheVariants.{OutOfMemory}
-use Rattle.sixel_encoder.specs.IndexedDrawing.{index_count_fault, index_range_fault, is_past}
+use Rattle.sixel_encoder.specs.IndexedDrawing.{index_range_fault, is_past}
 use Rattle.icysixel.specs.Code.{IsCallCode, IsCodeOf, IsKnown, ReturnsBy}
-use Rattle.icysixel.specs.declared.pixels.Output.{Output}
-use Rattle.icysixel.specs.declared.pixels.Output.TheVariants.{Chosen, Refined, Given, Indexed}
-use Rattle.icysixel.specs.inside.Encoded.{FailsByCode, output_fault}
+use Rattle.icysixel.specs.Encodings.{color_limit, colors_fault, given_colors}
+use Rattle.icysixel.specs.declared.encoding.Encoding.{Encoding}
+use Rattle.icysixel.specs.declared.encoding.PaletteMode.{PaletteMode}
+use Rattle.icysixel.specs.declared.encoding.PaletteMode.TheVariants.{Refined, Farthest, Given}
+use Rattle.icysixel.specs.declared.encoding.PaletteMode.TheVariants.{Indexed}
+use Rattle.icysixel.specs.inside.Encoded.{FailsByCode}
 use Rattle.icysixel.proofs.Known.{fault_known}
 
 -- ---- known errors
@@ -69,15 +72,6 @@ sized_count count = go (count == 0 || nat_lt 256 count)
     go true = tt
     go false = tt
 
-sized_indices : (image : Image) (count : ℕ) → IsSized (index_count_fault image count)
-sized_indices image count = go (count == image.width * image.height)
-  where
-    go : (b : Bool)
-        → IsSized
-        (cond b None (Some (Exactly (BufferSizeMismatch (image.width * image.height) count))))
-    go true = tt
-    go false = tt
-
 sized_range : (pixels indices : List ℕ) (colors : ℕ)
     → IsSized (index_range_fault pixels indices colors)
 sized_range pixels indices colors =
@@ -87,25 +81,23 @@ sized_range pixels indices colors =
     go true = tt
     go false = tt
 
-sized_output : (output : Output) (image : Image) → IsSized (output_fault output image)
-sized_output (Chosen max_colors form) image = tt
-sized_output (Refined max_colors dither form) image = sized_count max_colors
-sized_output (Given colors dither form) image = sized_count (length colors.now)
-sized_output (Indexed colors indices form) image =
-    sized_or (color_count_fault (length colors.now))
-    (option_or (index_count_fault image (length indices.now))
-    (index_range_fault image.pixels indices.now (length colors.now)))
-    (sized_count (length colors.now))
-    (sized_or (index_count_fault image (length indices.now))
-    (index_range_fault image.pixels indices.now (length colors.now))
-    (sized_indices image (length indices.now))
-    (sized_range image.pixels indices.now (length colors.now)))
+sized_colors : (mode : PaletteMode) (encoding : Encoding) (image : Image) (indices : List ℕ)
+    → IsSized (colors_fault mode encoding image indices)
+sized_colors Refined encoding image indices = sized_count (color_limit encoding)
+sized_colors Farthest encoding image indices = tt
+sized_colors Given encoding image indices = sized_count (length (given_colors encoding))
+sized_colors Indexed encoding image indices =
+    let colors = length (given_colors encoding) in
+    sized_or (color_count_fault colors) (index_range_fault image.pixels indices colors)
+    (sized_count colors) (sized_range image.pixels indices colors)
 
--- the error of this output of an image is known
-pub output_known : (X : Type 0) (output : Output) (image : Image) (error : SixelError)
-    → FailsBy {X = X} (output_fault output image) (Err error) → IsKnown error
-output_known X output image error is =
-    known_by X error (output_fault output image) (sized_output output image) is
+-- the error of an encoding is known
+pub colors_known : (X : Type 0) (mode : PaletteMode) (encoding : Encoding) (image : Image)
+    (indices : List ℕ) (error : SixelError)
+    → FailsBy {X = X} (colors_fault mode encoding image indices) (Err error) → IsKnown error
+colors_known X mode encoding image indices error is =
+    known_by X error (colors_fault mode encoding image indices)
+    (sized_colors mode encoding image indices) is
 
 -- so is the error of a refined palette
 pub refined_known : (error : SixelError) (pixels most : ℕ) (b : Bool)
@@ -130,19 +122,6 @@ pub failed_by_code : (X Y : Type 0) (error : SixelError) (code : ℕ) (fault : O
     → FailsByCode {X = Y} false fault (Err code)
 failed_by_code X Y error code None is memory call = memory is
 failed_by_code X Y error code (Some fault) is memory call = inl (call fault is)
-
--- or of out of memory before, where rows are copied
-pub out_of_memory : (Y : Type 0) (copies : Bool) (fault : Option CallFault) → IsTrue copies
-    → FailsByCode {X = Y} copies fault (Err 8)
-out_of_memory Y copies None are = refl
-out_of_memory Y copies (Some fault) are = inr (refl, are)
-
-pub after_copy : (Y : Type 0) (copies : Bool) (fault : Option CallFault) (result : Result Y ℕ)
-    → FailsByCode false fault result → FailsByCode copies fault result
-after_copy Y copies None result is = is
-after_copy Y copies (Some fault) (Ok text) is = absurd is
-after_copy Y copies (Some fault) (Err code) is =
-    elim is [ inl own ↦ inl own | inr before ↦ absurd (false≢true before.1) ]
 
 -- ---- what is stored
 

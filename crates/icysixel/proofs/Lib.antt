@@ -1,6 +1,7 @@
 pub mod AsBox
 pub mod AsBytes
 pub mod Calls
+pub mod Conversion
 pub mod Dense
 pub mod Ended
 pub mod Gathered

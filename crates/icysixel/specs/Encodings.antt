@@ -1,22 +1,39 @@
--- How C says that an image is encoded, and what a call does that encodes one and stores its text.
+-- How C says that an image is encoded, and what the call does that encodes one and stores its text.
 -- The numbers are this library's own, and include/icysixel.h names them.
-use Rattle.std.specs.Prelude.{◌≡◌, ◌≢◌, ◌*◌, ◌<◌, ◌≤◌, ◌==◌, if◌then◌else◌, ℕ, List, length}
-use Rattle.std.specs.Prelude.{Option, Some, None, is_some, true}
-use Rattle.sixel_base.specs.CallFault.{CallFault}
+use Rattle.std.specs.Prelude.{◌≡◌, ◌≢◌, ◌*◌, ◌<◌, ◌≤◌, ◌==◌, ◌||◌, not, if◌then◌else◌, ℕ, nat_lt}
+use Rattle.std.specs.Prelude.{List, [], length, take, Bool, Option, Some, None, is_some, true}
+use Rattle.std.specs.Option.{option_or}
+use Rattle.sixel_base.specs.CallFault.{CallFault, color_count_fault}
 use Rattle.sixel_base.specs.Payload.{Image}
 use Rattle.sixel_base.specs.Size.{encode_fault}
 use Rattle.sixel_base.specs.declared.error.SixelError.{SixelError}
+use Rattle.sixel_base.specs.declared.settings.BackgroundMode.{BackgroundMode}
+use Rattle.sixel_base.specs.declared.settings.BackgroundMode.TheVariants.{Opaque, Transparent}
+use Rattle.sixel_base.specs.declared.settings.PixelAspectRatio.{PixelAspectRatio}
+use Rattle.sixel_base.specs.declared.settings.PixelAspectRatio.TheVariants.{Ratio5To1, Ratio3To1}
+use Rattle.sixel_base.specs.declared.settings.PixelAspectRatio.TheVariants.{Ratio2To1, Square}
+use Rattle.sixel_encoder.specs.Form.{IsFormText}
+use Rattle.sixel_encoder.specs.IndexedDrawing.{IsPaletteText, IsTextOf, index_range_fault}
+use Rattle.sixel_encoder.specs.IndexedDrawing.{indexed_drawing}
+use Rattle.sixel_encoder.specs.RefinedText.{IsRefinedText}
 use Rattle.sixel_encoder.specs.declared.dither.Dither.{Dither}
 use Rattle.sixel_encoder.specs.declared.dither.Dither.TheVariants.{Off, Diffusion, Ordered}
 use Rattle.sixel_encoder.specs.declared.form.TextForm.{TextForm}
 use Rattle.sixel_encoder.specs.declared.form.TextForm.TheVariants.{Plain, Compact}
 use Rattle.icysixel.specs.Code.{IsCodeOf, ReturnsBy}
-use Rattle.icysixel.specs.Drawn.{image_of}
+use Rattle.icysixel.specs.Formats.{is_rgba, pixel_len, rgba_pixels}
 use Rattle.icysixel.specs.Kept.{IsImageKept, kept_text}
-use Rattle.icysixel.specs.Rows.{bytes_of, has_gaps, stride_of}
+use Rattle.icysixel.specs.Rows.{has_gaps, rows_of, stride_of, wanted}
 use Rattle.icysixel.specs.declared.encoding.Dithering.{Dithering}
 use Rattle.icysixel.specs.declared.encoding.Encoding.{Encoding}
+use Rattle.icysixel.specs.declared.encoding.PaletteMode.{PaletteMode}
+use Rattle.icysixel.specs.declared.encoding.PaletteMode.TheVariants.{Refined, Farthest, Given}
+use Rattle.icysixel.specs.declared.encoding.PaletteMode.TheVariants.{Indexed}
+use Rattle.icysixel.specs.declared.format.Format.{Format}
+use Rattle.icysixel.specs.declared.format.Format.TheVariants as format
 use Rattle.icysixel.specs.declared.state.State.{State}
+
+-- ---- numbers
 
 -- 1 is error diffusion, 2 an ordered pattern, and any other number no dithering
 abbrev pub dither_of : Dithering → Dither
@@ -29,34 +46,129 @@ dither_of dithering =
 abbrev pub form_of : Encoding → TextForm
 form_of encoding = if encoding.form == 0 then Plain else Compact
 
--- the image of these pixels
-abbrev pub encoded_image : Encoding → List ℕ → Image
-encoded_image encoding pixels =
-    image_of encoding.stride encoding.width encoding.height encoding.p1 encoding.p2 pixels
+-- 4 is a palette index, 5 one with a transparent index, and any number that is not named RGBA
+abbrev pub format_of : Encoding → Format
+format_of encoding =
+    if encoding.format == 1 then format.Bgra
+    else if encoding.format == 2 then format.Rgb
+    else if encoding.format == 3 then format.Bgr
+    else if encoding.format == 4 then format.Indexed None
+    else if encoding.format == 5 then format.Indexed (Some encoding.transparent)
+    else format.Rgba
 
--- A call encodes an image of so many bytes at this stride, stores its text and writes the text's
--- length. Its errors are those of the sizes, of the stride, of too few pixels, and then this fault.
--- The text has this property.
-pub record IsEncodeCall (before after : Option State) (stride : ℕ) (image : Image) (bytes : ℕ)
-    (fault : Option CallFault) (Property : List ℕ → Type 0) (code old_length new_length : ℕ)
-    : Type 0 where
+-- the height of a pixel of width 1, where any number that is not named means 1
+abbrev pub ratio_of : Encoding → PixelAspectRatio
+ratio_of encoding =
+    if encoding.pixel_height == 2 then Ratio2To1
+    else if encoding.pixel_height == 3 then Ratio3To1
+    else if encoding.pixel_height == 5 then Ratio5To1
+    else Square
+
+-- 0 is transparent, and any other number opaque
+abbrev pub background_of : Encoding → BackgroundMode
+background_of encoding = if encoding.background == 0 then Transparent else Opaque
+
+-- palette indices are those of the given palette
+abbrev pub mode_of : Encoding → PaletteMode
+mode_of encoding =
+    if encoding.format == 4 || encoding.format == 5 then Indexed
+    else if encoding.palette == 1 then Farthest
+    else if encoding.palette == 2 then Given
+    else Refined
+
+-- the most entries of a palette that is not given
+abbrev pub color_limit : Encoding → ℕ
+color_limit encoding = if encoding.max_colors == 0 then 256 else encoding.max_colors
+
+-- the given palette: it is empty if more colors are counted than there can be
+abbrev pub given_colors : Encoding → List (List ℕ)
+given_colors encoding =
+    if nat_lt 256 encoding.color_count then [] else take encoding.color_count encoding.colors
+
+-- ---- pixels
+
+-- the number of bytes of a row, and from row to row
+abbrev pub row_len : Encoding → ℕ
+row_len encoding = pixel_len (format_of encoding) * encoding.width
+
+abbrev pub row_stride : Encoding → ℕ
+row_stride encoding = stride_of encoding.stride (row_len encoding)
+
+-- the number of bytes of all rows, if they fit their stride and a usize
+abbrev pub bytes_of : Encoding → Option ℕ
+bytes_of encoding = wanted (row_stride encoding) (row_len encoding) encoding.height
+
+-- the rows of these bytes without gaps
+abbrev pub dense_rows : Encoding → List ℕ → List ℕ
+dense_rows encoding pixels =
+    rows_of (row_stride encoding) (row_len encoding) encoding.height pixels
+
+-- the image of rows without gaps
+abbrev pub image_of : Encoding → List ℕ → Image
+image_of encoding rows = record {
+  pixels = rgba_pixels (format_of encoding) rows (encoding.width * encoding.height);
+  width = encoding.width;
+  height = encoding.height;
+  aspect_ratio = ratio_of encoding;
+  background_mode = background_of encoding;
+}
+
+-- whether the pixels are copied, to convert them or to leave gaps out
+abbrev pub copies : Encoding → Bool
+copies encoding =
+    not (is_rgba (format_of encoding)) || has_gaps (row_stride encoding) (row_len encoding)
+
+-- ---- palettes
+
+-- what is wrong with the colors of an image, or with the indices of its pixels
+abbrev pub colors_fault : PaletteMode → Encoding → Image → List ℕ → Option CallFault
+colors_fault Refined encoding image indices = color_count_fault (color_limit encoding)
+colors_fault Farthest encoding image indices = None
+colors_fault Given encoding image indices = color_count_fault (length (given_colors encoding))
+colors_fault Indexed encoding image indices =
+    option_or (color_count_fault (length (given_colors encoding)))
+    (index_range_fault image.pixels indices (length (given_colors encoding)))
+
+-- the bytes are the text of the image
+abbrev pub IsTextIn : PaletteMode → Encoding → Image → List ℕ → List ℕ → Type 0
+IsTextIn Refined encoding image indices text =
+    IsRefinedText image (color_limit encoding) (dither_of encoding.dithering) (form_of encoding) text
+IsTextIn Farthest encoding image indices text =
+    IsFormText (form_of encoding) image (color_limit encoding) text
+IsTextIn Given encoding image indices text =
+    IsPaletteText image (given_colors encoding) (dither_of encoding.dithering) (form_of encoding) text
+IsTextIn Indexed encoding image indices text =
+    IsTextOf (form_of encoding) (indexed_drawing image (given_colors encoding) indices) text
+
+-- the same of rows without gaps, which are palette indices if the format has these
+abbrev pub rows_fault : Encoding → List ℕ → Option CallFault
+rows_fault encoding rows = colors_fault (mode_of encoding) encoding (image_of encoding rows) rows
+
+abbrev pub IsRowsText : Encoding → List ℕ → List ℕ → Type 0
+IsRowsText encoding rows text =
+    IsTextIn (mode_of encoding) encoding (image_of encoding rows) rows text
+
+-- A call encodes these pixels, stores their text and writes the text's length. Its errors are those
+-- of the sizes, of the stride, of too few pixels, and then of the colors.
+pub record IsEncodeCall (before after : Option State) (encoding : Encoding) (pixels : List ℕ)
+    (code old_length new_length : ℕ) : Type 0 where
   pub handle : is_some after ≡ is_some before
   pub no_handle : before ≡ None → code ≡ 1
   pub sizes : (state : State) (error : SixelError) → before ≡ Some state
-      → encode_fault image.width image.height ≡ Some error → IsCodeOf code error
+      → encode_fault encoding.width encoding.height ≡ Some error → IsCodeOf code error
   pub bad_stride : (state : State) → before ≡ Some state
-      → encode_fault image.width image.height ≡ None
-      → bytes_of stride image ≡ None → code ≡ 7
+      → encode_fault encoding.width encoding.height ≡ None
+      → bytes_of encoding ≡ None → code ≡ 7
   pub buffer : (state : State) (size : ℕ) → before ≡ Some state
-      → encode_fault image.width image.height ≡ None
-      → bytes_of stride image ≡ Some size → bytes < size → code ≡ 11
-  pub call : (state : State) (size : ℕ) → before ≡ Some state
-      → encode_fault image.width image.height ≡ None
-      → bytes_of stride image ≡ Some size → size ≤ bytes
-      → ReturnsBy (has_gaps (stride_of stride (4 * image.width)) (4 * image.width)) fault code
+      → encode_fault encoding.width encoding.height ≡ None
+      → bytes_of encoding ≡ Some size → length pixels < size → code ≡ 11
+  pub colors : (state : State) (size : ℕ) → before ≡ Some state
+      → encode_fault encoding.width encoding.height ≡ None
+      → bytes_of encoding ≡ Some size → size ≤ length pixels
+      → ReturnsBy (copies encoding) (rows_fault encoding (dense_rows encoding pixels)) code
   pub stored : (state : State) → after ≡ Some state → code ≡ 0 → is_some state.text ≡ true
   pub text : (state : State) (text : List ℕ) → after ≡ Some state → kept_text state ≡ Some text
-      → Property text
+      → IsRowsText encoding (dense_rows encoding pixels) text
   pub text_length : (state : State) (text : List ℕ) → after ≡ Some state
       → kept_text state ≡ Some text → new_length ≡ length text
   pub discarded : (state : State) → after ≡ Some state → code ≢ 0 → state.text ≡ None

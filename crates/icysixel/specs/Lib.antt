@@ -1,11 +1,11 @@
 pub mod Changes
 pub mod Code
 pub mod Colors
-pub mod Drawn
 pub mod Encodings
 pub mod Feed
 pub mod FinalRows
 pub mod Finish
+pub mod Formats
 pub mod Heights
 pub mod Kept
 pub mod RefinedOutput

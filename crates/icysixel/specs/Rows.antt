@@ -2,7 +2,6 @@
 -- row to the start of the next.
 use Rattle.std.specs.Prelude.{ℕ, ◌+◌, ◌-◌, ◌*◌, ◌==◌, nat_lt, ◌||◌, if◌then◌else◌, List, Option}
 use Rattle.std.specs.Prelude.{Some, None, slice_range, Bool, true, false}
-use Rattle.sixel_base.specs.Payload.{Image}
 use Rattle.sixel_base.specs.Picture.{joined}
 use Rattle.icy_sixel.specs.FinalRows.{usize_max}
 
@@ -28,7 +27,3 @@ wanted stride wide height =
 abbrev pub rows_of : ℕ → ℕ → ℕ → List ℕ → List ℕ
 rows_of stride wide height bytes =
     joined (λ row. slice_range bytes (row * stride) (row * stride + wide)) height
-
--- the number of bytes of the rows of an image at this stride
-abbrev pub bytes_of : ℕ → Image → Option ℕ
-bytes_of stride image = wanted (stride_of stride (4 * image.width)) (4 * image.width) image.height

@@ -1,9 +1,12 @@
-//! How pixels in the caller's memory are encoded.
+//! How pixels in the caller's memory are encoded: `icysixel_encoding` of the header.
 
 ghost use Rattle.std.specs.Prelude.{◌≡◌};
-ghost use Rattle.icysixel.specs.Encodings.{dither_of, form_of};
+ghost use Rattle.icysixel.specs.Encodings.{background_of, color_limit, dither_of, form_of};
+ghost use Rattle.icysixel.specs.Encodings.{format_of, given_colors, mode_of, ratio_of};
 
+use crate::format::Format;
 use icy_sixel::encoder::{Dither, TextForm};
+use icy_sixel::{BackgroundMode, PixelAspectRatio};
 
 /// How each pixel gets an entry of the palette.
 #[repr(C)]
@@ -32,24 +35,121 @@ impl Dithering {
     }
 }
 
+/// Where the palette of an output is from.
+#[derive(Clone, Copy)]
+pub enum PaletteMode {
+    /// It is refined.
+    Refined,
+    /// It is chosen farthest first.
+    Farthest,
+    /// It is the caller's.
+    Given,
+    /// It is the caller's, and the pixels are palette indices.
+    Indexed,
+}
+
 /// The layout of pixels, and how they are encoded.
 #[repr(C)]
 #[derive(Clone, Copy)]
 pub struct Encoding {
-    /// The number of bytes from row to row, or 0 for rows without gaps.
-    pub stride: usize,
     pub width: usize,
     pub height: usize,
-    /// The shape of a pixel.
-    pub p1: i32,
-    /// The background.
-    pub p2: i32,
+    /// The number of bytes from row to row, or 0 for rows without gaps.
+    pub stride: usize,
+    pub reserved: u32,
+    /// The most entries of a palette that is not given, where 0 means 256.
+    pub max_colors: u16,
+    /// The number of colors that are given.
+    pub color_count: u16,
+    /// 1 is BGRA, 2 RGB, 3 BGR, 4 indices, 5 indices with a transparent one. Any other is RGBA.
+    pub format: u8,
+    /// The height of a pixel of width 1: 2, 3 or 5. Any other number means 1.
+    pub pixel_height: u8,
+    /// 0 is a transparent background, any other number one in the color of register 0.
+    pub background: u8,
+    /// 1 is a palette chosen farthest first, 2 the given one. Any other number is a refined one.
+    pub palette: u8,
     pub dithering: Dithering,
     /// 0 is the plain form, any other number the compact one.
     pub form: u8,
+    /// The transparent index, if the format has one.
+    pub transparent: u8,
+    pub colors: [[u8; 3]; 256],
 }
 
 impl Encoding {
+    /// The format of the pixels.
+    pub fn pixel_format(&self) -> Format
+        ensures { result ≡ format_of self.now }
+    {
+        match self.format {
+            1 => Format::Bgra,
+            2 => Format::Rgb,
+            3 => Format::Bgr,
+            4 => Format::Indexed(None),
+            5 => Format::Indexed(Some(self.transparent)),
+            _ => Format::Rgba,
+        }
+    }
+
+    /// The shape of a pixel.
+    pub fn aspect_ratio(&self) -> PixelAspectRatio
+        ensures { result ≡ ratio_of self.now }
+    {
+        match self.pixel_height {
+            2 => PixelAspectRatio::Ratio2To1,
+            3 => PixelAspectRatio::Ratio3To1,
+            5 => PixelAspectRatio::Ratio5To1,
+            _ => PixelAspectRatio::Square,
+        }
+    }
+
+    /// The background.
+    pub fn background_mode(&self) -> BackgroundMode
+        ensures { result ≡ background_of self.now }
+    {
+        if self.background == 0 {
+            BackgroundMode::Transparent
+        } else {
+            BackgroundMode::Opaque
+        }
+    }
+
+    /// Where the palette is from.
+    pub fn mode(&self) -> PaletteMode
+        ensures { result ≡ mode_of self.now }
+    {
+        match (self.format, self.palette) {
+            (4 | 5, _) => PaletteMode::Indexed,
+            (_, 1) => PaletteMode::Farthest,
+            (_, 2) => PaletteMode::Given,
+            _ => PaletteMode::Refined,
+        }
+    }
+
+    /// The most entries of a palette that is not given.
+    pub fn color_limit(&self) -> u16
+        ensures { result ≡ color_limit self.now }
+    {
+        if self.max_colors == 0 {
+            256
+        } else {
+            self.max_colors
+        }
+    }
+
+    /// The colors that are given, or none if their number is above 256.
+    pub fn given_colors(&self) -> &[[u8; 3]]
+        ensures { result.now ≡ given_colors self.now }
+    {
+        let count = usize::from(self.color_count);
+        if count > 256 {
+            &self.colors[..0]
+        } else {
+            &self.colors[..count]
+        }
+    }
+
     /// The form of the output.
     pub fn text_form(&self) -> TextForm
         ensures { result ≡ form_of self.now }

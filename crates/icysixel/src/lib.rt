@@ -9,6 +9,7 @@ mod bytes;
 mod code;
 pub mod encoding;
 pub mod final_rows;
+pub mod format;
 mod handle;
 pub mod images;
 pub mod indices;

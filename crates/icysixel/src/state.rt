@@ -187,6 +187,18 @@ impl State {
         self.image.take()
     }
 
+    /// Takes the stored text out, if there is one.
+    pub fn take_text(&mut self) -> Option<String>
+        ensures text { result ≡ self.old.text }
+        ensures taken { self.new.text ≡ None }
+        ensures same { result ≡ None → self.new ≡ self.old }
+        ensures receiver { self.new.receiver ≡ self.old.receiver }
+        ensures image { self.new.image ≡ self.old.image }
+        ensures height { self.new.height ≡ self.old.height }
+    {
+        self.text.take()
+    }
+
     /// Discards the stored text if this code is success.
     pub fn leave_text(&mut self, code: u32)
         ensures done { code ≡ 0 → self.new.text ≡ None }

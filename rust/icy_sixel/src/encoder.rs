@@ -1,9 +1,9 @@
 //! Encoding: the SIXEL output of an image.
 
-use crate::codes::{BAD_DIMENSIONS, BUFFER_MISMATCH, error_of};
+use crate::codes::{BAD_DIMENSIONS, BAD_STRIDE, BUFFER_MISMATCH, error_of};
 use crate::error::{Result, SixelError};
-use crate::ffi::{self, Colors, Dithering, Encoding, Handle, Source};
-use crate::sixel_image::{BackgroundMode, PixelAspectRatio, SixelImage};
+use crate::ffi::{self, Color, Dithering, Handle};
+use crate::sixel_image::{BackgroundMode, PixelAspectRatio};
 use crate::size::{pixel_bytes, validate_buffer, validate_encode_dimensions};
 
 /// How an image is encoded.
@@ -60,6 +60,210 @@ pub enum TextForm {
     Plain,
     /// The same pixels in fewer bytes, or the plain output if that is shorter.
     Compact,
+}
+
+/// What the bytes of a pixel are.
+#[derive(Clone, Copy, Debug, Default, PartialEq, Eq)]
+pub enum PixelFormat {
+    /// Red, green, blue and alpha.
+    #[default]
+    Rgba,
+    /// Blue, green, red and alpha, as most window systems have them.
+    Bgra,
+    /// Red, green and blue.
+    Rgb,
+    /// Blue, green and red.
+    Bgr,
+    /// The index of a given color.
+    Indexed {
+        /// The index of transparent pixels.
+        transparent: Option<u8>,
+    },
+}
+
+impl PixelFormat {
+    /// The number of bytes of a pixel.
+    fn bytes(self) -> usize {
+        match self {
+            Self::Rgba | Self::Bgra => 4,
+            Self::Rgb | Self::Bgr => 3,
+            Self::Indexed { .. } => 1,
+        }
+    }
+
+    /// The format as C passes it, and the transparent index.
+    fn in_c(self) -> (u8, u8) {
+        match self {
+            Self::Rgba => (0, 0),
+            Self::Bgra => (1, 0),
+            Self::Rgb => (2, 0),
+            Self::Bgr => (3, 0),
+            Self::Indexed { transparent: None } => (4, 0),
+            Self::Indexed { transparent: Some(index) } => (5, index),
+        }
+    }
+}
+
+/// The palette of an output.
+#[derive(Clone, Copy, Debug, PartialEq, Eq)]
+pub enum PaletteMode<'a> {
+    /// That of [`refine_palette`](crate::refine_palette), with at most 1 to 256 colors.
+    Refined(u16),
+    /// That of [`choose_palette`](crate::choose_palette), with at most 2 to 256 colors.
+    Farthest(u16),
+    /// These 1 to 256 colors.
+    Given(&'a [[u8; 3]]),
+}
+
+/// How pixels of any format are encoded.
+///
+/// ```
+/// use icy_sixel::encoder::{Encoding, PixelFormat, TextForm};
+///
+/// let red = [0, 0, 255].repeat(2);
+/// let text = Encoding::new(2, 1).format(PixelFormat::Bgr).form(TextForm::Compact).encode(&red)?;
+/// assert_eq!(text, "\x1bP9;1;0q\"1;1;2;1#0;2;100;0;0#0@@\x1b\\");
+/// # Ok::<(), icy_sixel::SixelError>(())
+/// ```
+///
+/// By default pixels are RGBA, their rows have no gaps, and they get a refined palette of up to
+/// 256 colors without dithering. The output is plain, with square pixels on a transparent
+/// background.
+#[derive(Clone, Copy, Debug)]
+pub struct Encoding<'a> {
+    width: usize,
+    height: usize,
+    stride: usize,
+    format: PixelFormat,
+    aspect_ratio: PixelAspectRatio,
+    background_mode: BackgroundMode,
+    palette: PaletteMode<'a>,
+    dither: Dither,
+    form: TextForm,
+}
+
+impl<'a> Encoding<'a> {
+    /// Returns the encoding of an image of this size in pixels.
+    #[must_use]
+    pub fn new(width: usize, height: usize) -> Self {
+        Self {
+            width,
+            height,
+            stride: 0,
+            format: PixelFormat::default(),
+            aspect_ratio: PixelAspectRatio::default(),
+            background_mode: BackgroundMode::default(),
+            palette: PaletteMode::Refined(256),
+            dither: Dither::Off,
+            form: TextForm::Plain,
+        }
+    }
+
+    /// Sets the number of bytes from row to row, or 0 for rows without gaps.
+    #[must_use]
+    pub fn stride(self, stride: usize) -> Self {
+        Self { stride, ..self }
+    }
+
+    /// Sets the format of the pixels.
+    #[must_use]
+    pub fn format(self, format: PixelFormat) -> Self {
+        Self { format, ..self }
+    }
+
+    /// Sets the shape of a pixel.
+    #[must_use]
+    pub fn aspect_ratio(self, aspect_ratio: PixelAspectRatio) -> Self {
+        Self { aspect_ratio, ..self }
+    }
+
+    /// Sets the background.
+    #[must_use]
+    pub fn background_mode(self, background_mode: BackgroundMode) -> Self {
+        Self { background_mode, ..self }
+    }
+
+    /// Sets the palette. Indexed pixels need a given one.
+    #[must_use]
+    pub fn palette(self, palette: PaletteMode<'a>) -> Self {
+        Self { palette, ..self }
+    }
+
+    /// Sets the dithering, which a farthest palette and indexed pixels do not have.
+    #[must_use]
+    pub fn dither(self, dither: Dither) -> Self {
+        Self { dither, ..self }
+    }
+
+    /// Sets the form of the output.
+    #[must_use]
+    pub fn form(self, form: TextForm) -> Self {
+        Self { form, ..self }
+    }
+
+    /// Returns the SIXEL output of pixels, row by row. They may continue after the last row.
+    ///
+    /// # Errors
+    ///
+    /// The first of these that applies:
+    ///
+    /// - those of [`validate_encode_dimensions`]
+    /// - `InvalidData("stride is shorter than a row")`
+    /// - `IntegerOverflow`: the rows overflow `usize`
+    /// - `BufferSizeMismatch`: there are too few pixels
+    /// - `InvalidData("number of colors is not 1 to 256")`
+    /// - `InvalidData("palette index out of range")`: the index of an opaque pixel
+    /// - `OutOfMemory`: an allocation fails
+    pub fn encode(&self, pixels: &[u8]) -> Result<String> {
+        validate_encode_dimensions(self.width, self.height)?;
+        let row = self.format.bytes() * self.width;
+        let stride = if self.stride == 0 { row } else { self.stride };
+        let error = |code| match code {
+            BAD_STRIDE if stride < row => SixelError::of_data("stride is shorter than a row"),
+            BAD_STRIDE => SixelError::IntegerOverflow,
+            BUFFER_MISMATCH => {
+                let expected = stride * (self.height - 1) + row;
+                SixelError::BufferSizeMismatch { expected, actual: pixels.len() }
+            }
+            code => error_of(code),
+        };
+        let mut handle = Handle::new().map_err(error_of)?;
+        let length = handle.encode(pixels, &self.in_c()).map_err(error)?;
+        let mut text = Vec::new();
+        text.try_reserve_exact(length)?;
+        handle.take_text(&mut text).map_err(error_of)?;
+        Ok(String::from_utf8(text).expect("a SIXEL text is ASCII"))
+    }
+
+    /// The encoding as C passes it. There a bound of 0 colors means 256.
+    pub(crate) fn in_c(&self) -> ffi::Encoding {
+        let (format, transparent) = self.format.in_c();
+        let (palette, max_colors, given) = match self.palette {
+            PaletteMode::Refined(most) => (0, if most == 0 { u16::MAX } else { most }, &[][..]),
+            PaletteMode::Farthest(most) => (1, most.max(1), &[][..]),
+            PaletteMode::Given(colors) => (2, 0, colors),
+        };
+        let mut colors = [Color::default(); 256];
+        for (color, &[red, green, blue]) in colors.iter_mut().zip(given) {
+            *color = Color { red, green, blue };
+        }
+        ffi::Encoding {
+            width: self.width,
+            height: self.height,
+            stride: self.stride,
+            reserved: 0,
+            max_colors,
+            color_count: u16::try_from(given.len()).unwrap_or(u16::MAX),
+            format,
+            pixel_height: self.aspect_ratio.pad() as u8,
+            background: u8::from(!self.background_mode.is_transparent()),
+            palette,
+            dithering: self.dither.dithering(),
+            form: u8::from(self.form == TextForm::Compact),
+            transparent,
+            colors,
+        }
+    }
 }
 
 /// Returns the palette index of each pixel in a palette of 1 to 256 colors.
@@ -130,8 +334,8 @@ pub fn sixel_encode(
     height: usize,
     options: &EncodeOptions,
 ) -> Result<String> {
-    let shape = (PixelAspectRatio::default(), BackgroundMode::default());
-    encode(pixels, (width, height), shape, options)
+    let encoding = exact_encoding(pixels, width, height)?;
+    encoding.palette(PaletteMode::Farthest(options.max_colors)).encode(pixels)
 }
 
 /// Does what [`sixel_encode`] does with the default options.
@@ -143,67 +347,13 @@ pub fn sixel_encode_default(pixels: &[u8], width: usize, height: usize) -> Resul
     sixel_encode(pixels, width, height, &EncodeOptions::default())
 }
 
-/// The SIXEL output of an image.
-pub(crate) fn encode(
+/// The encoding of pixels without gaps, four bytes each. More bytes are an error.
+pub(crate) fn exact_encoding(
     pixels: &[u8],
-    (width, height): (usize, usize),
-    (ratio, mode): (PixelAspectRatio, BackgroundMode),
-    options: &EncodeOptions,
-) -> Result<String> {
+    width: usize,
+    height: usize,
+) -> Result<Encoding<'static>> {
     validate_encode_dimensions(width, height)?;
     validate_buffer(pixel_bytes(width, height)?, pixels.len())?;
-    let source = Source {
-        pixels,
-        width,
-        height,
-        p1: ratio.to_p1_value(),
-        p2: mode.to_p2_value(),
-        max_colors: options.max_colors,
-    };
-    let error = |code| match code {
-        BAD_DIMENSIONS => SixelError::InvalidDimensions { width, height },
-        code => error_of(code),
-    };
-    let mut handle = Handle::new().map_err(error_of)?;
-    let length = handle.write(&source).map_err(error)?;
-    stored_text(&mut handle, length)
-}
-
-/// The SIXEL output of an image in these colors.
-pub(crate) fn encode_in(
-    image: &SixelImage,
-    colors: Colors<'_>,
-    dither: Dither,
-    form: TextForm,
-) -> Result<String> {
-    let (width, height) = image.dimensions();
-    validate_encode_dimensions(width, height)?;
-    validate_buffer(pixel_bytes(width, height)?, image.pixels.len())?;
-    let encoding = Encoding {
-        stride: 0,
-        width,
-        height,
-        p1: image.aspect_ratio.to_p1_value().into(),
-        p2: image.background_mode.to_p2_value().into(),
-        dithering: dither.dithering(),
-        form: u8::from(form == TextForm::Compact),
-    };
-    let error = |code| match (code, colors) {
-        (BAD_DIMENSIONS, _) => SixelError::InvalidDimensions { width, height },
-        (BUFFER_MISMATCH, Colors::Indexed(_, indices)) => {
-            SixelError::BufferSizeMismatch { expected: width * height, actual: indices.len() }
-        }
-        (code, _) => error_of(code),
-    };
-    let mut handle = Handle::new().map_err(error_of)?;
-    let length = handle.encode(&image.pixels, &encoding, colors).map_err(error)?;
-    stored_text(&mut handle, length)
-}
-
-/// The text of this length that a handle stores.
-fn stored_text(handle: &mut Handle, length: usize) -> Result<String> {
-    let mut text = Vec::new();
-    text.try_reserve_exact(length)?;
-    handle.take_text(&mut text).map_err(error_of)?;
-    Ok(String::from_utf8(text).expect("a SIXEL text is ASCII"))
+    Ok(Encoding::new(width, height))
 }

@@ -88,17 +88,24 @@ pub(crate) struct Dithering {
     pub(crate) amount: u8,
 }
 
-/// The layout of pixels, and how they are encoded.
+/// Pixels, and how they are encoded.
 #[repr(C)]
-#[derive(Clone, Copy, Default)]
+#[derive(Clone, Copy)]
 pub(crate) struct Encoding {
-    pub(crate) stride: usize,
     pub(crate) width: usize,
     pub(crate) height: usize,
-    pub(crate) p1: i32,
-    pub(crate) p2: i32,
+    pub(crate) stride: usize,
+    pub(crate) reserved: u32,
+    pub(crate) max_colors: u16,
+    pub(crate) color_count: u16,
+    pub(crate) format: u8,
+    pub(crate) pixel_height: u8,
+    pub(crate) background: u8,
+    pub(crate) palette: u8,
     pub(crate) dithering: Dithering,
     pub(crate) form: u8,
+    pub(crate) transparent: u8,
+    pub(crate) colors: [Color; 256],
 }
 
 /// How rows lie in a buffer.
@@ -172,52 +179,11 @@ unsafe extern "C" {
     fn icysixel_get_registers(handle: &mut Raw, first: u8, colors: *mut Color, count: usize)
     -> u32;
     fn icysixel_set_registers(handle: &mut Raw, first: u8, colors: *const Color, count: usize);
-    fn icysixel_encode(
-        handle: &mut Raw,
-        pixels: *const u8,
-        length: usize,
-        stride: usize,
-        width: usize,
-        height: usize,
-        p1: i32,
-        p2: i32,
-        max_colors: u16,
-        text_length: &mut usize,
-    ) -> u32;
-    fn icysixel_encode_compact(
+    fn icysixel_encode_image(
         handle: &mut Raw,
         pixels: *const u8,
         length: usize,
         encoding: *const Encoding,
-        max_colors: u16,
-        text_length: &mut usize,
-    ) -> u32;
-    fn icysixel_encode_refined(
-        handle: &mut Raw,
-        pixels: *const u8,
-        length: usize,
-        encoding: *const Encoding,
-        max_colors: u16,
-        text_length: &mut usize,
-    ) -> u32;
-    fn icysixel_encode_with_palette(
-        handle: &mut Raw,
-        pixels: *const u8,
-        length: usize,
-        encoding: *const Encoding,
-        colors: *const Color,
-        count: usize,
-        text_length: &mut usize,
-    ) -> u32;
-    fn icysixel_encode_indexed(
-        handle: &mut Raw,
-        pixels: *const u8,
-        length: usize,
-        encoding: *const Encoding,
-        colors: *const Color,
-        count: usize,
-        indices: *const u8,
-        index_count: usize,
         text_length: &mut usize,
     ) -> u32;
     fn icysixel_copy_text(handle: &mut Raw, buf: *mut u8, size: usize, wanted: &mut usize) -> u32;
@@ -267,29 +233,6 @@ fn answer<T>(code: u32, value: T) -> Answer<T> {
 
 /// P1 and P2 of a DCS sequence, where -1 means an absent one.
 pub(crate) type Parameters = [i32; 2];
-
-/// Pixels to encode, four bytes each, with the parameters of the output.
-pub(crate) struct Source<'a> {
-    pub(crate) pixels: &'a [u8],
-    pub(crate) width: usize,
-    pub(crate) height: usize,
-    pub(crate) p1: u8,
-    pub(crate) p2: u8,
-    pub(crate) max_colors: u16,
-}
-
-/// The colors of an output.
-#[derive(Clone, Copy)]
-pub(crate) enum Colors<'a> {
-    /// A palette of at most this many colors, chosen farthest first, in compact form.
-    Chosen(u16),
-    /// A refined palette of at most this many colors.
-    Refined(u16),
-    /// A palette of the caller.
-    Given(&'a [[u8; 3]]),
-    /// A palette of the caller, and the palette index of each pixel.
-    Indexed(&'a [[u8; 3]], &'a [u8]),
-}
 
 /// A decoder of the library, with its open image, stored image and stored text.
 pub(crate) struct Handle(Raw);
@@ -522,76 +465,13 @@ impl Handle {
     }
 
     /// Encodes pixels, stores their text and returns its length.
-    pub(crate) fn write(&mut self, source: &Source<'_>) -> Answer<usize> {
-        let &Source { pixels, width, height, p1, p2, max_colors } = source;
-        let (start, length) = (pixels.as_ptr(), pixels.len());
-        let (p1, p2) = (i32::from(p1), i32::from(p2));
-        let mut bytes = 0;
-        // SAFETY: the pointer and the length are those of a slice, which is only read.
-        let code = unsafe {
-            icysixel_encode(
-                &mut self.0,
-                start,
-                length,
-                0,
-                width,
-                height,
-                p1,
-                p2,
-                max_colors,
-                &mut bytes,
-            )
-        };
-        answer(code, bytes)
-    }
-
-    /// Encodes pixels in these colors, stores their text and returns its length.
-    pub(crate) fn encode(
-        &mut self,
-        pixels: &[u8],
-        encoding: &Encoding,
-        colors: Colors<'_>,
-    ) -> Answer<usize> {
-        let handle = &mut self.0;
+    pub(crate) fn encode(&mut self, pixels: &[u8], encoding: &Encoding) -> Answer<usize> {
         let (start, length) = (pixels.as_ptr(), pixels.len());
         let mut bytes = 0;
-        let code = match colors {
-            // SAFETY: the pointer and the length are those of a slice, which is only read.
-            Colors::Chosen(most) => unsafe {
-                icysixel_encode_compact(handle, start, length, encoding, most, &mut bytes)
-            },
-            // SAFETY: the same.
-            Colors::Refined(most) => unsafe {
-                icysixel_encode_refined(handle, start, length, encoding, most, &mut bytes)
-            },
-            Colors::Given(colors) => {
-                let (colors, count) = (colors.as_ptr().cast(), colors.len());
-                // SAFETY: the same of two slices, and a `Color` has the layout of three bytes.
-                unsafe {
-                    icysixel_encode_with_palette(
-                        handle, start, length, encoding, colors, count, &mut bytes,
-                    )
-                }
-            }
-            Colors::Indexed(colors, indices) => {
-                let (colors, count) = (colors.as_ptr().cast(), colors.len());
-                let (indices, index_count) = (indices.as_ptr(), indices.len());
-                // SAFETY: the same of three slices.
-                unsafe {
-                    icysixel_encode_indexed(
-                        handle,
-                        start,
-                        length,
-                        encoding,
-                        colors,
-                        count,
-                        indices,
-                        index_count,
-                        &mut bytes,
-                    )
-                }
-            }
-        };
+        // SAFETY: the pointer and the length are those of a slice, which is only read, and so is
+        // the encoding.
+        let code =
+            unsafe { icysixel_encode_image(&mut self.0, start, length, encoding, &mut bytes) };
         answer(code, bytes)
     }
 

@@ -1,9 +1,11 @@
 //! An image as its pixels, sizes, pixel shape and background.
 
-use crate::codes::error_of;
-use crate::encoder::{Dither, EncodeOptions, TextForm, encode, encode_in};
+use crate::codes::{COLOR_COUNT, error_of};
+use crate::encoder::{
+    Dither, EncodeOptions, Encoding, PaletteMode, PixelFormat, TextForm, exact_encoding,
+};
 use crate::error::{Result, SixelError};
-use crate::ffi::{Colors, Handle};
+use crate::ffi::Handle;
 use crate::settings::DcsSettings;
 pub use crate::settings::{BackgroundMode, PixelAspectRatio};
 use crate::size::{pixel_bytes, validate_buffer};
@@ -146,8 +148,7 @@ impl SixelImage {
     /// (`IntegerOverflow`), sizes above the limits (`InvalidDimensions`), and pixels of another
     /// number of bytes (`BufferSizeMismatch`). `OutOfMemory` if an allocation fails.
     pub fn encode_with(&self, options: &EncodeOptions) -> Result<String> {
-        let shape = (self.aspect_ratio, self.background_mode);
-        encode(&self.pixels, self.dimensions(), shape, options)
+        self.encoding()?.palette(PaletteMode::Farthest(options.max_colors)).encode(&self.pixels)
     }
 
     /// Returns the compact SIXEL output of this image: the same pixels in fewer bytes.
@@ -159,7 +160,8 @@ impl SixelImage {
     ///
     /// Those of [`encode_with`](Self::encode_with).
     pub fn encode_compact(&self, options: &EncodeOptions) -> Result<String> {
-        encode_in(self, Colors::Chosen(options.max_colors), Dither::Off, TextForm::Compact)
+        let encoding = self.encoding()?.form(TextForm::Compact);
+        encoding.palette(PaletteMode::Farthest(options.max_colors)).encode(&self.pixels)
     }
 
     /// Returns the SIXEL output of this image in a given palette of 1 to 256 colors.
@@ -189,13 +191,15 @@ impl SixelImage {
         dither: Dither,
         form: TextForm,
     ) -> Result<String> {
-        encode_in(self, Colors::Given(colors), dither, form)
+        let encoding = self.encoding()?.dither(dither).form(form);
+        encoding.palette(PaletteMode::Given(colors)).encode(&self.pixels)
     }
 
     /// Returns the SIXEL output of this image by given palette indices.
     ///
     /// There is an index for each pixel, row by row. The indices of transparent pixels have no
-    /// effect, and neither have the colors of pixels.
+    /// effect, and neither have the colors of pixels. If opaque pixels have all 256 indices and
+    /// other pixels are transparent, equal colors get their first index.
     ///
     /// # Errors
     ///
@@ -210,7 +214,33 @@ impl SixelImage {
         indices: &[u8],
         form: TextForm,
     ) -> Result<String> {
-        encode_in(self, Colors::Indexed(colors, indices), Dither::Off, form)
+        let encoding = self.encoding()?.form(form).palette(PaletteMode::Given(colors));
+        if colors.is_empty() || colors.len() > 256 {
+            return Err(error_of(COLOR_COUNT));
+        }
+        validate_buffer(self.width * self.height, indices.len())?;
+        let is_opaque = |pixel: usize| self.pixels[4 * pixel + 3] >= 128;
+        let mut is_used = [false; 256];
+        for (pixel, &index) in indices.iter().enumerate() {
+            is_used[usize::from(index)] |= is_opaque(pixel);
+        }
+        let mut pixels = Vec::new();
+        if let Some(free) = (0..=255).find(|&index| !is_used[usize::from(index)]) {
+            pixels.try_reserve_exact(indices.len())?;
+            let listed = indices.iter().enumerate();
+            pixels.extend(listed.map(|(pixel, &it)| if is_opaque(pixel) { it } else { free }));
+            encoding.format(PixelFormat::Indexed { transparent: Some(free) }).encode(&pixels)
+        } else if (0..indices.len()).all(is_opaque) {
+            encoding.format(PixelFormat::Indexed { transparent: None }).encode(indices)
+        } else {
+            // No index is left for transparent pixels, and all 256 colors are there.
+            pixels.try_reserve_exact(self.pixels.len())?;
+            for (pixel, &index) in indices.iter().enumerate() {
+                let [red, green, blue] = colors[usize::from(index)];
+                pixels.extend([red, green, blue, self.pixels[4 * pixel + 3]]);
+            }
+            encoding.encode(&pixels)
+        }
     }
 
     /// Returns the SIXEL output of this image in a refined palette.
@@ -238,7 +268,14 @@ impl SixelImage {
         dither: Dither,
         form: TextForm,
     ) -> Result<String> {
-        encode_in(self, Colors::Refined(max_colors), dither, form)
+        let encoding = self.encoding()?.dither(dither).form(form);
+        encoding.palette(PaletteMode::Refined(max_colors)).encode(&self.pixels)
+    }
+
+    /// The encoding of this image, or the error of its sizes.
+    fn encoding(&self) -> Result<Encoding<'_>> {
+        let encoding = exact_encoding(&self.pixels, self.width, self.height)?;
+        Ok(encoding.aspect_ratio(self.aspect_ratio).background_mode(self.background_mode))
     }
 }
 

@@ -48,13 +48,12 @@ pub fn validate_encode_dimensions(width: usize, height: usize) -> Result<()> {
 mod tests {
     use super::*;
     use crate::codes::{BAD_DIMENSIONS, BUFFER_MISMATCH, OVERFLOW};
-    use crate::ffi::{Handle, Source};
+    use crate::encoder::Encoding;
+    use crate::ffi::Handle;
 
     /// What the library returns for a size without pixels: a mismatch if it is valid.
     fn of_the_library(handle: &mut Handle, width: usize, height: usize) -> Result<()> {
-        let pixels = &[];
-        let source = Source { pixels, width, height, p1: 9, p2: 1, max_colors: 2 };
-        match handle.write(&source) {
+        match handle.encode(&[], &Encoding::new(width, height).in_c()) {
             Err(BUFFER_MISMATCH) => Ok(()),
             Err(BAD_DIMENSIONS) => Err(SixelError::InvalidDimensions { width, height }),
             Err(OVERFLOW) => Err(SixelError::IntegerOverflow),

@@ -1,7 +1,8 @@
 //! A palette of more colors than it has entries for, and images in palettes.
 
 use icy_sixel::SixelError::{BufferSizeMismatch, InvalidData, InvalidDimensions};
-use icy_sixel::{Dither, EncodeOptions, SixelImage, TextForm, choose_palette, palette_indices};
+use icy_sixel::{Dither, EncodeOptions, Encoding, PaletteMode, PixelFormat, SixelImage, TextForm};
+use icy_sixel::{choose_palette, palette_indices};
 use icy_sixel::{refine_palette, sixel_encode, witnesses_hold};
 
 /// With more colors than entries the buffers of entries and of witnesses are full, and the entries
@@ -52,6 +53,51 @@ fn texts_in_palettes() {
     let refined = format!("{HEAD}#0;2;2;0;0#1;2;100;100;100#0@@#1@\x1b\\");
     for dither in [Dither::Off, diffusion, Dither::Ordered { amplitude: 8 }] {
         assert_eq!(image.encode_refined(2, dither, TextForm::Compact).unwrap(), refined);
+    }
+}
+
+/// Two rows have one text in all formats, with and without a byte between them.
+#[test]
+fn formats() {
+    type Pixel = fn(&[u8], u8) -> Vec<u8>;
+    let given = Encoding::new(3, 2).palette(PaletteMode::Given(BLACK_WHITE));
+    let text = given.encode(&[ROW, ROW].concat()).unwrap();
+    let formats: [(PixelFormat, Pixel); 6] = [
+        (PixelFormat::Rgba, |it, _| it.to_vec()),
+        (PixelFormat::Bgra, |it, _| vec![it[2], it[1], it[0], it[3]]),
+        (PixelFormat::Rgb, |it, _| it[..3].to_vec()),
+        (PixelFormat::Bgr, |it, _| vec![it[2], it[1], it[0]]),
+        (PixelFormat::Indexed { transparent: None }, |_, index| vec![index]),
+        (PixelFormat::Indexed { transparent: Some(7) }, |_, index| vec![index]),
+    ];
+    for (format, pixel) in formats {
+        let row = ROW.chunks(4).zip([0, 0, 1]).flat_map(|(it, index)| pixel(it, index));
+        let row: Vec<u8> = row.collect();
+        let encoding = given.format(format);
+        assert_eq!(encoding.encode(&row.repeat(2)).as_ref(), Ok(&text), "{format:?}");
+        let apart = [&row[..], &[9], &row[..]].concat();
+        let (expected, actual) = (apart.len(), apart.len() - 1);
+        let encoding = encoding.stride(row.len() + 1);
+        assert_eq!(encoding.encode(&apart).as_ref(), Ok(&text), "{format:?}");
+        let mismatch = BufferSizeMismatch { expected, actual };
+        assert_eq!(encoding.encode(&apart[1..]), Err(mismatch));
+        let short = InvalidData("stride is shorter than a row".into());
+        assert_eq!(encoding.stride(row.len() - 1).encode(&apart), Err(short));
+    }
+}
+
+/// Opaque pixels with all 256 indices, without a transparent pixel and with one.
+#[test]
+fn all_indices() {
+    let colors: Vec<[u8; 3]> = (0..=255).map(|it| [it; 3]).collect();
+    let mut pixels: Vec<u8> = (0..=255).flat_map(|it| [it, it, it, 255]).collect();
+    for (width, alpha) in [(256, 255), (257, 255), (257, 0)] {
+        pixels.truncate(4 * 256);
+        pixels.extend([9, 9, 9, alpha].repeat(width - 256));
+        let indices: Vec<u8> = pixels.chunks(4).map(|it| it[0]).collect();
+        let image = SixelImage::from_rgba(pixels.clone(), width, 1);
+        let text = image.encode_with_palette(&colors, Dither::Off, TextForm::Plain);
+        assert_eq!(image.encode_indexed(&colors, &indices, TextForm::Plain), text);
     }
 }
 

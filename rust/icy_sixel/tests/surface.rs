@@ -129,6 +129,8 @@ fn names_of_our_own() {
     type Form = icy_sixel::TextForm;
     is_value::<Dither>();
     is_value::<Form>();
+    is_value::<icy_sixel::PixelFormat>();
+    is_value::<icy_sixel::PaletteMode<'_>>();
     type Colors<'a> = &'a [[u8; 3]];
     type Indices = Answer<Vec<u8>>;
     let _: fn(&[u8], usize, Colors<'_>, Dither) -> Indices = icy_sixel::palette_indices;

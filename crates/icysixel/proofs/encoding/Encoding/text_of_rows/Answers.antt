@@ -1,0 +1,20 @@
+use Rattle.std.proofs.Common.{◌≡◌, ◌*◌, true, length, arith}
+use Rattle.icysixel.specs.Encodings.{format_of}
+use Rattle.icysixel.specs.Formats.{is_rgba}
+use Rattle.icysixel.proofs.Conversion.{rgba_len, rgba_same}
+use Rattle.icysixel.proofs.encoding.Encoding.text_of_rows.Goals as goal
+
+pub text_of_image-requires-clause-count : goal.text_of_image-requires-clause-count
+text_of_image-requires-clause-count c =
+    let encoding = c.args.self.now in
+    let is : is_rgba (format_of encoding) ≡ true = grind arith in
+    let len : length c.args.rows.now ≡ 4 * encoding.width * encoding.height =
+    rw (rgba_len (format_of encoding) is) at c.requires.rows in
+    omega (arith, len)
+
+pub text_of_image-requires-clause-pixels : goal.text_of_image-requires-clause-pixels
+text_of_image-requires-clause-pixels c =
+    let encoding = c.args.self.now in
+    let is : is_rgba (format_of encoding) ≡ true = grind arith in
+    rgba_same (format_of encoding) c.args.rows.now (encoding.width * encoding.height) is
+    (text_of_image-requires-clause-count c)
