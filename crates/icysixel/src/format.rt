@@ -30,6 +30,7 @@ impl Format {
     }
 
     /// The number of bytes of a pixel.
+    #[inline(always)]
     pub fn pixel_len(self) -> usize
         ensures { result ≡ pixel_len self }
     {
@@ -57,6 +58,7 @@ impl Format {
     }
 
     /// The bytes of a pixel.
+    #[inline(always)]
     fn pixel_at(self, bytes: &[u8], pixel: usize) -> &[u8]
         requires { pixel * pixel_len self + pixel_len self ≤ length bytes.now }
         ensures bytes { result.now ≡ slice_range bytes.now (pixel * pixel_len self)
@@ -69,6 +71,7 @@ impl Format {
     }
 
     /// Red, green, blue and alpha of the pixel of these bytes.
+    #[inline(always)]
     fn rgba(self, pixel: &[u8]) -> [u8; 4]
         requires { length pixel.now ≡ pixel_len self }
         ensures { result ≡ rgba self pixel.now }

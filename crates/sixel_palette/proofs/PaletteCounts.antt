@@ -126,7 +126,7 @@ number-one pixels pixel =
     (cases_lt (get_or pixels (4 * pixel + 3) 0) 128)
 
 -- a number of a pixel's color is that of its color's code
-number-color : (number : List ℕ → ℕ) (pixels : List ℕ) → ((k : ℕ) → get_or pixels k 0 < 256)
+pub number-color : (number : List ℕ → ℕ) (pixels : List ℕ) → ((k : ℕ) → get_or pixels k 0 < 256)
     → (pixel : ℕ) → pixel_number (λ code. number (color_of code)) pixels pixel
     ≡ opaque_number number pixels pixel
 number-color number pixels bytes pixel =

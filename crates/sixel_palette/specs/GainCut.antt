@@ -2,7 +2,7 @@
 -- by dynamic programming and principal analysis", 1992). The gain is in sixteenths and rounded
 -- down.
 -- Ties are this library's.
-use Rattle.std.specs.Prelude.{ℕ, ◌+◌, ◌-◌, ◌*◌, ◌/◌, ◌==◌, ◌&&◌, ◌||◌, zero, suc, Bool, true}
+use Rattle.std.specs.Prelude.{ℕ, ◌+◌, ◌-◌, ◌*◌, ◌/◌, ◌%◌, ◌==◌, ◌&&◌, ◌||◌, zero, suc, Bool, true}
 use Rattle.std.specs.Prelude.{nat_le, nat_lt, if◌then◌else◌, List, [], ◌∷◌, ◌++◌, length, map}
 use Rattle.std.specs.Prelude.{slice_index, slice_index_or, slice_set}
 use Rattle.std.specs.Int.{abs_diff}
@@ -36,7 +36,7 @@ channel_place Channel.Blue = 2
 
 -- the value of a channel of a corner
 abbrev pub side : Channel → List ℕ → ℕ
-side channel corner = slice_index corner (channel_place channel)
+side channel corner = slice_index corner (channel_place channel) % 256
 
 -- the part of a box up to a value of a channel, and the part above it
 abbrev pub below : Box → Channel → ℕ → Box

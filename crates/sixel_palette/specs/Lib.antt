@@ -4,4 +4,5 @@ pub mod Lloyd
 pub mod Palette
 pub mod PaletteBound
 pub mod Refined
+pub mod Spread
 pub mod inside

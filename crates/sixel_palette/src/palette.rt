@@ -35,12 +35,14 @@ mod rank_bitmap;
 mod refined;
 mod register_color;
 mod relaxation;
+mod spread;
 
 use crate::palette::colors::shown_codes;
 use crate::palette::distance::is_apart_from;
 use crate::palette::farthest::choose;
 use crate::palette::indices::indices_of;
 pub use crate::palette::refined::{RefinedPalette, refine_palette};
+pub use crate::palette::spread::spread_palette;
 use sixel_base::{Result, SixelError};
 use std::alloc::{AllocError, Global};
 

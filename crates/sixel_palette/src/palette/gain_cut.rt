@@ -285,12 +285,18 @@ fn cut_along(
     best_cut(lower, upper, channel, sides, cut)
 }
 
-/// The least and the greatest value of a channel.
+/// The least and the greatest value of a channel, or of all if there are many bins.
 fn sides_of(bins: &[Bin], channel: Channel) -> Sides
     ensures order { result.low ≤ result.high }
     ensures high { result.high < 256 }
     ensures within { AreWithin channel result bins.now }
 {
+    if bins.len() > SIDES {
+        return Sides {
+            low: 0,
+            high: SIDES - 1,
+        };
+    }
     let mut low = SIDES - 1;
     let mut high = 0;
     for bin in bins {
@@ -314,7 +320,7 @@ fn side_of(bin: &Bin, channel: Channel) -> usize
         Channel::Red => bin.corner[0],
         Channel::Green => bin.corner[1],
         Channel::Blue => bin.corner[2],
-    })
+    }) % SIDES
 }
 
 /// Sums the bins of each value of a channel, from the least value on.
