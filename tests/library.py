@@ -11,13 +11,14 @@ OFF, DIFFUSION, ORDERED = range(3)
 
 RGBA, BGRA, RGB, BGR, INDEXED, CLEAR = range(6)
 REFINED, FARTHEST, GIVEN = range(3)
+AUTO = 2**32 - 1  # a tolerance
 
 
 class Encoding(ctypes.Structure):
     """icysixel_encoding. Its dithering is `kind` and `amount`. Its colors are one after another."""
 
     _fields_ = [(it, ctypes.c_size_t) for it in ("width", "height", "stride")]
-    _fields_ += [("reserved", ctypes.c_uint32)]
+    _fields_ += [("tolerance", ctypes.c_uint32)]
     _fields_ += [(it, ctypes.c_uint16) for it in ("max_colors", "color_count")]
     _fields_ += [(it, ctypes.c_uint8) for it in ("format", "pixel_height", "background")]
     _fields_ += [(it, ctypes.c_uint8) for it in ("palette", "kind", "amount", "form")]

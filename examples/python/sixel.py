@@ -22,7 +22,7 @@ class Layout(c.Structure):
 
 class Encoding(c.Structure):
     _fields_ = [(name, c.c_size_t) for name in ("width", "height", "stride")]
-    _fields_ += [("reserved", c.c_uint32)]
+    _fields_ += [("tolerance", c.c_uint32)]
     _fields_ += [(name, c.c_uint16) for name in ("max_colors", "color_count")]
     _fields_ += [(name, c.c_uint8) for name in ("format", "pixel_height", "background", "palette")]
     _fields_ += [(name, c.c_uint8) for name in ("dither", "amount", "form", "transparent")]

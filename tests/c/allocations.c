@@ -124,7 +124,7 @@ static const icysixel_encoding encodings[] = {
     [REFINED_PLAIN] = {COLUMNS(4), .max_colors = 16},
     [REFINED_ORDERED]
     = {COLUMNS(4), .max_colors = 16, .dithering = {ICYSIXEL_DITHER_ORDERED, 8}, TO_COMPACT},
-    [IN_PALETTE] = {COLUMNS(4), IN_TWO, DIFFUSED_BY_6, TO_COMPACT},
+    [IN_PALETTE] = {COLUMNS(4), IN_TWO, DIFFUSED_BY_6, TO_COMPACT, .tolerance = ICYSIXEL_AUTO},
     [BGRA] = {COLUMNS(4), IN_TWO, .format = ICYSIXEL_FORMAT_BGRA},
     [RGB] = {COLUMNS(3), .max_colors = 16, .format = ICYSIXEL_FORMAT_RGB},
     [DENSE_BGR] = {.width = 32, .height = 40, FARTHEST, .format = ICYSIXEL_FORMAT_BGR},
@@ -163,7 +163,7 @@ static uint32_t make_palette(icysixel *h, int kind, struct bytes *made)
                                                    indices, count, &chosen)
         : kind == REFINE ? icysixel_refine_palette(pixels, size, 16, colors, 16, witnesses, 17,
                                                    indices, count, &refined)
-        : icysixel_palette_indices(pixels, size, 32, two, 2, dithering, indices, count);
+        : icysixel_palette_indices(pixels, size, 32, two, 2, dithering, 0, indices, count);
     CHECK(chosen.colors + refined.colors == (code == ICYSIXEL_OK && kind < NEAREST ? 16 : 0));
     append(made, indices, code == ICYSIXEL_OK ? count : 0);
     return (void)h, code;

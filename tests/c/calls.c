@@ -765,8 +765,8 @@ static void test_widest(void)
         e.dithering = *row;
         for (e.form = 0; e.form <= ICYSIXEL_FORM_COMPACT; e.form++)
             CHECK(has_text(ENCODE(pixels), start, blues[e.form]));
-        RETURNS(OK,
-                icysixel_palette_indices(SIZED(pixels), 1000000, red_blue, 2, row, SIZED(found)));
+        RETURNS(OK, icysixel_palette_indices(SIZED(pixels), 1000000, red_blue, 2, row, 0,
+                                             SIZED(found)));
         CHECK(memcmp(found, indices, sizeof found) == 0);
     }
     RETURNS(OK,
@@ -788,14 +788,37 @@ static void test_indices(void)
     const icysixel_dithering *off = &(icysixel_dithering){0};
     const icysixel_color *two = black_white;
     uint8_t i[4] = {7, 7, 7, 7};
-    RETURNS(BUFFER_TOO_SMALL, icysixel_palette_indices(gray, 12, 3, two, 2, off, i, 2));
-    RETURNS(BAD_DIMENSIONS, icysixel_palette_indices(gray, 12, 0, two, 2, off, i, 4));
-    RETURNS(BUFFER_MISMATCH, icysixel_palette_indices(gray, 12, 2, two, 2, off, i, 4));
-    RETURNS(COLOR_COUNT, icysixel_palette_indices(gray, 12, 3, NULL, 0, off, i, 4));
+    RETURNS(BUFFER_TOO_SMALL, icysixel_palette_indices(gray, 12, 3, two, 2, off, 0, i, 2));
+    RETURNS(BAD_DIMENSIONS, icysixel_palette_indices(gray, 12, 0, two, 2, off, 0, i, 4));
+    RETURNS(BUFFER_MISMATCH, icysixel_palette_indices(gray, 12, 2, two, 2, off, 0, i, 4));
+    RETURNS(COLOR_COUNT, icysixel_palette_indices(gray, 12, 3, NULL, 0, off, 0, i, 4));
     CHECK(memcmp(i, "\7\7\7\7", 4) == 0);
     EACH(row, found) {
-        RETURNS(OK, icysixel_palette_indices(gray, 12, 3, two, 2, &row->dithering, i, 3));
+        RETURNS(OK, icysixel_palette_indices(gray, 12, 3, two, 2, &row->dithering, 0, i, 3));
         CHECK(memcmp(i, row->indices, 4) == 0);
+    }
+}
+
+/* The second pixel has squared distances of 36 and 16 to the entries. It keeps the first one if the
+ * tolerance is above 20. The mean squared error is 8, so the automatic tolerance is 12. */
+static void test_tolerance(void)
+{
+    static const uint8_t pixels[] = {0, 0, 0, 255, 6, 0, 0, 255};
+    static const icysixel_color dark[] = {{0, 0, 0}, {10, 0, 0}};
+    static const struct { uint32_t tolerance; uint8_t index; const char *end; } runs[] = {
+        {0, 1, "#0@?$#1?@$-\033\\"}, {20, 1, "#0@?$#1?@$-\033\\"}, {21, 0, "#0@@$-\033\\"},
+        {ICYSIXEL_AUTO - 1, 0, "#0@@$-\033\\"}, {ICYSIXEL_AUTO, 1, "#0@?$#1?@$-\033\\"},
+    };
+    icysixel_encoding e = {.width = 2, .height = 1, .palette = ICYSIXEL_PALETTE_GIVEN};
+    memcpy(e.colors, dark, sizeof dark);
+    e.color_count = 2;
+    EACH(it, runs) {
+        uint8_t found[2] = {7, 7};
+        e.tolerance = it->tolerance;
+        CHECK(has_text(ENCODE(pixels), "\033P9;1;0q\"1;1;2;1#0;2;0;0;0#1;2;4;0;0", it->end));
+        RETURNS(OK, icysixel_palette_indices(SIZED(pixels), 2, dark, 2, &e.dithering, it->tolerance,
+                                             SIZED(found)));
+        CHECK(found[0] == 0 && found[1] == it->index);
     }
 }
 
@@ -862,7 +885,8 @@ int main(void)
         TEST(transparent), TEST(cropped_rows), TEST(pixels), TEST(errors), TEST(drawn_height),
         TEST(raster_size), TEST(take_pixels), TEST(new_on_full_handle), TEST(registers),
         TEST(settings), TEST(encode), TEST(shapes), TEST(take_text), TEST(encodings), TEST(formats),
-        TEST(widest), TEST(palettes), TEST(indices), TEST(code_texts), TEST(version),
+        TEST(widest), TEST(palettes), TEST(indices), TEST(tolerance), TEST(code_texts),
+        TEST(version),
     };
     for (size_t i = 0; i < COUNT_OF(tests); i++) subject = tests[i].name, tests[i].test();
     icysixel_free(h);

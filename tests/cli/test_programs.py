@@ -4,6 +4,7 @@ The expected bytes are computed by hand from docs/FORMAT.md.
 """
 import hashlib
 import itertools
+import math
 import os
 import random
 import re
@@ -36,15 +37,24 @@ CALLS_MEMORY = 14_800
 
 # The size of a picture, arguments of `draw` that state its defaults, and arguments that do not.
 DEFAULTS = [
-    (24, 32, "-c 48 -d diffusion -s 7", ["-c 47", "-c 49", "-d none", "-d ordered", "-s 8"]),
+    (24, 32, "-c 48 -d diffusion -s 7", ["-c 47", "-c 49", "-d none", "-s 8", "-t 0"]),
     (15, 17, "-c 16", ["-c 15", "-c 17"]),
     (80, 60, "-c 256", ["-c 255"]),
-    (24, 32, "-d ordered -s 16", ["-s 17 -d ordered"]),
 ]
 
-# How three pixels of gray 90 are drawn in black and white. With 8 eighths the second one is
-# 90 + 90 * 7 / 16 = 129, with 7 eighths 124, and the third one then 90 + 124 * 7 / 8 * 7 / 16 = 138.
-STRENGTHS = {"": [0, 255, 0], "-s 8": [0, 255, 0], "-s 7": [0, 0, 255], "-s 1": [0, 0, 0]}
+# Arguments of `draw`, three grays, and how they are drawn in black and white. 90 and 7/16 of what
+# it passes on is 129 with 8 eighths, and 124 with 7. The squared distances of 150 are 67500 from
+# black and 33075 from white. The mean of the least ones is 30150 and 36450 in the last two lines.
+GRAYS = [
+    ("-t 0", [90, 90, 90], [0, 255, 0]),
+    ("-t 0 -s 8", [90, 90, 90], [0, 255, 0]),
+    ("-s 7 -t 0", [90, 90, 90], [0, 0, 255]),
+    ("-s 1 -t 0", [90, 90, 90], [0, 0, 0]),
+    ("-d none -t 34425", [90, 150, 150], [0, 255, 255]),
+    ("-t 34426 -d none", [90, 150, 150], [0, 0, 0]),
+    ("-d none", [90, 150, 150], [0, 255, 255]),
+    ("-d none", [120, 150, 150], [0, 0, 0]),
+]
 
 # A folder of files of other programs, with expected.tsv, whose first line has the titles.
 SAMPLES = os.environ.get("SAMPLES")
@@ -97,30 +107,36 @@ class TestPrograms(ProgramTest):
 
     def test_defaults(self):
         """Arguments that state the defaults change nothing, others do."""
-        for program, (width, height, same, others) in itertools.product(
-            builds_of("sixel"), DEFAULTS
-        ):
-            with self.subTest(program=program.name, same=same):
-                noise = random.Random(1).randbytes(3 * width * height)
-                picture = b"P6 %d %d 255\n%s" % (width, height, noise)
-                kind = "-d ordered" if "ordered" in same else ""
-                text = self.drawn(program, kind, picture)
-                self.assertEqual(text, self.drawn(program, same, picture))
-                for words in others:
-                    self.assertNotEqual(text, self.drawn(program, words, picture), words)
+        for program in builds_of("sixel"):
+            for width, height, same, others in DEFAULTS:
+                with self.subTest(program=program.name, same=same):
+                    noise = random.Random(1).randbytes(3 * width * height)
+                    picture = b"P6 %d %d 255\n%s" % (width, height, noise)
+                    text = self.drawn(program, "", picture)
+                    self.assertEqual(text, self.drawn(program, same, picture))
+                    for words in others:
+                        self.assertNotEqual(text, self.drawn(program, words, picture), words)
 
-    def test_strengths(self):
-        """In a given palette the whole error is passed on, or as much as an option states."""
+    def test_black_and_white(self):
+        """Strengths, tolerances and their defaults in a given palette."""
+        noise = random.Random(1).randbytes(20000)
+        error = sum(3 * min(it, 255 - it) ** 2 for it in noise) // len(noise)
+        levels, picture = math.isqrt(error), b"P5 200 100 255\n" + noise
         with tempfile.NamedTemporaryFile() as file:
             Path(file.name).write_bytes(b"P5 2 1 255\n\0\xff")
-            for program, (strength, grays) in itertools.product(
-                builds_of("sixel"), STRENGTHS.items()
-            ):
-                with self.subTest(program=program.name, strength=strength):
-                    words = f"{strength} -p {file.name}"
-                    text = self.drawn(program, words, b"P5 3 1 255\nZZZ")
-                    row = run(program, "pam", stdin=text)[1].split(b"ENDHDR\n")[1][:12]
-                    self.assertEqual(list(row[::4]), grays)
+            for program in builds_of("sixel"):
+                for words, grays, drawn in GRAYS:
+                    with self.subTest(program=program.name, words=words):
+                        words += f" -p {file.name}"
+                        text = self.drawn(program, words, b"P5 3 1 255\n" + bytes(grays))
+                        pixels = run(program, "pam", stdin=text)[1].split(b"ENDHDR\n")[1]
+                        self.assertEqual(list(pixels[:12:4]), drawn)
+                ordered = [
+                    self.drawn(program, f"-p {file.name} -d ordered {it}", picture)
+                    for it in ("", f"-t {error} -s {levels}", f"-t {error} -s {levels + 1}")
+                ]
+                self.assertEqual(ordered[0], ordered[1])
+                self.assertNotEqual(ordered[0], ordered[2])
 
     def test_files(self):
         """Each file is drawn, also after one that fails. Names follow the options."""

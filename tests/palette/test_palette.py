@@ -5,6 +5,7 @@ choose others.
 """
 import ctypes
 import itertools
+import math
 import os
 import random
 import re
@@ -13,8 +14,9 @@ import unittest
 from pathlib import Path
 
 from build import needs, run
-from library import CLEAR, COMPACT, DIFFUSION, INDEXED, OFF, ORDERED, PLAIN, REFINED, SHARED
-from library import Encoding, call, encoded
+from library import AUTO, CLEAR, COMPACT, DIFFUSION, INDEXED, OFF, ORDERED, PLAIN, REFINED
+from library import SHARED, Encoding, call, encoded
+from palette.refined import distance, grid_color, nearest, refined_entries
 
 COUNT, SEED = int(os.environ.get("FUZZ_COUNT", "300")), int(os.environ.get("FUZZ_SEED", "1"))
 # Where the error of a pixel goes: sixteenths, columns ahead, rows down. The last takes the rest.
@@ -23,8 +25,8 @@ LIBSIXEL = "sixel2png -i {file} -o - | convert png:- -depth 8 rgb:-"
 # ImageMagick 6 applies the palette of a SIXEL file only as it writes a format with a palette.
 IMAGEMAGICK = "convert six:{file} miff:- | convert miff:- -depth 8 rgb:-"
 
-# The summed errors of refined palettes of the pictures below, by the number of colors. They are
-# those of a model of the rule in docs/FORMAT.md.
+# The summed errors of the refined palettes of the pictures below, by the number of colors. They are
+# those of `refined_entries`.
 ERRORS = {
     "sky": {256: 136412, 64: 537342, 16: 2155383},
     "rings": {256: 237718, 64: 1598323, 16: 7078477},
@@ -38,39 +40,47 @@ class Refined(ctypes.Structure):
     _fields_ += [("error", ctypes.c_uint64), ("apart", ctypes.c_uint32)]
 
 
-def distance(one, other):
-    return sum((a - b) ** 2 for a, b in zip(one, other))
-
-
-def nearest(colors, color):
-    """The index of the nearest entry, the first of equals."""
-    return min(range(len(colors)), key=lambda it: (distance(colors[it], color), it))
-
-
 def nearest_of(colors, pixels):
     return [nearest(colors, it) if it[3] >= 128 else 0 for it in pixels]
 
 
-def grid_color(color):
-    """The color that a register shows for a color: its percentages, rounded, as bytes."""
-    return tuple(((it * 100 + 127) // 255 * 255 + 50) // 100 for it in color)
+def mean_error(colors, pixels):
+    """The mean squared error of a palette, and whether it has one."""
+    errors = [distance(colors[nearest(colors, it)], it) for it in pixels if it[3] >= 128]
+    return sum(errors) // max(len(errors), 1), sum(errors) > 0
 
 
-def ordered(width, pixels, colors, amplitude):
-    """Indices with the pattern of Kolas, which moves a channel by up to half the amplitude."""
-    targets = []
-    for place, (*color, alpha) in enumerate(pixels):
-        row, column = divmod(place, width)
-        for channel in range(3):
-            threshold = (column + 237 * row + 112 * channel) * 119 % 256
-            moved = color[channel] + (2 * threshold - 255) * amplitude // 512
-            color[channel] = min(max(moved, 0), 255)
-        targets.append((*color, alpha))
-    return nearest_of(colors, targets)
+def automatic_tolerance(colors, pixels):
+    mean, has_error = mean_error(colors, pixels)
+    return max(12, mean) if has_error else 0
 
 
-def diffused(width, pixels, colors, strength):
-    """Indices by error diffusion: each visit adds shares of its error to pixels still to come."""
+def automatic_amplitude(colors, pixels):
+    return min(math.isqrt(mean_error(colors, pixels)[0]), 255)
+
+
+def chosen(colors, color, tolerance, neighbors):
+    """The index for a color that keeps a neighbor's entry, the first of equally near ones."""
+    best = nearest(colors, color)
+    kept = min(neighbors, key=lambda it: distance(colors[it], color), default=best)
+    is_kept = distance(colors[kept], color) < distance(colors[best], color) + tolerance
+    return kept if is_kept else best
+
+
+def moved(width, place, color, amplitude):
+    """A color moved by the pattern of Kolas, by up to half the amplitude."""
+    row, column = divmod(place, width)
+    for channel in range(3):
+        threshold = (column + 237 * row + 112 * channel) * 119 % 256
+        offset = (2 * threshold - 255) * amplitude // 512
+        yield min(max(color[channel] + offset, 0), 255)
+
+
+def mapped(width, pixels, colors, amplitude=0, strength=0, tolerance=0):
+    """Indices with the pattern, error diffusion, and entries of neighbors that are kept.
+
+    Each visit adds shares of its error to pixels still to come.
+    """
     height = len(pixels) // width
     received = [[0, 0, 0] for _ in pixels]
     indices = [0] * len(pixels)
@@ -81,8 +91,12 @@ def diffused(width, pixels, colors, strength):
         *color, alpha = pixels[place]
         if alpha < 128:
             continue
+        color = moved(width, place, color, amplitude)
         wanted = [min(max(16 * c + e, 0), 4080) for c, e in zip(color, received[place])]
-        indices[place] = nearest(colors, [(it + 8) // 16 for it in wanted])
+        around = [place - ahead] * (step > 0) + [place - width] * (row % 6 > 0)
+        neighbors = [indices[it] for it in around if pixels[it][3] >= 128]
+        target = [(it + 8) // 16 for it in wanted]
+        indices[place] = chosen(colors, target, tolerance, neighbors)
         for channel, entry in enumerate(colors[indices[place]]):
             error = rest = (wanted[channel] - 16 * entry) * strength // 8
             for part, right, down in SHARES:
@@ -154,22 +168,30 @@ class PaletteTest(unittest.TestCase):
             colors = [tuple(rng.randbytes(3)) for _ in range(rng.randint(1, 9))]
             colors += rng.sample(colors, rng.randint(0, 1))
             amount = rng.choice([1, 3, 7, 8, 64, 255])
-            cases = [
-                (OFF, nearest_of(colors, pixels)),
-                (ORDERED, ordered(width, pixels, colors, amount)),
-                (DIFFUSION, diffused(width, pixels, colors, min(amount, 8))),
+            exact, kept = {"tolerance": 0}, {"tolerance": rng.choice([1, 12, 200, 5000])}
+            auto = {"tolerance": automatic_tolerance(colors, pixels)}
+            amplitude = automatic_amplitude(colors, pixels)
+            cases = [(OFF, amount, it, it) for it in (exact, kept)]
+            cases += [(ORDERED, amount, it, it | {"amplitude": amount}) for it in (exact, kept)]
+            strength = {"strength": min(amount, 8)}
+            cases += [(DIFFUSION, amount, it, it | strength) for it in (exact, kept)]
+            cases += [
+                (OFF, amount, {"tolerance": AUTO}, auto),
+                (ORDERED, 0, {"tolerance": AUTO}, auto | {"amplitude": amplitude}),
+                (DIFFUSION, 0, {"tolerance": AUTO}, auto | {"strength": 7}),
             ]
-            for kind, expected in cases:
-                with self.subTest(turn=turn, kind=kind, amount=amount):
+            for kind, number, passed, options in cases:
+                with self.subTest(turn=turn, kind=kind, amount=number, **passed):
                     found = ctypes.create_string_buffer(len(pixels))
                     call(
                         "icysixel_palette_indices", pixels, 4 * len(pixels), width, colors,
-                        len(colors), bytes([kind, amount]), found, len(pixels),
+                        len(colors), bytes([kind, number]), *passed.values(), found, len(pixels),
                     )
-                    self.assertEqual(list(found.raw), expected)
+                    self.assertEqual(list(found.raw), mapped(width, pixels, colors, **options))
+            self.assertEqual(mapped(width, pixels, colors), nearest_of(colors, pixels))
 
     def test_refined(self):
-        """A refined palette is of register colors, and its error and witnesses are true."""
+        """A refined palette is the model's, and its error and witnesses are true."""
         rng = random.Random(SEED)
         for turn in range(COUNT):
             _, pixels = image(rng)
@@ -184,10 +206,7 @@ class PaletteTest(unittest.TestCase):
                 parts = [tuple(colors.raw[it : it + 3]) for it in range(0, 768, 3)]
                 entries = parts[: properties.colors]
                 seen = {it[:3] for it in pixels if it[3] >= 128}
-                self.assertLessEqual(len(entries), most)
-                self.assertEqual(entries, [grid_color(it) for it in entries])
-                if len(seen) <= most:
-                    self.assertLessEqual({grid_color(it) for it in seen}, set(entries))
+                self.assertEqual(entries, refined_entries(pixels, most))
                 indices = nearest_of(entries, pixels)
                 self.assertEqual(list(found.raw), indices)
                 opaque = [(at, it) for at, it in zip(indices, pixels) if it[3] >= 128]
@@ -232,13 +251,13 @@ class PaletteTest(unittest.TestCase):
         data, count = bytes(itertools.chain(*pixels)), len(pixels)
         models = [
             (OFF, 0, nearest_of(colors, pixels)),
-            (ORDERED, 16, ordered(count, pixels, colors, 16)),
-            (DIFFUSION, 6, diffused(count, pixels, colors, 6)),
+            (ORDERED, 16, mapped(count, pixels, colors, amplitude=16)),
+            (DIFFUSION, 6, mapped(count, pixels, colors, strength=6)),
         ]
         for (kind, amount, indices), form in itertools.product(models, (PLAIN, COMPACT)):
             found, dithering = ctypes.create_string_buffer(count), bytes([kind, amount])
             source = data, len(data), count, colors, len(colors)
-            call("icysixel_palette_indices", *source, dithering, found, count)
+            call("icysixel_palette_indices", *source, dithering, 0, found, count)
             self.assertEqual(list(found.raw), indices)
             options = {"width": count, "height": 1, "form": form}
             encoding = Encoding(kind=kind, amount=amount, **options).given(colors)

@@ -21,7 +21,7 @@ use Rattle.icy_sixel.specs.Receiver.{growths, is_over, end_fault, end_wants}
 use Rattle.icy_sixel.specs.inside.Session.{IsWhole}
 use Rattle.icy_sixel.specs.Receiver.{has_ended}
 use Rattle.sixel_decoder.proofs.ParserSteps.{Faults-along}
-use Rattle.sixel_decoder.proofs.ChunkReads.{or_right}
+use Rattle.sixel_decoder.proofs.ChunkPlaces.{or_right}
 use Rattle.sixel_decoder.proofs.Chunks.{first_terminator-ended}
 use Rattle.sixel_decoder.proofs.Finality.{front_ended, count_ended, settled_ended}
 use Rattle.sixel_decoder.proofs.Finality.{status_ended, dcs_count_ended, dcs_fault_ended}

@@ -1,6 +1,6 @@
 //! The SIXEL output of an image, by [`sixel_encoder`].
 
 pub use sixel_encoder::{
-    Dither, EncodeOptions, TextForm, one_drawing, palette_indices, sixel_encode,
-    sixel_encode_default,
+    Amplitude, Dither, EncodeOptions, Mapping, TextForm, Tolerance, one_drawing, palette_indices,
+    sixel_encode, sixel_encode_default,
 };

@@ -14,7 +14,8 @@ pub use decoder::{
     SixelFeedResult, SixelFeedStatus, SixelStreamDecoder, sixel_decode, sixel_decode_from_dcs,
 };
 pub use encoder::{
-    Dither, EncodeOptions, TextForm, palette_indices, sixel_encode, sixel_encode_default,
+    Amplitude, Dither, EncodeOptions, Mapping, TextForm, Tolerance, palette_indices, sixel_encode,
+    sixel_encode_default,
 };
 pub use receiver::{BandStatus, Height, Received, ReceivedBand, ReceivedImage, SixelReceiver};
 pub use script::Status;

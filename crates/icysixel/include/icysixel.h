@@ -134,10 +134,11 @@ typedef struct {
     uint32_t apart;   /* the minimum squared distance of two witnesses, or 0 without any */
 } icysixel_refined;
 
-/* How each pixel gets an entry of the palette. Zeros mean the nearest entry. */
+/* How each pixel gets an entry of the palette. Zeros mean the nearest entry. An amount of 0 is 7
+ * for diffusion, and for the pattern the square root of the palette's mean squared error. */
 typedef struct {
     uint8_t kind;   /* an enum icysixel_dither; any other number is ICYSIXEL_DITHER_OFF */
-    uint8_t amount; /* diffusion: 1 to 8 eighths of the error; ordered: the amplitude in levels */
+    uint8_t amount; /* diffusion: eighths of the error; ordered: the amplitude in levels; or 0 */
 } icysixel_dithering;
 
 /* Pixels, and how they are encoded. Set `width` and `height`. Zeros elsewhere mean RGBA rows
@@ -147,7 +148,7 @@ typedef struct {
     size_t width;         /* pixels in a row */
     size_t height;        /* rows */
     size_t stride;        /* bytes from the start of a row to the next, or 0 for no gaps */
-    uint32_t reserved;    /* no effect */
+    uint32_t tolerance;   /* of runs, a squared distance, or ICYSIXEL_AUTO */
     uint16_t max_colors;  /* entries of a refined or farthest palette at most, or 0 for 256 */
     uint16_t color_count; /* colors at `colors` */
     uint8_t format;       /* an enum icysixel_format; numbers above 5 are RGBA, too */
@@ -223,6 +224,9 @@ enum icysixel_background {
     ICYSIXEL_BACKGROUND_TRANSPARENT = 0, /* transparent pixels stay as they are: P2 is 1 */
     ICYSIXEL_BACKGROUND_OPAQUE = 1       /* they get the color of register 0: P2 is 0 */
 };
+
+/* A tolerance by the palette: its mean squared error, at least 12, or 0 if there is no error. */
+#define ICYSIXEL_AUTO UINT32_MAX
 
 /* Palettes of encoded images. Indexed pixels have the given palette in each mode. */
 enum icysixel_palette_mode {
@@ -486,7 +490,10 @@ void icysixel_set_clip(icysixel *handle, size_t width, size_t height);
  * - A farthest palette has at most max_colors entries, where 1 is taken as 2 and a number above 256
  *   as 256. It has no dithering.
  * - In a given palette pixels have the indices of icysixel_palette_indices. Indexed pixels have
- *   their own, without dithering.
+ *   their own, without dithering or tolerance.
+ *
+ * With a tolerance a pixel keeps the entry of the pixel before or above, unless the nearest entry
+ * is nearer by the tolerance or more. So runs are longer, and the output is shorter.
  *
  * The errors, in this order, are:
  *
@@ -572,10 +579,11 @@ uint32_t icysixel_refine_palette(const uint8_t *pixels, size_t length, uint16_t 
 
 /* Writes the palette index of each pixel in a given palette of 1 to 256 colors. It needs no handle.
  *
- * The pixels are rows of `width` without gaps. Without dithering an opaque pixel has the index of
- * its nearest entry, the first of these. A transparent pixel has index 0, and its color has no
- * effect. `indices` has a capacity of at least one byte for each pixel, and the bytes after these
- * are unchanged. The errors, in this order, are:
+ * The pixels are rows of `width` without gaps. Without dithering and tolerance an opaque pixel has
+ * the index of its nearest entry, the first of these. A transparent pixel has index 0, and its
+ * color has no effect. The tolerance is that of icysixel_encoding. `indices` has a capacity of at
+ * least one byte for each pixel, and the bytes after these are unchanged. The errors, in this
+ * order, are:
  *
  * - ICYSIXEL_BUFFER_TOO_SMALL;
  * - ICYSIXEL_BAD_DIMENSIONS if `width` is 0;
@@ -584,8 +592,8 @@ uint32_t icysixel_refine_palette(const uint8_t *pixels, size_t length, uint16_t 
  * - ICYSIXEL_OUT_OF_MEMORY. */
 uint32_t icysixel_palette_indices(const uint8_t *pixels, size_t length, size_t width,
                                   const icysixel_color *colors, size_t count,
-                                  const icysixel_dithering *dithering, uint8_t *indices,
-                                  size_t index_capacity);
+                                  const icysixel_dithering *dithering, uint32_t tolerance,
+                                  uint8_t *indices, size_t index_capacity);
 
 /* -- Errors -- */
 

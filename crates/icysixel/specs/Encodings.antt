@@ -16,10 +16,13 @@ use Rattle.sixel_encoder.specs.Form.{IsFormText}
 use Rattle.sixel_encoder.specs.IndexedDrawing.{IsPaletteText, IsTextOf, index_range_fault}
 use Rattle.sixel_encoder.specs.IndexedDrawing.{indexed_drawing}
 use Rattle.sixel_encoder.specs.RefinedText.{IsRefinedText}
+use Rattle.sixel_encoder.specs.declared.dither.Amplitude.TheVariants as amplitude
 use Rattle.sixel_encoder.specs.declared.dither.Dither.{Dither}
 use Rattle.sixel_encoder.specs.declared.dither.Dither.TheVariants.{Off, Diffusion, Ordered}
 use Rattle.sixel_encoder.specs.declared.form.TextForm.{TextForm}
 use Rattle.sixel_encoder.specs.declared.form.TextForm.TheVariants.{Plain, Compact}
+use Rattle.sixel_encoder.specs.declared.mapping.Mapping.{Mapping}
+use Rattle.sixel_encoder.specs.declared.mapping.Tolerance.TheVariants.{Auto, Squared}
 use Rattle.icysixel.specs.Code.{IsCodeOf, ReturnsBy}
 use Rattle.icysixel.specs.Formats.{is_rgba, pixel_len, rgba_pixels}
 use Rattle.icysixel.specs.Kept.{IsImageKept, kept_text}
@@ -35,12 +38,21 @@ use Rattle.icysixel.specs.declared.state.State.{State}
 
 -- ---- numbers
 
--- 1 is error diffusion, 2 an ordered pattern, and any other number no dithering
+-- 1 is error diffusion, 2 an ordered pattern, and any other number no dithering. An amount of 0 is 7
+-- eighths of the error, or the amplitude of the palette.
 abbrev pub dither_of : Dithering → Dither
 dither_of dithering =
-    if dithering.kind == 1 then Diffusion dithering.amount
-    else if dithering.kind == 2 then Ordered dithering.amount
+    if dithering.kind == 1 then Diffusion (if dithering.amount == 0 then 7 else dithering.amount)
+    else if dithering.kind == 2
+    then Ordered (if dithering.amount == 0 then amplitude.Auto else amplitude.Levels dithering.amount)
     else Off
+
+-- the greatest tolerance stands for the automatic one
+abbrev pub mapping_of : Dithering → ℕ → Mapping
+mapping_of dithering tolerance = record {
+  dither = dither_of dithering;
+  tolerance = if tolerance == 0xffff_ffff then Auto else Squared tolerance;
+}
 
 -- 0 is the plain form, and any other number the compact one
 abbrev pub form_of : Encoding → TextForm
@@ -132,11 +144,13 @@ colors_fault Indexed encoding image indices =
 -- the bytes are the text of the image
 abbrev pub IsTextIn : PaletteMode → Encoding → Image → List ℕ → List ℕ → Type 0
 IsTextIn Refined encoding image indices text =
-    IsRefinedText image (color_limit encoding) (dither_of encoding.dithering) (form_of encoding) text
+    IsRefinedText image (color_limit encoding) (mapping_of encoding.dithering encoding.tolerance)
+    (form_of encoding) text
 IsTextIn Farthest encoding image indices text =
     IsFormText (form_of encoding) image (color_limit encoding) text
 IsTextIn Given encoding image indices text =
-    IsPaletteText image (given_colors encoding) (dither_of encoding.dithering) (form_of encoding) text
+    IsPaletteText image (given_colors encoding) (mapping_of encoding.dithering encoding.tolerance)
+    (form_of encoding) text
 IsTextIn Indexed encoding image indices text =
     IsTextOf (form_of encoding) (indexed_drawing image (given_colors encoding) indices) text
 

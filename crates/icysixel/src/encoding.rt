@@ -2,10 +2,11 @@
 
 ghost use Rattle.std.specs.Prelude.{◌≡◌};
 ghost use Rattle.icysixel.specs.Encodings.{background_of, color_limit, dither_of, form_of};
-ghost use Rattle.icysixel.specs.Encodings.{format_of, given_colors, mode_of, ratio_of};
+ghost use Rattle.icysixel.specs.Encodings.{format_of, given_colors, mapping_of, mode_of};
+ghost use Rattle.icysixel.specs.Encodings.{ratio_of};
 
 use crate::format::Format;
-use icy_sixel::encoder::{Dither, TextForm};
+use icy_sixel::encoder::{Amplitude, Dither, Mapping, TextForm, Tolerance};
 use icy_sixel::{BackgroundMode, PixelAspectRatio};
 
 /// How each pixel gets an entry of the palette.
@@ -15,20 +16,39 @@ pub struct Dithering {
     /// 1 is error diffusion, 2 an ordered pattern, and any other number none.
     pub kind: u8,
     /// The eighths of the error that are diffused, or the amplitude of the pattern.
+    ///
+    /// 0 means 7 eighths, or the amplitude of the palette.
     pub amount: u8,
 }
 
 impl Dithering {
+    /// How pixels get their entries, with this tolerance.
+    pub fn mapping(&self, tolerance: u32) -> Mapping
+        ensures { result ≡ mapping_of self.now tolerance }
+    {
+        let tolerance = if tolerance == u32::MAX {
+            Tolerance::Auto
+        } else {
+            Tolerance::Squared(tolerance)
+        };
+        Mapping {
+            dither: self.dither(),
+            tolerance,
+        }
+    }
+
     /// The kind of dithering.
-    pub fn dither(&self) -> Dither
+    fn dither(&self) -> Dither
         ensures { result ≡ dither_of self.now }
     {
-        match self.kind {
-            1 => Dither::Diffusion {
-                strength: self.amount,
+        match (self.kind, self.amount) {
+            (1, 0) => Dither::Diffusion { strength: 7 },
+            (1, strength) => Dither::Diffusion { strength },
+            (2, 0) => Dither::Ordered {
+                amplitude: Amplitude::Auto,
             },
-            2 => Dither::Ordered {
-                amplitude: self.amount,
+            (2, levels) => Dither::Ordered {
+                amplitude: Amplitude::Levels(levels),
             },
             _ => Dither::Off,
         }
@@ -56,7 +76,10 @@ pub struct Encoding {
     pub height: usize,
     /// The number of bytes from row to row, or 0 for rows without gaps.
     pub stride: usize,
-    pub reserved: u32,
+    /// The squared distance to a nearer entry at which a pixel keeps a neighbor's.
+    ///
+    /// The greatest number means the automatic one.
+    pub tolerance: u32,
     /// The most entries of a palette that is not given, where 0 means 256.
     pub max_colors: u16,
     /// The number of colors that are given.

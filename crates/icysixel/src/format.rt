@@ -42,19 +42,35 @@ impl Format {
     }
 
     /// The first pixels of these bytes, in RGBA.
-    #[tactic(auto, unfolding(sixel_base::specs::Picture::joined))]
     pub fn to_rgba(self, alloc: Global, bytes: &[u8], count: usize) -> Result<Vec<u8>, AllocError>
         requires within { count * pixel_len self ≤ length bytes.now }
         requires counted { 4 * count ≤ usize_max }
         ensures pixels { IfOk result (λ pixels. pixels.items ≡ rgba_pixels self bytes.now count) }
         ensures size { IfOk result (λ pixels. length pixels.items ≡ 4 * count) }
     {
-        let mut pixels = Vec::with_capacity(alloc, 4 * count)?;
-        'pixels: for pixel in 0..count {
-            let rgba = self.rgba(self.pixel_at(bytes, pixel));
-            pixels.extend_from_slice(&rgba)?;
+        let mut pixels = Vec::from_elem(alloc, 0, 4 * count)?;
+        // A loop for each format, without a branch for each pixel.
+        match self {
+            Format::Bgra => Format::Bgra.fill(bytes, count, &mut pixels),
+            Format::Rgb => Format::Rgb.fill(bytes, count, &mut pixels),
+            Format::Bgr => Format::Bgr.fill(bytes, count, &mut pixels),
+            format => format.fill(bytes, count, &mut pixels),
         }
         Ok(pixels)
+    }
+
+    /// Writes the first pixels of these bytes, in RGBA.
+    #[inline(always)]
+    #[tactic(auto, unfolding(sixel_base::specs::Picture::joined))]
+    fn fill(self, bytes: &[u8], count: usize, pixels: &mut [u8])
+        requires within { count * pixel_len self ≤ length bytes.now }
+        requires size { length pixels.old ≡ 4 * count }
+        ensures { pixels.new ≡ rgba_pixels self bytes.now count }
+    {
+        'pixels: for pixel in 0..count {
+            let rgba = self.rgba(self.pixel_at(bytes, pixel));
+            pixels[4 * pixel..4 * pixel + 4].copy_from_slice(&rgba);
+        }
     }
 
     /// The bytes of a pixel.

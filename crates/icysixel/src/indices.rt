@@ -4,7 +4,7 @@ ghost use Rattle.std.specs.Prelude.{◌≡◌, ◌≢◌, ◌/◌, ◌<◌, ◌�
 ghost use Rattle.sixel_base.specs.CallFault.{CallFault};
 ghost use Rattle.sixel_encoder.specs.Dithering.{AreDithered, indices_fault};
 ghost use Rattle.icysixel.specs.Code.{IsCallCode};
-ghost use Rattle.icysixel.specs.Encodings.{dither_of};
+ghost use Rattle.icysixel.specs.Encodings.{mapping_of};
 
 use crate::code::{Code, code_of};
 use crate::encoding::Dithering;
@@ -19,6 +19,7 @@ pub extern "C" fn icysixel_palette_indices(
     width: usize,
     colors: &[[u8; 3]],
     dithering: &Dithering,
+    tolerance: u32,
     indices: &mut [u8],
 ) -> u32
     ensures small { length indices.old < length pixels.now / 4 → result ≡ 6 }
@@ -28,7 +29,7 @@ pub extern "C" fn icysixel_palette_indices(
     ensures memory { length pixels.now / 4 ≤ length indices.old
         → indices_fault (length pixels.now) width (length colors.now) ≡ None
         → result ≢ 0 → result ≡ 8 }
-    ensures indices { result ≡ 0 → AreDithered (dither_of dithering.now) width pixels.now
+    ensures indices { result ≡ 0 → AreDithered (mapping_of dithering.now tolerance) width pixels.now
         colors.now (take (length pixels.now / 4) indices.new) }
     ensures after { result ≡ 0 → drop (length pixels.now / 4) indices.new
         ≡ drop (length pixels.now / 4) indices.old }
@@ -37,7 +38,7 @@ pub extern "C" fn icysixel_palette_indices(
     if indices.len() < pixels.len() / 4 {
         return Code::BufferTooSmall as u32;
     }
-    match palette_indices(alloc, pixels, width, colors, dithering.dither()) {
+    match palette_indices(alloc, pixels, width, colors, dithering.mapping(tolerance)) {
         Ok(found) => {
             indices[..found.len()].copy_from_slice(&found);
             Code::Success as u32

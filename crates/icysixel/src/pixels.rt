@@ -167,13 +167,13 @@ impl Encoding {
         let form = self.text_form();
         match self.mode() {
             PaletteMode::Refined => {
-                let dither = self.dithering.dither();
-                encode_refined(alloc, source, self.color_limit(), dither, form)
+                let mapping = self.dithering.mapping(self.tolerance);
+                encode_refined(alloc, source, self.color_limit(), mapping, form)
             }
             PaletteMode::Farthest => encode_source(alloc, source, self.color_limit(), form),
             PaletteMode::Given => {
-                let dither = self.dithering.dither();
-                encode_in_palette(alloc, source, self.given_colors(), dither, form)
+                let mapping = self.dithering.mapping(self.tolerance);
+                encode_in_palette(alloc, source, self.given_colors(), mapping, form)
             }
             PaletteMode::Indexed => {
                 encode_with_indices(alloc, source, self.given_colors(), indices, form)

@@ -19,13 +19,13 @@ use Rattle.sixel.specs.declared.picture_fault.PictureFault.{PictureFault}
 use Rattle.sixel.specs.declared.picture_fault.PictureFault.TheVariants.{Shared}
 use Rattle.sixel.specs.declared.picture_words.PictureWord.{PictureWord}
 use Rattle.sixel.specs.declared.picture_words.PictureWord.TheVariants.{Pam, Draw}
-use Rattle.sixel_encoder.specs.declared.dither.Dither.{Dither}
+use Rattle.sixel_encoder.specs.declared.mapping.Mapping.{Mapping}
 use Rattle.sixel.specs.netpbm.Image.{Rgba, image_of}
 use Rattle.sixel.specs.declared.netpbm.error.NetpbmError.{NetpbmError}
 use Rattle.sixel.specs.declared.draw_options.DrawPalette.{DrawPalette}
 use Rattle.sixel.specs.declared.draw_options.DrawPalette.TheVariants.{Standard, Refined, File}
 use Rattle.sixel.specs.Drawing.{IsDrawOutput}
-use Rattle.sixel.specs.Options.{dither_of}
+use Rattle.sixel.specs.Options.{mapping_of}
 use Rattle.sixel.specs.Form.{line_end, image_line, image_form, pam_header}
 use Rattle.sixel.specs.Form.{pam_form}
 use Rattle.sixel.specs.Ending.{Ending, Done, Refused, Unreadable}
@@ -85,12 +85,12 @@ Serves-last {A} (Err f) IsText a b c front bytes whole before all part is_output
     Serves-part {A = A} (Err f) f IsText a b c front bytes [] same refl is_output before part
 
 -- out of memory is an ending of any drawing
-drawn_wanting : (source : DrawPalette) (dither : Dither) (palette : List ℕ)
+drawn_wanting : (source : DrawPalette) (mapping : Mapping) (palette : List ℕ)
     (read : Result Rgba NetpbmError)
-    → IsDrawOutput source dither palette read [] (Refused OutOfMemory)
-drawn_wanting Standard dither palette read = (refl, inl refl)
-drawn_wanting (Refined max_colors) dither palette read = (refl, inl refl)
-drawn_wanting File dither palette read = (refl, inl refl)
+    → IsDrawOutput source mapping palette read [] (Refused OutOfMemory)
+drawn_wanting Standard mapping palette read = (refl, inl refl)
+drawn_wanting (Refined max_colors) mapping palette read = (refl, inl refl)
+drawn_wanting File mapping palette read = (refl, inl refl)
 
 -- out of memory is an ending of any work
 pub wanting : (word : Word) (bytes : List ℕ) → IsOutput word bytes [] (Refused OutOfMemory)
@@ -103,7 +103,7 @@ pub wanting_picture : (word : PictureWord) (palette bytes : List ℕ)
     → IsPictureOutput word palette bytes [] (Refused OutOfMemory)
 wanting_picture Pam palette bytes = (refl, refl)
 wanting_picture (Draw options) palette bytes =
-    drawn_wanting options.palette (dither_of options) palette (image_of bytes)
+    drawn_wanting options.palette (mapping_of options) palette (image_of bytes)
 
 -- an allocation can fail before anything is written
 pub Writes-wanting : (IsText : List ℕ → List ℕ → Ending → Type 0)

@@ -14,7 +14,7 @@ use Rattle.sixel_palette.specs.Palette.{color_at}
 use Rattle.sixel_encoder.specs.Encoding.{square_value}
 use Rattle.sixel_encoder.specs.IndexedDrawing.{IsPaletteText, palette_fault}
 use Rattle.sixel_encoder.specs.RefinedText.{IsRefinedText}
-use Rattle.sixel_encoder.specs.declared.dither.Dither.{Dither}
+use Rattle.sixel_encoder.specs.declared.mapping.Mapping.{Mapping}
 use Rattle.sixel_encoder.specs.declared.form.TextForm.TheVariants.{Compact}
 use Rattle.sixel.specs.declared.draw_options.DrawPalette.{DrawPalette}
 use Rattle.sixel.specs.declared.draw_options.DrawPalette.TheVariants.{Standard, Refined, File}
@@ -51,12 +51,12 @@ abbrev pub refined_fault : Option ℕ → Rgba → Option CallFault
 refined_fault max_colors image = palette_fault (drawn_image image) (color_limit max_colors image)
 
 -- the output in a refined palette of at most so many colors
-abbrev pub IsRefinedOutput : Option ℕ → Dither → Result Rgba NetpbmError → List ℕ → Ending
+abbrev pub IsRefinedOutput : Option ℕ → Mapping → Result Rgba NetpbmError → List ℕ → Ending
     → Type 0
-IsRefinedOutput max_colors dither =
+IsRefinedOutput max_colors mapping =
     IsDrawn (refined_fault max_colors)
     (λ image.
-    IsRefinedText (drawn_image image) (color_limit max_colors image) dither Compact)
+    IsRefinedText (drawn_image image) (color_limit max_colors image) mapping Compact)
 
 -- ---- the palette of a file
 
@@ -90,17 +90,17 @@ abbrev pub painting_fault : Painting → Option CallFault
 painting_fault it = palette_fault (drawn_image it.image) (length it.colors)
 
 -- the output in the colors of a palette file
-abbrev pub IsPaletteOutput : Dither → List ℕ → Result Rgba NetpbmError → List ℕ → Ending → Type 0
-IsPaletteOutput dither file image =
+abbrev pub IsPaletteOutput : Mapping → List ℕ → Result Rgba NetpbmError → List ℕ → Ending → Type 0
+IsPaletteOutput mapping file image =
     IsDrawn painting_fault
-    (λ it. IsPaletteText (drawn_image it.image) it.colors dither Compact)
+    (λ it. IsPaletteText (drawn_image it.image) it.colors mapping Compact)
     (painting_read (palette_of file) image)
 
 -- ---- any palette
 
 -- the output for what was read by this option, with the bytes of the palette file
-abbrev pub IsDrawOutput : DrawPalette → Dither → List ℕ → Result Rgba NetpbmError → List ℕ → Ending
+abbrev pub IsDrawOutput : DrawPalette → Mapping → List ℕ → Result Rgba NetpbmError → List ℕ → Ending
     → Type 0
-IsDrawOutput Standard dither file = IsRefinedOutput None dither
-IsDrawOutput (Refined max_colors) dither file = IsRefinedOutput (Some max_colors) dither
-IsDrawOutput File dither file = IsPaletteOutput dither file
+IsDrawOutput Standard mapping file = IsRefinedOutput None mapping
+IsDrawOutput (Refined max_colors) mapping file = IsRefinedOutput (Some max_colors) mapping
+IsDrawOutput File mapping file = IsPaletteOutput mapping file

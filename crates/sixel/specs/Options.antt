@@ -5,18 +5,24 @@ use Rattle.std.specs.Prelude.{◌≡◌, ◌≢◌, ◌⊎◌, ◌^◌, ◌<◌,
 use Rattle.std.specs.Prelude.{IfSome, MatchOption, None, Some, cond, drop, take}
 use Rattle.std.specs.Option.{unwrap_or}
 use Rattle.std.specs.Str.Parse.{starts_with_minus}
+use Rattle.sixel_encoder.specs.declared.dither.Amplitude.TheVariants as amplitudes
 use Rattle.sixel_encoder.specs.declared.dither.Dither.{Dither}
 use Rattle.sixel_encoder.specs.declared.dither.Dither.TheVariants as dithers
+use Rattle.sixel_encoder.specs.declared.mapping.Mapping.{Mapping}
+use Rattle.sixel_encoder.specs.declared.mapping.Tolerance.{Tolerance}
+use Rattle.sixel_encoder.specs.declared.mapping.Tolerance.TheVariants.{Auto, Squared}
 use Rattle.sixel.specs.Number.{IsNumber}
 use Rattle.sixel.specs.declared.draw_options.DitherKind.{DitherKind}
 use Rattle.sixel.specs.declared.draw_options.DitherKind.TheVariants.{Off, Diffusion, Ordered}
 use Rattle.sixel.specs.declared.draw_options.DrawOptions.{DrawOptions}
 use Rattle.sixel.specs.declared.draw_options.DrawPalette.{DrawPalette}
+use Rattle.sixel.specs.declared.draw_options.TheConstants.{MAX_DISTANCE}
 use Rattle.sixel.specs.declared.draw_options.DrawPalette.TheVariants.{Standard, Refined, File}
 use Rattle.sixel.specs.declared.option_fault.OptionFault.{OptionFault}
 use Rattle.sixel.specs.declared.option_fault.OptionFault.TheVariants.{Unknown, NoValue, Colors}
 use Rattle.sixel.specs.declared.option_fault.OptionFault.TheVariants.{Dither as NoDither, Palettes}
 use Rattle.sixel.specs.declared.option_fault.OptionFault.TheVariants.{Strength}
+use Rattle.sixel.specs.declared.option_fault.OptionFault.TheVariants.{Tolerance as NoTolerance}
 
 -- how many arguments precede the names of files: options and their values
 abbrev pub option_count : List (List ℕ) → ℕ
@@ -32,9 +38,14 @@ options_of words = take (option_count words) words
 abbrev pub files_of : List (List ℕ) → List (List ℕ)
 files_of words = drop (option_count words) words
 
--- a palette and a strength that no option states, and diffusion
+-- a palette, a strength and a tolerance that no option states, and diffusion
 abbrev pub default_options : DrawOptions
-default_options = record { palette = Standard; kind = Diffusion; strength = None }
+default_options = record {
+  palette = Standard;
+  kind = Diffusion;
+  strength = None;
+  tolerance = Auto;
+}
 
 -- the greatest value of `-s` for this kind of dithering
 abbrev pub max_strength : DitherKind → ℕ
@@ -53,11 +64,15 @@ abbrev pub dither_with : DrawPalette → Option ℕ → DitherKind → Dither
 dither_with palette strength Off = dithers.Off
 dither_with palette strength Diffusion =
     dithers.Diffusion (unwrap_or strength (standard_strength palette))
-dither_with palette strength Ordered = dithers.Ordered (unwrap_or strength 16)
+dither_with palette None Ordered = dithers.Ordered amplitudes.Auto
+dither_with palette (Some levels) Ordered = dithers.Ordered (amplitudes.Levels levels)
 
 -- how pixels get their entries
-abbrev pub dither_of : DrawOptions → Dither
-dither_of options = dither_with options.palette options.strength options.kind
+abbrev pub mapping_of : DrawOptions → Mapping
+mapping_of options = record {
+  dither = dither_with options.palette options.strength options.kind;
+  tolerance = options.tolerance;
+}
 
 -- `-c` with this value changes the palette to this one
 abbrev pub IsCounted : DrawPalette → List ℕ → DrawPalette → Type 0
@@ -83,17 +98,30 @@ abbrev pub IsStrength : List ℕ → Option ℕ → Type 0
 IsStrength value None = ⊥
 IsStrength value (Some strength) = IsNumber value strength × (1 ≤ strength) × (strength ≤ 255)
 
+-- the value of `-t` for this tolerance
+abbrev pub IsTolerance : List ℕ → Tolerance → Type 0
+IsTolerance value Auto = ⊥
+IsTolerance value (Squared distance) =
+    IsNumber value distance × (distance ≤ MAX_DISTANCE)
+
 -- an option with this value changes the options to these
 abbrev pub IsOption : DrawOptions → List ℕ → List ℕ → DrawOptions → Type 0
 IsOption options name value changed =
     ((name ≡ codes "-c") × IsCounted options.palette value changed.palette
-    × (changed.kind ≡ options.kind) × (changed.strength ≡ options.strength))
+    × (changed.kind ≡ options.kind) × (changed.strength ≡ options.strength)
+    × (changed.tolerance ≡ options.tolerance))
     ⊎ ((name ≡ codes "-p") × IsOfFile options.palette changed.palette
-    × (changed.kind ≡ options.kind) × (changed.strength ≡ options.strength))
+    × (changed.kind ≡ options.kind) × (changed.strength ≡ options.strength)
+    × (changed.tolerance ≡ options.tolerance))
     ⊎ ((name ≡ codes "-d") × IsKind value changed.kind
-    × (changed.palette ≡ options.palette) × (changed.strength ≡ options.strength))
+    × (changed.palette ≡ options.palette) × (changed.strength ≡ options.strength)
+    × (changed.tolerance ≡ options.tolerance))
     ⊎ ((name ≡ codes "-s") × IsStrength value changed.strength
-    × (changed.palette ≡ options.palette) × (changed.kind ≡ options.kind))
+    × (changed.palette ≡ options.palette) × (changed.kind ≡ options.kind)
+    × (changed.tolerance ≡ options.tolerance))
+    ⊎ ((name ≡ codes "-t") × IsTolerance value changed.tolerance
+    × (changed.palette ≡ options.palette) × (changed.kind ≡ options.kind)
+    × (changed.strength ≡ options.strength))
 
 -- options after the last argument: their strength is one of their kind of dithering
 abbrev pub IsEnd : DrawOptions → DrawOptions → Type 0
@@ -122,6 +150,7 @@ IsLastPath path (name ∷ value ∷ rest) last =
 abbrev pub IsUnknown : List ℕ → Type 0
 IsUnknown name =
     (name ≢ codes "-c") × (name ≢ codes "-p") × (name ≢ codes "-d") × (name ≢ codes "-s")
+    × (name ≢ codes "-t")
 
 -- why `-c` with this value does not change the palette
 abbrev pub IsCountFault : DrawPalette → List ℕ → OptionFault → Type 0
@@ -145,6 +174,12 @@ abbrev pub IsStrengthFault : List ℕ → OptionFault → Type 0
 IsStrengthFault value fault =
     (fault ≡ Strength) × ((strength : Option ℕ) → ¬ IsStrength value strength)
 
+-- why `-t` with this value does not change the tolerance
+abbrev pub IsToleranceFault : List ℕ → OptionFault → Type 0
+IsToleranceFault value (NoTolerance text) =
+    (text.now ≡ value) × ((tolerance : Tolerance) → ¬ IsTolerance value tolerance)
+IsToleranceFault value fault = ⊥
+
 -- why an option with this value does not change the options
 abbrev pub IsFaultyOption : DrawOptions → List ℕ → List ℕ → OptionFault → Type 0
 IsFaultyOption options name value (Unknown text) = (text.now ≡ name) × IsUnknown name
@@ -153,6 +188,7 @@ IsFaultyOption options name value fault =
     ⊎ ((name ≡ codes "-p") × IsFileFault options.palette fault)
     ⊎ ((name ≡ codes "-d") × IsKindFault value fault)
     ⊎ ((name ≡ codes "-s") × IsStrengthFault value fault)
+    ⊎ ((name ≡ codes "-t") × IsToleranceFault value fault)
 
 -- why the options after the last argument contradict each other
 abbrev pub IsFaultyEnd : DrawOptions → OptionFault → Type 0

@@ -26,7 +26,7 @@ use Rattle.sixel.specs.Form.{image_form, pam_form}
 use Rattle.sixel.specs.Ending.{Ending, Done, Refused, Unreadable}
 use Rattle.sixel.specs.netpbm.Image.{image_of}
 use Rattle.sixel.specs.Drawing.{IsDrawOutput}
-use Rattle.sixel.specs.Options.{dither_of}
+use Rattle.sixel.specs.Options.{mapping_of}
 use Rattle.sixel.specs.Sequences.{IsSequencesOutput}
 
 -- a new decoder, and no settings
@@ -68,7 +68,7 @@ IsOutput (Encode width height colors) bytes = IsTextOutput (square_value bytes w
 abbrev pub IsPictureOutput : PictureWord → List ℕ → List ℕ → List ℕ → Ending → Type 0
 IsPictureOutput Pam palette bytes = IsFoundOutput pam_form bytes
 IsPictureOutput (Draw options) palette bytes =
-    IsDrawOutput options.palette (dither_of options) palette (image_of bytes)
+    IsDrawOutput options.palette (mapping_of options) palette (image_of bytes)
 
 -- the same of any work
 abbrev pub IsWorkOutput : Work → List ℕ → List ℕ → List ℕ → Ending → Type 0

@@ -4,13 +4,14 @@ ghost use Rattle.std.specs.Prelude.{◌≡◌, ◌↔◌, IfErr, Ok, Option, ℕ
 ghost use Rattle.sixel.specs.Options.{AreFaultyOptions, AreOptions, IsCounted, IsKind, IsOfFile};
 ghost use Rattle.sixel.specs.Options.{IsCountFault, IsFaultyEnd, IsFaultyOption, IsFileFault};
 ghost use Rattle.sixel.specs.Options.{IsEnd, IsKindFault, IsOption, IsStrength, IsStrengthFault};
-ghost use Rattle.sixel.specs.Options.{default_options, dither_of, files_of, max_strength};
-ghost use Rattle.sixel.specs.Options.{options_of, standard_strength};
+ghost use Rattle.sixel.specs.Options.{default_options, dither_with, files_of, max_strength};
+ghost use Rattle.sixel.specs.Options.{IsTolerance, IsToleranceFault, mapping_of, options_of};
+ghost use Rattle.sixel.specs.Options.{standard_strength};
 ghost use Rattle.sixel.specs.Words.{words_of};
 
 use crate::option_fault::OptionFault;
 use crate::words::{number, number_of_colors};
-use icy_sixel::encoder::Dither;
+use icy_sixel::encoder::{Amplitude, Dither, Mapping, Tolerance};
 
 /// How `draw` encodes an image.
 #[derive(Clone, Copy)]
@@ -21,6 +22,8 @@ pub struct DrawOptions {
     pub kind: DitherKind,
     /// The strength of the diffusion or the amplitude of the pattern, if an option states it.
     pub strength: Option<u8>,
+    /// How far a pixel's entry may be from the nearest one.
+    pub tolerance: Tolerance,
 }
 
 /// Where the palette of an image comes from.
@@ -87,12 +90,23 @@ impl DrawOptions {
             palette: DrawPalette::Standard,
             kind: DitherKind::Diffusion,
             strength: None,
+            tolerance: Tolerance::Auto,
         }
     }
 
     /// How pixels get their palette entries.
-    pub fn dither(self) -> Dither
-        ensures { result ≡ dither_of self }
+    pub fn mapping(self) -> Mapping
+        ensures { result ≡ mapping_of self }
+    {
+        Mapping {
+            dither: self.dither(),
+            tolerance: self.tolerance,
+        }
+    }
+
+    /// Which color a pixel's entry is chosen for.
+    fn dither(self) -> Dither
+        ensures { result ≡ dither_with self.palette self.strength self.kind }
     {
         match self.kind {
             DitherKind::Off => Dither::Off,
@@ -100,7 +114,10 @@ impl DrawOptions {
                 strength: self.strength.unwrap_or(self.palette.strength()),
             },
             DitherKind::Ordered => Dither::Ordered {
-                amplitude: self.strength.unwrap_or(16),
+                amplitude: match self.strength {
+                    Some(levels) => Amplitude::Levels(levels),
+                    None => Amplitude::Auto,
+                },
             },
         }
     }
@@ -126,6 +143,10 @@ impl DrawOptions {
             }),
             "-s" => Ok(Self {
                 strength: read_strength(value)?,
+                ..self
+            }),
+            "-t" => Ok(Self {
+                tolerance: read_tolerance(value)?,
                 ..self
             }),
             _ => Err(OptionFault::Unknown(name)),
@@ -217,3 +238,18 @@ fn read_strength<'a>(value: &str) -> Result<Option<u8>, OptionFault<'a>>
         _ => Err(OptionFault::Strength),
     }
 }
+
+/// The tolerance that a value of `-t` states.
+fn read_tolerance(value: &str) -> Result<Tolerance, OptionFault<'_>>
+    ensures stated { (tolerance : Tolerance)
+        → IsTolerance value.now tolerance ↔ (result ≡ Ok tolerance) }
+    ensures faulty { IfErr result (IsToleranceFault value.now) }
+{
+    match number(value) {
+        Some(distance @ 0..=MAX_DISTANCE) => Ok(Tolerance::Squared(distance as u32)),
+        _ => Err(OptionFault::Tolerance(value)),
+    }
+}
+
+/// The squared distance of black and white.
+const MAX_DISTANCE: usize = 3 * 255 * 255;

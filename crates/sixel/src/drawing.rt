@@ -1,7 +1,7 @@
 //! The SIXEL output of the images of PAM, PPM and PGM files.
 
 ghost use Rattle.std.specs.Prelude.{◌≡◌};
-ghost use Rattle.sixel.specs.Options.{dither_of};
+ghost use Rattle.sixel.specs.Options.{mapping_of};
 ghost use Rattle.sixel.specs.WorkOutput.{Draws};
 ghost use Rattle.sixel.specs.Drawing.{IsDrawOutput, IsPaletteOutput, IsRefinedOutput};
 ghost use Rattle.sixel.specs.Drawing.{standard_limit};
@@ -11,7 +11,7 @@ use crate::draw_options::{DrawOptions, DrawPalette};
 use crate::netpbm::read_image;
 use crate::palette_file::read_colors;
 use crate::picture_fault::PictureFault;
-use icy_sixel::encoder::Dither;
+use icy_sixel::encoder::Mapping;
 use icy_sixel::{SixelImage, TextForm};
 use std::alloc::Global;
 
@@ -25,13 +25,13 @@ pub fn draw(
     file: &[u8],
 ) -> Result<String, PictureFault>
     ensures { Draws result
-        (IsDrawOutput options.palette (dither_of options) palette.now (image_of file.now)) }
+        (IsDrawOutput options.palette (mapping_of options) palette.now (image_of file.now)) }
 {
-    let dither = options.dither();
+    let mapping = options.mapping();
     match options.palette {
-        DrawPalette::Standard => draw_refined(alloc, None, dither, file),
-        DrawPalette::Refined(max_colors) => draw_refined(alloc, Some(max_colors), dither, file),
-        DrawPalette::File => draw_in_palette(alloc, palette, dither, file),
+        DrawPalette::Standard => draw_refined(alloc, None, mapping, file),
+        DrawPalette::Refined(max_colors) => draw_refined(alloc, Some(max_colors), mapping, file),
+        DrawPalette::File => draw_in_palette(alloc, palette, mapping, file),
     }
 }
 
@@ -41,15 +41,15 @@ pub fn draw(
 fn draw_refined(
     alloc: Global,
     max_colors: Option<u16>,
-    dither: Dither,
+    mapping: Mapping,
     file: &[u8],
 ) -> Result<String, PictureFault>
-    ensures { Draws result (IsRefinedOutput max_colors dither (image_of file.now)) }
+    ensures { Draws result (IsRefinedOutput max_colors mapping (image_of file.now)) }
 {
     let file = read_image(alloc, file)?;
     let max_colors = max_colors.unwrap_or(standard_limit(&file.pixels));
     let image = SixelImage::from_rgba(file.pixels, file.width, file.height);
-    let text = image.encode_refined(alloc, max_colors, dither, TextForm::Compact)?;
+    let text = image.encode_refined(alloc, max_colors, mapping, TextForm::Compact)?;
     Ok(text)
 }
 
@@ -64,14 +64,14 @@ fn standard_limit(pixels: &[u8]) -> u16
 fn draw_in_palette(
     alloc: Global,
     palette: &[u8],
-    dither: Dither,
+    mapping: Mapping,
     file: &[u8],
 ) -> Result<String, PictureFault>
-    ensures { Draws result (IsPaletteOutput dither palette.now (image_of file.now)) }
+    ensures { Draws result (IsPaletteOutput mapping palette.now (image_of file.now)) }
 {
     let colors = read_colors(alloc, palette)?;
     let file = read_image(alloc, file)?;
     let image = SixelImage::from_rgba(file.pixels, file.width, file.height);
-    let text = image.encode_with_palette(alloc, &colors, dither, TextForm::Compact)?;
+    let text = image.encode_with_palette(alloc, &colors, mapping, TextForm::Compact)?;
     Ok(text)
 }

@@ -70,6 +70,7 @@ usage: sixel payload | decode | pam | frames N | encode W H K
     -p FILE       in the palette of the pixels of a PAM, PPM or PGM file
     -d DITHER     none, ordered or diffusion; diffusion by default
     -s STRENGTH   of diffusion 1 to 8, by default 7, with -p 8; of ordered 1 to 255
+    -t TOLERANCE  squared distance for keeping a neighbor's entry, 0 to 195075
 
 Reads standard input, or the files, and writes standard output. sixel(1) has the details.
 ";

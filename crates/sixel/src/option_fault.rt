@@ -22,6 +22,9 @@ pub enum OptionFault<'a> {
     /// The value of `-s` is none of this kind of dithering.
     #[error("-s: not 1 to 8 for diffusion or 1 to 255 for ordered")]
     Strength,
+    /// The value of `-t` is not a squared distance of two colors.
+    #[error("{0}: not a squared distance of at most 195075")]
+    Tolerance(&'a str),
     /// `-c` and `-p` are both there.
     #[error("-c and -p contradict each other")]
     Palettes,
@@ -33,7 +36,7 @@ impl<'a> OptionFault<'a> {
         ensures { IsFaultyLast name.now result }
     {
         match name {
-            "-c" | "-p" | "-d" | "-s" => Self::NoValue(name),
+            "-c" | "-p" | "-d" | "-s" | "-t" => Self::NoValue(name),
             _ => Self::Unknown(name),
         }
     }

@@ -2,23 +2,23 @@
 -- in an image whose colors the palette has.
 use Rattle.std.proofs.Common.{◌≡◌, ℕ, zero, suc, ◌+◌, ◌-◌, ◌*◌, ◌<◌, ◌≤◌, List, [], ◌∷◌, Bool}
 use Rattle.std.proofs.Common.{true, false, cond, length, refl, ap, sym, subst, ◌∙◌, arith}
-use Rattle.std.proofs.Common.{inl, inr, nat_le}
+use Rattle.std.proofs.Common.{inl, inr}
 use Rattle.std.specs.Prelude.{◌/◌, ◌%◌, ◌==◌, All, Contains, slice_index, slice_index_or}
 use Rattle.std.proofs.lemmas.Bool.{cases_lt}
-use Rattle.std.proofs.lemmas.Bool.Decides.{nat_tests}
 use Rattle.std.proofs.lemmas.List.{get_or_default, get_or_past}
 use Rattle.std.proofs.lemmas.List.Elements.{All-cons, All-nil}
 use Rattle.std.proofs.lemmas.Nat.{mul-le}
 use Rattle.sixel_palette.specs.Palette.{AreIndices, IsNearest, IsOpaque, color_at, distance}
 use Rattle.sixel_palette.proofs.PaletteDistance.{below_three, distance_self, same_from_distance}
-use Rattle.sixel_encoder.specs.Dithering.{AreNearestTo, Diffused, before_share}
-use Rattle.sixel_encoder.specs.Dithering.{below_share, channel_error, diffused_color, error_back}
-use Rattle.sixel_encoder.specs.Dithering.{errors_of, next_share, no_error, opaque_error, passed_on}
+use Rattle.sixel_encoder.specs.Dithering.{AreMapped, Mapped, before_share, below_share}
+use Rattle.sixel_encoder.specs.Dithering.{channel_error, error_back, errors_of, neighbor_of}
+use Rattle.sixel_encoder.specs.Dithering.{next_share, no_error, opaque_error, passed_on}
 use Rattle.sixel_encoder.specs.Dithering.{received, rest_share, rounded_sixteenths, serpentine}
 use Rattle.sixel_encoder.specs.Dithering.{sixteenths, target_of_visit, visit_error, with_received}
-use Rattle.sixel_encoder.specs.inside.Diffusion.{AreVisited}
-use Rattle.sixel_encoder.proofs.DiffusionErrors.{AreVisited-nearest}
-use Rattle.sixel_encoder.proofs.Serpentine.{serpentine-lt, serpentine-serpentine}
+use Rattle.sixel_encoder.proofs.DiffusionVisit.{visit_error-opaque, visit_error-transparent}
+use Rattle.sixel_encoder.proofs.DitheredIndices.{AreEntries-mapped, AreIndices-mapped}
+use Rattle.sixel_encoder.proofs.DitheredIndices.{AreMapped-exact, AreRows, visit-inside}
+use Rattle.sixel_encoder.proofs.KeptEntries.{IsNearest-exact, neighbor-inside}
 
 -- the shares of an error add up to it
 pub shares-sum : (error : ℕ)
@@ -39,32 +39,19 @@ passed_on-bounds strength value entry small byte =
     mul-le gap strength 8176 strength (omega arith) (omega arith) in
     (omega (arith, low), omega (arith, high))
 
--- the error of a transparent pixel is none
-pub visit_error-transparent : (d : Diffused) (indices : List ℕ) (errors : List (List ℕ)) (n : ℕ)
-    → slice_index d.pixels (4 * serpentine d.width n + 3) < 128
-    → visit_error d indices errors n ≡ no_error d.strength
-visit_error-transparent d indices errors n dark =
-    let at = serpentine d.width n in
-    let test : nat_le 128 (slice_index d.pixels (4 * at + 3)) ≡ false = grind (arith, nat_tests) in
-    ap
-    (λ b. cond b
-    (opaque_error d errors n (slice_index_or d.colors (slice_index indices at) []))
-    (no_error d.strength))
-    test
-
 -- ---- no errors
 
 -- each of these errors is none
-abbrev AreNone : Diffused → List (List ℕ) → Type 0
-AreNone d errors = All (λ error. error ≡ no_error d.strength) errors
+abbrev AreNone : Mapped → List (List ℕ) → Type 0
+AreNone m errors = All (λ error. error ≡ no_error m.strength) errors
 
 -- then so is the one that is some visits back, whether it is there or not
-error_back-none : (d : Diffused) (errors : List (List ℕ)) (back : ℕ) → AreNone d errors
-    → error_back d errors back ≡ no_error d.strength
-error_back-none d errors back none =
+error_back-none : (m : Mapped) (errors : List (List ℕ)) (back : ℕ) → AreNone m errors
+    → error_back m errors back ≡ no_error m.strength
+error_back-none m errors back none =
     elim (cases_lt back (length errors)) [
-      | inl inside ↦ none back (no_error d.strength) inside
-      | inr past ↦ get_or_past errors back (no_error d.strength) past
+      | inl inside ↦ none back (no_error m.strength) inside
+      | inr past ↦ get_or_past errors back (no_error m.strength) past
     ]
 
 -- and where a test chooses no error
@@ -79,89 +66,89 @@ channel-none strength k l =
     below_three (λ k. slice_index (no_error strength) k ≡ 512 * strength) refl refl refl k l
 
 -- so a pixel receives nothing
-received-none : (d : Diffused) (errors : List (List ℕ)) (step k : ℕ) → AreNone d errors → k < 3
-    → received d errors step k ≡ 512 * d.strength
-received-none d errors step k none l =
-    let s = d.strength in
+received-none : (m : Mapped) (errors : List (List ℕ)) (step k : ℕ) → AreNone m errors → k < 3
+    → received m errors step k ≡ 512 * m.strength
+received-none m errors step k none l =
+    let s = m.strength in
     let of : (error : List ℕ) → error ≡ no_error s → slice_index error k ≡ 512 * s =
     λ error e. ap (λ e. slice_index e k) e ∙ channel-none s k l in
     let before =
-    of (cond (step == 0) (no_error s) (error_back d errors 0))
-    (chosen-none (step == 0) s (error_back d errors 0) (error_back-none d errors 0 none)) in
+    of (cond (step == 0) (no_error s) (error_back m errors 0))
+    (chosen-none (step == 0) s (error_back m errors 0) (error_back-none m errors 0 none)) in
     let behind =
-    of (cond (step == 0) (no_error s) (error_back d errors (2 * step - 1)))
-    (chosen-none (step == 0) s (error_back d errors (2 * step - 1))
-    (error_back-none d errors (2 * step - 1) none)) in
+    of (cond (step == 0) (no_error s) (error_back m errors (2 * step - 1)))
+    (chosen-none (step == 0) s (error_back m errors (2 * step - 1))
+    (error_back-none m errors (2 * step - 1) none)) in
     let above =
-    of (error_back d errors (2 * step)) (error_back-none d errors (2 * step) none) in
+    of (error_back m errors (2 * step)) (error_back-none m errors (2 * step) none) in
     let beyond =
-    of (cond (step + 1 == d.width) (no_error s) (error_back d errors (2 * step + 1)))
-    (chosen-none (step + 1 == d.width) s (error_back d errors (2 * step + 1))
-    (error_back-none d errors (2 * step + 1) none)) in
+    of (cond (step + 1 == m.width) (no_error s) (error_back m errors (2 * step + 1)))
+    (chosen-none (step + 1 == m.width) s (error_back m errors (2 * step + 1))
+    (error_back-none m errors (2 * step + 1) none)) in
     rw (before, behind, above, beyond) (omega arith)
 
 -- the sixteenths of a channel are its own
-sixteenths-none : (d : Diffused) (errors : List (List ℕ)) (n k : ℕ) → AreNone d errors → k < 3
-    → ((j : ℕ) → slice_index d.pixels j < 256)
-    → sixteenths d errors n k ≡ 16 * slice_index d.pixels (4 * serpentine d.width n + k)
-sixteenths-none d errors n k none l bytes =
-    let place = 4 * serpentine d.width n + k in
-    ap (with_received d.strength (slice_index d.pixels place))
-    (received-none d errors (n % d.width) k none l)
+sixteenths-none : (m : Mapped) (errors : List (List ℕ)) (n k : ℕ) → AreNone m errors → k < 3
+    → ((j : ℕ) → slice_index m.pixels j < 256)
+    → sixteenths m errors n k ≡ 16 * slice_index m.pixels (4 * serpentine m.width n + k)
+sixteenths-none m errors n k none l bytes =
+    let place = 4 * serpentine m.width n + k in
+    ap (with_received m.strength (slice_index m.pixels place))
+    (received-none m errors (n % m.width) k none l)
     ∙ omega (arith, bytes place)
 
 -- the target is the pixel's color
-target-none : (d : Diffused) (errors : List (List ℕ)) (n : ℕ) → AreNone d errors
-    → ((j : ℕ) → slice_index d.pixels j < 256)
-    → target_of_visit d errors n ≡ color_at d.pixels (serpentine d.width n)
-target-none d errors n none bytes =
+target-none : (m : Mapped) (errors : List (List ℕ)) (n : ℕ) → AreNone m errors
+    → ((j : ℕ) → slice_index m.pixels j < 256)
+    → target_of_visit m errors n ≡ color_at m.pixels (serpentine m.width n)
+target-none m errors n none bytes =
     λ i. red i ∷ green i ∷ blue i ∷ []
   where
     at : ℕ
-    at = serpentine d.width n
+    at = serpentine m.width n
 
     channel : (k : ℕ) → k < 3
-        → rounded_sixteenths (sixteenths d errors n k) ≡ slice_index d.pixels (4 * at + k)
+        → rounded_sixteenths (sixteenths m errors n k) ≡ slice_index m.pixels (4 * at + k)
     channel k l =
-        ap rounded_sixteenths (sixteenths-none d errors n k none l bytes) ∙ omega arith
+        ap rounded_sixteenths (sixteenths-none m errors n k none l bytes) ∙ omega arith
 
-    red : rounded_sixteenths (sixteenths d errors n 0) ≡ slice_index d.pixels (4 * at)
+    red : rounded_sixteenths (sixteenths m errors n 0) ≡ slice_index m.pixels (4 * at)
     red =
         let same : 4 * at + 0 ≡ 4 * at = omega arith in
-        channel 0 (omega arith) ∙ ap (slice_index d.pixels) same
+        channel 0 (omega arith) ∙ ap (slice_index m.pixels) same
 
-    green : rounded_sixteenths (sixteenths d errors n 1) ≡ slice_index d.pixels (4 * at + 1)
+    green : rounded_sixteenths (sixteenths m errors n 1) ≡ slice_index m.pixels (4 * at + 1)
     green = channel 1 (omega arith)
 
-    blue : rounded_sixteenths (sixteenths d errors n 2) ≡ slice_index d.pixels (4 * at + 2)
+    blue : rounded_sixteenths (sixteenths m errors n 2) ≡ slice_index m.pixels (4 * at + 2)
     blue = channel 2 (omega arith)
 
 -- the error of a pixel whose entry is its color
-error-none : (d : Diffused) (errors : List (List ℕ)) (n : ℕ) (entry : List ℕ) → AreNone d errors
-    → ((j : ℕ) → slice_index d.pixels j < 256) → entry ≡ color_at d.pixels (serpentine d.width n)
-    → opaque_error d errors n entry ≡ no_error d.strength
-error-none d errors n entry none bytes is =
+error-none : (m : Mapped) (errors : List (List ℕ)) (n : ℕ) (entry : List ℕ) → AreNone m errors
+    → ((j : ℕ) → slice_index m.pixels j < 256) → entry ≡ color_at m.pixels (serpentine m.width n)
+    → opaque_error m errors n entry ≡ no_error m.strength
+error-none m errors n entry none bytes is =
     λ i. channel 0 (omega arith) i ∷ channel 1 (omega arith) i ∷ channel 2 (omega arith) i ∷ []
   where
     at : ℕ
-    at = serpentine d.width n
+    at = serpentine m.width n
 
-    own : (k : ℕ) → k < 3 → slice_index entry k ≡ slice_index d.pixels (4 * at + k)
+    own : (k : ℕ) → k < 3 → slice_index entry k ≡ slice_index m.pixels (4 * at + k)
     own k l =
         let same : 4 * at + 0 ≡ 4 * at = omega arith in
         ap (λ c. slice_index c k) is
         ∙ below_three
-        (λ k. slice_index (color_at d.pixels at) k ≡ slice_index d.pixels (4 * at + k))
-        (ap (slice_index d.pixels) (sym same)) refl refl k l
+        (λ k. slice_index (color_at m.pixels at) k ≡ slice_index m.pixels (4 * at + k))
+        (ap (slice_index m.pixels) (sym same)) refl refl k l
 
-    channel : (k : ℕ) → k < 3 → channel_error d errors n entry k ≡ 512 * d.strength
+    channel : (k : ℕ) → k < 3 → channel_error m errors n entry k ≡ 512 * m.strength
     channel k l =
-        let value = slice_index d.pixels (4 * at + k) in
+        let value = slice_index m.pixels (4 * at + k) in
         let gap : 16 * value + 4096 - 16 * value ≡ 4096 = omega arith in
-        ap (λ v. passed_on d.strength v (slice_index entry k))
-        (sixteenths-none d errors n k none l bytes)
-        ∙ (ap (passed_on d.strength (16 * value)) (own k l)
-        ∙ (ap (λ g. g * d.strength / 8) gap ∙ omega arith))
+        ap (λ v. passed_on m.strength v (slice_index entry k))
+        (sixteenths-none m errors n k none l bytes)
+        ∙ (ap (passed_on m.strength (16 * value)) (own k l)
+        ∙ (ap (λ g. g * m.strength / 8) gap ∙ omega arith))
 
 -- ---- an image whose colors the palette has
 
@@ -176,63 +163,87 @@ nearest-own entries c i three long held near =
     same_from_distance (slice_index_or entries i []) c (three i [] near.entry) long
     (omega (arith, near.least held.0 held.1))
 
--- the color of each opaque pixel that is visited is an entry
-pub record AreExact (d : Diffused) (visits : ℕ) : Type 0 where
-  pub three : All (λ p. length p ≡ 3) d.colors
-  pub bytes : (j : ℕ) → slice_index d.pixels j < 256
-  pub held : (n : ℕ) → n < visits → IsOpaque d.pixels (serpentine d.width n)
-      → Contains d.colors (color_at d.pixels (serpentine d.width n))
+-- the channels of pixels and entries
+pub record AreColors (m : Mapped) : Type 0 where
+  pub three : All (λ p. length p ≡ 3) m.colors
+  pub bytes : (j : ℕ) → slice_index m.pixels j < 256
 
--- so a visit has no error if those before it have none
-visit-none : (d : Diffused) (indices : List ℕ) (n visits : ℕ) → AreExact d visits
-    → AreVisited d indices visits → n < visits → AreNone d (errors_of d indices n)
-    → visit_error d indices (errors_of d indices n) n ≡ no_error d.strength
-visit-none d indices n visits exact visited l before =
-    let at = serpentine d.width n in
-    let errors = errors_of d indices n in
-    let entry = slice_index_or d.colors (slice_index indices at) [] in
-    elim (cases_lt (slice_index d.pixels (4 * at + 3)) 128) [
-      | inl dark ↦ visit_error-transparent d indices errors n dark
+-- a visit has no error, if those before it have none and an opaque pixel's entry is its color
+visit-none : (m : Mapped) (indices : List ℕ) (errors : List (List ℕ)) (n : ℕ) → AreColors m
+    → AreNone m errors
+    → (IsOpaque m.pixels (serpentine m.width n)
+    → slice_index_or m.colors (slice_index indices (serpentine m.width n)) []
+    ≡ color_at m.pixels (serpentine m.width n))
+    → visit_error m indices errors n ≡ no_error m.strength
+visit-none m indices errors n exact before own =
+    let at = serpentine m.width n in
+    elim (cases_lt (slice_index m.pixels (4 * at + 3)) 128) [
+      | inl dark ↦ visit_error-transparent m indices errors n dark
       | inr light ↦
-          let test : nat_le 128 (slice_index d.pixels (4 * at + 3)) ≡ true =
-          grind (arith, nat_tests) in
-          let near =
-          subst (λ (c : List ℕ). IsNearest d.colors c (slice_index indices at))
-          (target-none d errors n before exact.bytes) ((visited n l).opaque light) in
-          ap (λ b. cond b (opaque_error d errors n entry) (no_error d.strength)) test
-          ∙ error-none d errors n entry before exact.bytes
-          (nearest-own d.colors (color_at d.pixels at) (slice_index indices at) exact.three refl
-          (exact.held n l light) near)
+          visit_error-opaque m indices errors n light
+          ∙ error-none m errors n (slice_index_or m.colors (slice_index indices at) []) before
+          exact.bytes (own light)
     ]
 
--- so none has
-errors-none : (d : Diffused) (indices : List ℕ) (n visits : ℕ) → AreExact d visits
-    → AreVisited d indices visits → n ≤ visits → AreNone d (errors_of d indices n)
+-- so none has, if each opaque pixel's entry is its color
+errors-own : (m : Mapped) (indices : List ℕ) (n : ℕ) → AreColors m
+    → ((k : ℕ) → k < n → AreNone m (errors_of m indices k)
+    → IsOpaque m.pixels (serpentine m.width k)
+    → slice_index_or m.colors (slice_index indices (serpentine m.width k)) []
+    ≡ color_at m.pixels (serpentine m.width k))
+    → AreNone m (errors_of m indices n)
 unfolding errors_of
-errors-none d indices zero visits exact visited most =
-    All-nil (λ error. error ≡ no_error d.strength)
-errors-none d indices (suc n) visits exact visited most =
-    let before = errors-none d indices n visits exact visited (omega arith) in
-    All-cons (λ error. error ≡ no_error d.strength)
-    (visit_error d indices (errors_of d indices n) n) (errors_of d indices n)
-    (visit-none d indices n visits exact visited (omega arith) before) before
+errors-own m indices zero exact own = All-nil (λ error. error ≡ no_error m.strength)
+errors-own m indices (suc n) exact own =
+    let before = errors-own m indices n exact (λ k l. own k (omega arith)) in
+    All-cons (λ error. error ≡ no_error m.strength)
+    (visit_error m indices (errors_of m indices n) n) (errors_of m indices n)
+    (visit-none m indices (errors_of m indices n) n exact before (own n (omega arith) before))
+    before
 
--- and its pixels have the indices of their nearest entries
-pub AreIndices-exact : (d : Diffused) (indices : List ℕ) (count : ℕ) → 0 < d.width
-    → length d.pixels / 4 ≡ count * d.width → AreExact d (count * d.width)
-    → AreNearestTo (diffused_color d indices) d.pixels d.colors indices
-    → AreIndices d.pixels d.colors indices
-AreIndices-exact d indices count some whole exact are = record {
-  one_each = are.one_each;
-  opaque = λ pixel l light.
-      let n = serpentine d.width pixel in
-      let none =
-      errors-none d indices n (count * d.width) exact
-      (AreVisited-nearest d indices count some whole are)
-      (omega (arith, serpentine-lt d.width count pixel some (omega (arith, whole, l)))) in
-      subst (λ (c : List ℕ). IsNearest d.colors c (slice_index indices pixel))
-      (target-none d (errors_of d indices n) n none exact.bytes
-      ∙ ap (color_at d.pixels) (serpentine-serpentine d.width pixel some))
-      ((are.each pixel l).opaque light);
-  hidden = λ pixel l dark. (are.each pixel l).hidden dark;
-}
+-- the color of each opaque pixel is an entry
+abbrev pub AreHeld : Mapped → Type 0
+AreHeld m =
+    (pixel : ℕ) → pixel < length m.pixels / 4 → IsOpaque m.pixels pixel
+    → Contains m.colors (color_at m.pixels pixel)
+
+-- without a tolerance its pixels have the indices of their nearest entries
+pub AreIndices-exact : (m : Mapped) (indices : List ℕ) → AreRows m → AreColors m → AreHeld m
+    → m.tolerance ≡ 0
+    → AreMapped m (λ n. target_of_visit m (errors_of m indices n) n) indices
+    → AreIndices m.pixels m.colors indices
+AreIndices-exact m indices rows exact held none are =
+    AreIndices-mapped m (λ n. target_of_visit m (errors_of m indices n) n) indices rows none are
+    (λ n l light.
+    target-none m (errors_of m indices n) n
+    (errors-own m indices n exact
+    (λ k lk before lit.
+    let at = serpentine m.width k in
+    let inside : k < length m.pixels / 4 = omega arith in
+    nearest-own m.colors (color_at m.pixels at) (slice_index indices at) exact.three refl
+    (held at (visit-inside m k rows.rows inside) lit)
+    (subst (λ (c : List ℕ). IsNearest m.colors c (slice_index indices at))
+    (target-none m (errors_of m indices k) k before exact.bytes)
+    (IsNearest-exact m (target_of_visit m (errors_of m indices k) k)
+    (neighbor_of m (target_of_visit m (errors_of m indices k) k) indices k)
+    (slice_index indices at) none
+    (neighbor-inside m (target_of_visit m (errors_of m indices k) k) indices k
+    (AreEntries-mapped m (λ n. target_of_visit m (errors_of m indices n) n) indices rows are))
+    ((are.each k inside).opaque lit)))))
+    exact.bytes)
+
+-- and the other way round
+pub AreMapped-diffused : (m : Mapped) (indices : List ℕ) → AreRows m → AreColors m → AreHeld m
+    → m.tolerance ≡ 0 → AreIndices m.pixels m.colors indices
+    → AreMapped m (λ n. target_of_visit m (errors_of m indices n) n) indices
+AreMapped-diffused m indices rows exact held none are =
+    AreMapped-exact m (λ n. target_of_visit m (errors_of m indices n) n) indices rows none are
+    (λ n l light.
+    target-none m (errors_of m indices n) n
+    (errors-own m indices n exact
+    (λ k lk before lit.
+    let at = serpentine m.width k in
+    let inside = visit-inside m k rows.rows (omega arith) in
+    nearest-own m.colors (color_at m.pixels at) (slice_index indices at) exact.three refl
+    (held at inside lit) (are.opaque at inside lit)))
+    exact.bytes)

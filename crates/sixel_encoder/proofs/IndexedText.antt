@@ -13,7 +13,8 @@ use Rattle.sixel_base.specs.Payload.{Image}
 use Rattle.sixel_encoder.specs.declared.form.TextForm.{TextForm}
 use Rattle.sixel_encoder.specs.Encoding.{image_fault}
 use Rattle.sixel_encoder.specs.Form.{form_text}
-use Rattle.sixel_encoder.specs.IndexedDrawing.{IsTextOf, entries_of, entry_of, index_range_fault}
+use Rattle.sixel_encoder.specs.Dithering.{entry_of}
+use Rattle.sixel_encoder.specs.IndexedDrawing.{IsTextOf, entries_of, index_range_fault}
 use Rattle.sixel_encoder.specs.IndexedDrawing.{indexed_drawing, is_past}
 use Rattle.sixel_encoder.specs.Text.{Drawing, row_of}
 use Rattle.sixel_encoder.specs.Trip.{IsColor, IsOneString, IsReadAs, IsWritable, trip}

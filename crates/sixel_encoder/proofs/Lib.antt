@@ -55,6 +55,7 @@ pub mod Serpentine
 pub mod DiffusionErrors
 pub mod DiffusionLaws
 pub mod PaletteText
+pub mod SameVisits
 pub mod SameDithering
 pub mod Verdicts
 pub mod DitheredIndices
@@ -75,3 +76,5 @@ pub mod RowBounds
 pub mod PlainBound
 pub mod LaneChanges
 pub mod RunSegments
+pub mod KeptEntries
+pub mod PaletteError

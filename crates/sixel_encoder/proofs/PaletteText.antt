@@ -9,14 +9,15 @@ use Rattle.sixel_base.specs.CallFault.{size_call_fault}
 use Rattle.sixel_base.specs.Decoder.{new_decoder}
 use Rattle.sixel_base.specs.Payload.{Image}
 use Rattle.sixel_base.specs.declared.error.SixelError.{SixelError}
-use Rattle.sixel_encoder.specs.declared.dither.Dither.{Dither}
+use Rattle.sixel_encoder.specs.declared.mapping.Mapping.{Mapping}
 use Rattle.sixel_encoder.specs.declared.form.TextForm.{TextForm}
 use Rattle.sixel_encoder.specs.Encoding.{image_fault, shown_image}
 use Rattle.sixel_encoder.specs.Form.{form_text}
 use Rattle.sixel_encoder.specs.IndexedDrawing.{IsPaletteText, index_count_fault}
 use Rattle.sixel_encoder.specs.IndexedDrawing.{index_range_fault, indexed_fault, palette_fault}
 use Rattle.sixel_encoder.specs.Trip.{CanRead}
-use Rattle.sixel_encoder.proofs.SameDithering.{AreRowsOf, drawing-alike}
+use Rattle.sixel_encoder.proofs.DitheredIndices.{AreRowsOf}
+use Rattle.sixel_encoder.proofs.SameDithering.{drawing-alike}
 use Rattle.sixel_encoder.proofs.Sizes.{within-sound}
 use Rattle.sixel_encoder.proofs.TripLimits.{CanRead-new}
 
@@ -60,22 +61,22 @@ rows-sound image sound =
 
 -- images that show the same have one text in a palette
 pub hidden-returned : {S : Type 0} (bytes : S → List ℕ) (result : Result S SixelError)
-    (image other : Image) (colors : List (List ℕ)) (dither : Dither) (form : TextForm)
+    (image other : Image) (colors : List (List ℕ)) (mapping : Mapping) (form : TextForm)
     (others : List ℕ) (rest : Option CallFault)
     → FailsBy (option_or (size_call_fault (image_fault image)) rest) result
-    → IfOk result (λ text. IsPaletteText image colors dither form (bytes text))
-    → shown_image image ≡ shown_image other → IsPaletteText other colors dither form others
+    → IfOk result (λ text. IsPaletteText image colors mapping form (bytes text))
+    → shown_image image ≡ shown_image other → IsPaletteText other colors mapping form others
     → IfOk result (λ text. bytes text ≡ others)
-hidden-returned bytes (Ok text) image other colors dither form others rest fails is same also =
+hidden-returned bytes (Ok text) image other colors mapping form others rest fails is same also =
     let sound =
     sound-first (image_fault image) rest
     (none-from_ok (option_or (size_call_fault (image_fault image)) rest) text fails) in
     is.text.text
     ∙ (ap (form_text form)
-    (drawing-alike dither image other colors is.indices also.indices same
+    (drawing-alike mapping image other colors is.indices also.indices same
     (rows-sound image sound) is.dithered also.dithered)
     ∙ sym also.text.text)
-hidden-returned bytes (Err e) image other colors dither form others rest fails is same also = tt
+hidden-returned bytes (Err e) image other colors mapping form others rest fails is same also = tt
 
 -- as well as what is returned for given indices
 pub readable-indexed : {S : Type 0} (result : Result S SixelError) (image : Image) (colors : ℕ)

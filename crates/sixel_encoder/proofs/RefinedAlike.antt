@@ -1,10 +1,9 @@
 -- A refined text of an image is one of each image that shows the same.
-use Rattle.std.proofs.Common.{◌≡◌, ℕ, zero, suc, ◌+◌, ◌*◌, ◌<◌, nat_lt, true, false, cond, List}
-use Rattle.std.proofs.Common.{length, refl, ap, sym, subst, ◌∙◌, arith, inl, inr}
+use Rattle.std.proofs.Common.{◌≡◌, ℕ, ◌+◌, ◌*◌, ◌<◌, List}
+use Rattle.std.proofs.Common.{length, ap, sym, subst, ◌∙◌, arith, inl, inr}
 use Rattle.std.specs.Prelude.{◌/◌, All, Err, IfOk, None, Ok, OnOk, Option, Result, slice_index}
 use Rattle.std.specs.Option.{option_or}
 use Rattle.std.proofs.lemmas.Bool.{cases_lt}
-use Rattle.std.proofs.lemmas.Bool.Decides.{nat_tests}
 use Rattle.sixel_base.specs.CallFault.{CallFault, FailsBy, size_call_fault}
 use Rattle.sixel_base.specs.Payload.{Image}
 use Rattle.sixel_base.specs.declared.error.SixelError.{SixelError}
@@ -15,7 +14,7 @@ use Rattle.sixel_palette.specs.GainCut.{bin_step}
 use Rattle.sixel_palette.specs.declared.palette.refined.RefinedPalette.{RefinedPalette}
 use Rattle.sixel_palette.proofs.PaletteOne.{refined_same}
 use Rattle.sixel_palette.proofs.PaletteTops.{tops_alike}
-use Rattle.sixel_encoder.specs.declared.dither.Dither.{Dither}
+use Rattle.sixel_encoder.specs.declared.mapping.Mapping.{Mapping}
 use Rattle.sixel_encoder.specs.declared.form.TextForm.{TextForm}
 use Rattle.sixel_encoder.specs.Dithering.{AreDithered}
 use Rattle.sixel_encoder.specs.Encoding.{image_fault, shown_image}
@@ -23,52 +22,12 @@ use Rattle.sixel_encoder.specs.IndexedDrawing.{IsPaletteText, IsTextOf, indexed_
 use Rattle.sixel_encoder.specs.RefinedText.{IsRefinedText, ShowsEntries}
 use Rattle.sixel_encoder.specs.Text.{Drawing}
 use Rattle.sixel_encoder.proofs.PaletteText.{hidden-returned, rows-sound}
-use Rattle.sixel_encoder.proofs.SameDithering.{AreAlike, AreAlike-images, AreDithered-alike}
-use Rattle.sixel_encoder.proofs.SameDithering.{drawing-alike}
+use Rattle.sixel_encoder.proofs.SameDithering.{AreDithered-alike}
+use Rattle.sixel_encoder.proofs.SameVisits.{AreAlike, AreAlike-images}
+use Rattle.sixel_encoder.proofs.SameDithering.{drawing-alike, pixels-same}
 use Rattle.sixel_encoder.proofs.SameDrawing.{IsShown-other}
 
 -- ---- the palette
-
--- equal numbers have equal sums
-sum_to-same : (f g : ℕ → ℕ) (n : ℕ) → ((k : ℕ) → k < n → f k ≡ g k) → sum_to f n ≡ sum_to g n
-unfolding sum_to
-sum_to-same f g zero same = refl
-sum_to-same f g (suc n) same =
-    let before = sum_to-same f g n (λ k l. same k (omega arith)) in
-    ap (λ m. m + f n) before ∙ ap (λ m. sum_to g n + m) (same n (omega arith))
-
--- a number of a pixel's color is the same
-number-same : (number : List ℕ → ℕ) (p q : List ℕ) (pixel : ℕ) → AreAlike p q
-    → pixel < length p / 4 → opaque_number number p pixel ≡ opaque_number number q pixel
-number-same number p q pixel alike l =
-    elim (cases_lt (slice_index p (4 * pixel + 3)) 128) [
-      | inl dark ↦
-          let there = alike.dark pixel l dark in
-          let here_test : nat_lt (slice_index p (4 * pixel + 3)) 128 ≡ true =
-          grind (arith, nat_tests) in
-          let there_test : nat_lt (slice_index q (4 * pixel + 3)) 128 ≡ true =
-          grind (arith, nat_tests) in
-          ap (λ test. cond test 0 (number (color_at p pixel))) here_test
-          ∙ sym (ap (λ test. cond test 0 (number (color_at q pixel))) there_test)
-      | inr light ↦
-          let there = alike.opaque pixel l light in
-          let lit = there.0 in
-          let here_test : nat_lt (slice_index p (4 * pixel + 3)) 128 ≡ false =
-          grind (arith, nat_tests) in
-          let there_test : nat_lt (slice_index q (4 * pixel + 3)) 128 ≡ false =
-          grind (arith, nat_tests) in
-          ap (λ test. cond test 0 (number (color_at p pixel))) here_test
-          ∙ (ap number (sym there.1)
-          ∙ sym (ap (λ test. cond test 0 (number (color_at q pixel))) there_test))
-    ]
-
--- so is its sum over the opaque pixels
-pub pixels-same : (p q : List ℕ) → AreAlike p q → (number : List ℕ → ℕ)
-    → opaque_pixels p number ≡ opaque_pixels q number
-pixels-same p q alike number =
-    sum_to-same (opaque_number number p) (opaque_number number q) (length p / 4)
-    (λ pixel l. number-same number p q pixel alike l)
-    ∙ ap (sum_to (opaque_number number q)) alike.count
 
 -- the indices of nearest entries are the same
 indices-same : (p q : List ℕ) (entries : List (List ℕ)) (indices : List ℕ) → AreAlike p q
@@ -141,23 +100,23 @@ IsRefined-other image other max_colors palette e is =
 
 -- ---- the text
 
-pub IsRefinedText-other : (image other : Image) (max_colors : ℕ) (dither : Dither)
+pub IsRefinedText-other : (image other : Image) (max_colors : ℕ) (mapping : Mapping)
     (form : TextForm) (text : List ℕ) → image_fault image ≡ None
-    → shown_image image ≡ shown_image other → IsRefinedText image max_colors dither form text
-    → IsRefinedText other max_colors dither form text
-IsRefinedText-other image other max_colors dither form text sound e is =
+    → shown_image image ≡ shown_image other → IsRefinedText image max_colors mapping form text
+    → IsRefinedText other max_colors mapping form text
+IsRefinedText-other image other max_colors mapping form text sound e is =
     let alike = AreAlike-images image other e in
     let rows = rows-sound image sound in
     let colors = is.palette.colors.items in
     let indices = is.text.indices in
     let wide : image.width ≡ other.width = ap (λ s. s.width) e in
-    let dithered : AreDithered dither other.width other.pixels colors indices =
-    subst (λ (w : ℕ). AreDithered dither w other.pixels colors indices) wide
-    (AreDithered-alike dither image.width image.pixels other.pixels colors indices alike rows
+    let dithered : AreDithered mapping other.width other.pixels colors indices =
+    subst (λ (w : ℕ). AreDithered mapping w other.pixels colors indices) wide
+    (AreDithered-alike mapping image.width image.pixels other.pixels colors indices alike rows
     is.text.dithered) in
     let drawing : indexed_drawing image colors indices ≡ indexed_drawing other colors indices =
-    drawing-alike dither image other colors indices indices e rows is.text.dithered dithered in
-    let own : IsPaletteText other colors dither form text = record {
+    drawing-alike mapping image other colors indices indices e rows is.text.dithered dithered in
+    let own : IsPaletteText other colors mapping form text = record {
       indices = indices;
       dithered = dithered;
       text = subst (λ (d : Drawing). IsTextOf form d text) drawing is.text.text;
@@ -171,23 +130,23 @@ IsRefinedText-other image other max_colors dither form text sound e is =
 
 -- images that show the same have one refined text
 pub hidden-refined : {S : Type 0} (bytes : S → List ℕ) (result : Result S SixelError)
-    (image other : Image) (max_colors : ℕ) (dither : Dither) (form : TextForm) (others : List ℕ)
+    (image other : Image) (max_colors : ℕ) (mapping : Mapping) (form : TextForm) (others : List ℕ)
     (rest : Option CallFault)
     → FailsBy (option_or (size_call_fault (image_fault image)) rest) result
     → OnOk result (All (λ byte. byte < 256) image.pixels)
-    → IfOk result (λ text. IsRefinedText image max_colors dither form (bytes text))
-    → shown_image image ≡ shown_image other → IsRefinedText other max_colors dither form others
+    → IfOk result (λ text. IsRefinedText image max_colors mapping form (bytes text))
+    → shown_image image ≡ shown_image other → IsRefinedText other max_colors mapping form others
     → IfOk result (λ text. bytes text ≡ others)
-hidden-refined bytes (Ok text) image other max_colors dither form others rest fails small is e also =
+hidden-refined bytes (Ok text) image other most mapping form others rest fails small is e too =
     let colors =
-    (refined_same image.pixels other.pixels max_colors is.palette also.palette small
+    (refined_same image.pixels other.pixels most is.palette too.palette small
     (λ c shown. IsShown-other image other e c shown)
     (λ c shown. IsShown-other other image (sym e) c shown)
     (pixels-same image.pixels other.pixels (AreAlike-images image other e)) is.refined
-    also.refined).1 in
-    hidden-returned bytes (Ok text) image other is.palette.colors.items dither form others rest
+    too.refined).1 in
+    hidden-returned bytes (Ok text) image other is.palette.colors.items mapping form others rest
     fails is.text e
-    (subst (λ (c : List (List ℕ)). IsPaletteText other c dither form others) (sym colors)
-    also.text)
-hidden-refined bytes (Err f) image other max_colors dither form others rest fails small is e also =
+    (subst (λ (c : List (List ℕ)). IsPaletteText other c mapping form others) (sym colors)
+    too.text)
+hidden-refined bytes (Err f) image other most mapping form others rest fails small is e too =
     tt

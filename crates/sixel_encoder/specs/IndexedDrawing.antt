@@ -11,21 +11,15 @@ use Rattle.sixel_base.specs.declared.error.SixelError.TheVariants.{BufferSizeMis
 use Rattle.sixel_base.specs.declared.state.DecoderState.{DecoderState}
 use Rattle.sixel_base.specs.Payload.{Image}
 use Rattle.sixel_base.specs.Size.{banded}
-use Rattle.sixel_encoder.specs.declared.dither.Dither.{Dither}
+use Rattle.sixel_encoder.specs.declared.mapping.Mapping.{Mapping}
 use Rattle.sixel_encoder.specs.declared.form.TextForm.{TextForm}
-use Rattle.sixel_encoder.specs.Dithering.{AreDithered}
+use Rattle.sixel_encoder.specs.Dithering.{AreDithered, entry_of}
 use Rattle.sixel_encoder.specs.Encoding.{AreShortest, image_fault}
 use Rattle.sixel_encoder.specs.Form.{form_text}
 use Rattle.sixel_encoder.specs.Text.{Drawing, text_of}
 use Rattle.sixel_encoder.specs.Trip.{CanRead, IsOneString, IsReadAs, trip}
 
 -- ---- drawings
-
--- the entry of a pixel: its index, if it is opaque
-abbrev pub entry_of : List ℕ → List ℕ → ℕ → Option ℕ
-entry_of pixels indices pixel =
-    if nat_le 128 (slice_index pixels (4 * pixel + 3)) then Some (slice_index indices pixel)
-    else None
 
 -- the entries of all pixels
 abbrev pub entries_of : List ℕ → List ℕ → List (Option ℕ)
@@ -57,10 +51,10 @@ pub record IsTextOf (form : TextForm) (drawing : Drawing) (bytes : List ℕ) : T
       → IsReadAs decoder bytes (trip decoder.raster_crop drawing)
 
 -- the bytes are the text of the image in this palette and form
-pub record IsPaletteText (image : Image) (colors : List (List ℕ)) (dither : Dither)
+pub record IsPaletteText (image : Image) (colors : List (List ℕ)) (mapping : Mapping)
     (form : TextForm) (bytes : List ℕ) : Type 0 where
   pub indices : List ℕ
-  pub dithered : AreDithered dither image.width image.pixels colors indices
+  pub dithered : AreDithered mapping image.width image.pixels colors indices
   pub text : IsTextOf form (indexed_drawing image colors indices) bytes
 
 -- ---- errors of a call

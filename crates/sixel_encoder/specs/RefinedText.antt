@@ -3,7 +3,7 @@ use Rattle.std.specs.Prelude.{◌≡◌, ℕ, ◌<◌, ◌++◌, ◌∷◌, [], 
 use Rattle.sixel_base.specs.Payload.{Image}
 use Rattle.sixel_palette.specs.Refined.{IsRefined}
 use Rattle.sixel_palette.specs.declared.palette.refined.RefinedPalette.{RefinedPalette}
-use Rattle.sixel_encoder.specs.declared.dither.Dither.{Dither}
+use Rattle.sixel_encoder.specs.declared.mapping.Mapping.{Mapping}
 use Rattle.sixel_encoder.specs.declared.form.TextForm.{TextForm}
 use Rattle.sixel_encoder.specs.IndexedDrawing.{IsPaletteText, indexed_drawing}
 use Rattle.sixel_encoder.specs.Text.{Drawing}
@@ -16,9 +16,9 @@ ShowsEntries drawing =
     → trip_pixel drawing (Some entry) ≡ slice_index_or drawing.colors entry [] ++ 255 ∷ []
 
 -- the bytes are the text of the image in a refined palette, which a decoder shows unrounded
-pub record IsRefinedText (image : Image) (max_colors : ℕ) (dither : Dither) (form : TextForm)
+pub record IsRefinedText (image : Image) (max_colors : ℕ) (mapping : Mapping) (form : TextForm)
     (bytes : List ℕ) : Type 0 where
   pub palette : RefinedPalette
   pub refined : IsRefined image.pixels max_colors palette
-  pub text : IsPaletteText image palette.colors.items dither form bytes
+  pub text : IsPaletteText image palette.colors.items mapping form bytes
   pub exact : ShowsEntries (indexed_drawing image palette.colors.items text.indices)

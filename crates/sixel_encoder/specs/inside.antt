@@ -4,3 +4,5 @@ pub mod Runs
 pub mod Diffusion
 pub mod Compact
 pub mod Bound
+pub mod Mapped
+pub mod PaletteError

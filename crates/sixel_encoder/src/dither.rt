@@ -1,13 +1,13 @@
 //! How the colors of pixels are replaced by the entries of a palette.
 
-/// How each pixel of an image gets an entry of a palette.
+/// Which color a pixel's entry is chosen for: its target.
 ///
 /// ```rust
 /// let dither = Dither::Diffusion { strength: 8 };
 /// ```
 #[derive(Debug, Clone, Copy, PartialEq, Eq)]
 pub enum Dither {
-    /// Each pixel gets its nearest entry.
+    /// The target of a pixel is its color.
     Off,
     /// Error diffusion by Floyd and Steinberg, in serpentine order.
     ///
@@ -15,14 +15,25 @@ pub enum Dither {
     Diffusion {
         /// How many eighths of the difference are passed on, clamped to 1 to 8.
         ///
-        /// 6 suits palettes chosen for an image, 8 fixed palettes.
+        /// 7 suits palettes chosen for an image, 8 fixed palettes.
         strength: u8,
     },
     /// A fixed pattern is added to the pixels, which is stable from frame to frame.
     Ordered {
         /// How far apart the pattern moves a channel at most.
-        ///
-        /// The distance of neighboring entries suits a fixed palette, as 51 six equal levels.
-        amplitude: u8,
+        amplitude: Amplitude,
     },
+}
+
+/// How far apart the pattern of ordered dithering moves a channel at most.
+#[derive(Debug, Clone, Copy, PartialEq, Eq)]
+pub enum Amplitude {
+    /// The square root of the palette's mean squared error over the opaque pixels.
+    ///
+    /// It is rounded down, and at most 255.
+    Auto,
+    /// So many of the 256 levels.
+    ///
+    /// The distance of neighboring entries suits a fixed palette, as 51 six equal levels.
+    Levels(u8),
 }

@@ -11,9 +11,10 @@ ghost use Rattle.sixel_encoder.specs.IndexedDrawing.{palette_fault, index_count_
 ghost use Rattle.sixel_encoder.specs.IndexedDrawing.{index_range_fault, indexed_fault};
 
 use crate::band::is_opaque;
-use crate::dither::Dither;
 use crate::form::{TextForm, encode_in_form};
 use crate::indices::dithered_indices;
+use crate::indices::mapped::MappedImage;
+use crate::mapping::Mapping;
 use crate::source::Source;
 use crate::text::IndexedImage;
 use sixel_base::size::{validate_buffer, validate_color_count, validate_encode_dimensions};
@@ -31,16 +32,16 @@ pub fn encode_in_palette(
     alloc: Global,
     source: &Source<'_>,
     colors: &[[u8; 3]],
-    dither: Dither,
+    mapping: Mapping,
     form: TextForm,
 ) -> Result<String>
     ensures fault { FailsBy (palette_fault (source_value source.now) (length colors.now)) result }
     ensures text { IfOk result (λ text.
-        IsPaletteText (source_value source.now) colors.now dither form (string_bytes text)) }
+        IsPaletteText (source_value source.now) colors.now mapping form (string_bytes text)) }
 {
     validate_source(source)?;
     validate_color_count(colors.len())?;
-    encode_dithered(alloc, source, colors, dither, form)
+    encode_dithered(alloc, source, colors, mapping, form)
 }
 
 /// Returns the SIXEL output of an image by given palette indices.
@@ -111,7 +112,7 @@ pub fn encode_dithered(
     alloc: Global,
     source: &Source<'_>,
     colors: &[[u8; 3]],
-    dither: Dither,
+    mapping: Mapping,
     form: TextForm,
 ) -> Result<String>
     requires sound { image_fault (source_value source.now) ≡ None }
@@ -119,9 +120,10 @@ pub fn encode_dithered(
     requires few { length colors.now ≤ 256 }
     ensures memory { IfErr result (λ e. e ≡ SixelError.OutOfMemory) }
     ensures text { IfOk result (λ text.
-        IsPaletteText (source_value source.now) colors.now dither form (string_bytes text)) }
+        IsPaletteText (source_value source.now) colors.now mapping form (string_bytes text)) }
 {
-    let indices = dithered_indices(alloc, source.pixels, source.width, colors, dither)?;
+    let image = MappedImage::plain(source.pixels, source.width, colors);
+    let indices = dithered_indices(alloc, &image, mapping)?;
     encode_drawing(alloc, source, colors, &indices, form)
 }
 

@@ -1,35 +1,56 @@
 //! Palette indices of an image's pixels in a given palette.
 
-ghost use Rattle.std.specs.Prelude.{◌≡◌, ℕ, ◌+◌, ◌*◌, ◌/◌, ◌<◌, ◌≤◌, Contains, IfOk, List, length};
-ghost use Rattle.std.specs.Prelude.{slice_index};
+ghost use Rattle.std.specs.Prelude.{◌≡◌, ◌⊎◌, ℕ, ◌+◌, ◌*◌, ◌/◌, ◌<◌, ◌≤◌, All, Contains, IfOk};
+ghost use Rattle.std.specs.Prelude.{List, length, slice_index};
 ghost use Rattle.sixel_base.specs.CallFault.{FailsBy};
 ghost use Rattle.sixel_base.specs.Size.{verdict};
 ghost use Rattle.sixel_palette.specs.Palette.{AreIndices, IsOpaque, color_at};
-ghost use Rattle.sixel_encoder.specs.Dithering.{AreDithered, indices_fault, rows_fault};
-ghost use Rattle.sixel_encoder.specs.Dithering.{Diffused, before_share, below_share, next_share};
+ghost use Rattle.sixel_palette.specs.Refined.{opaque_pixels, summed_error};
+ghost use Rattle.sixel_encoder.specs.Dithering.{AreDithered, index_error, indices_fault};
+ghost use Rattle.sixel_encoder.specs.Dithering.{rows_fault, tolerance_of};
+ghost use Rattle.sixel_encoder.specs.Dithering.{Mapped, before_share, below_share, next_share};
 ghost use Rattle.sixel_encoder.specs.Dithering.{no_error, passed_on, rest_share, serpentine};
 ghost use Rattle.sixel_encoder.specs.Dithering.{visit_error, whole_rows};
+ghost use Rattle.sixel_encoder.specs.inside.Mapped.{IsMappable, IsPlain};
 
 mod diffusion;
+pub mod mapped;
 mod ordered;
+mod palette_error;
+mod undithered;
 
-use crate::dither::Dither;
-use crate::indices::diffusion::{DiffusedImage, diffused_indices};
-use crate::indices::ordered::{OrderedImage, ordered_indices};
+use crate::dither::{Amplitude, Dither};
+use crate::indices::diffusion::diffused_indices;
+use crate::indices::mapped::MappedImage;
+use crate::indices::ordered::ordered_indices;
+use crate::indices::palette_error::{amplitude_of, tolerance_of};
+use crate::indices::undithered::keep_entries;
+use crate::mapping::{Mapping, Tolerance};
 use sixel_base::size::validate_color_count;
 use sixel_base::{Result, SixelError};
-use sixel_palette::palette::nearest_indices::nearest_indices;
+use sixel_palette::palette::nearest_indices::{color_bytes, nearest_indices};
 use std::alloc::{AllocError, Global};
 
 /// Returns the palette index of each pixel in a palette of 1 to 256 colors.
 ///
-/// The pixels are rows of `width`, four bytes each: red, green, blue, alpha. Without dithering each
-/// opaque pixel has the index of its nearest entry, the first of equals. A distance is the sum of
-/// the squared differences of the channels. A transparent pixel, whose alpha is below 128, has
-/// index 0. Its color has no effect: it neither receives nor passes on a difference.
+/// The pixels are rows of `width`, four bytes each: red, green, blue, alpha. The target of a pixel
+/// is its color, moved by the dithering. Each opaque pixel has the index of the entry nearest to
+/// its target, the first of equals. A distance is the sum of the squared differences of the
+/// channels.
+///
+/// A pixel keeps the entry of an opaque neighbor if the distance of that entry to the target is
+/// below the distance of the nearest entry plus the tolerance. One neighbor is the pixel before it
+/// in its row: even rows go from the left, odd rows from the right. The other one is the pixel
+/// above it in the same band of six rows. Of two entries the nearer one is kept, that of the pixel
+/// before it on ties. Without dithering the summed squared error is at most the least one plus the
+/// tolerance for each opaque pixel.
+///
+/// A transparent pixel, whose alpha is below 128, has index 0. Its color has no effect: it neither
+/// receives nor passes on a difference.
 ///
 /// ```rust
-/// let indices = palette_indices(alloc, &image.pixels, image.width, colors, Dither::Off)?;
+/// let mapping = Mapping { dither: Dither::Off, tolerance: Tolerance::Squared(0) };
+/// let indices = palette_indices(alloc, &image.pixels, image.width, colors, mapping)?;
 /// ```
 ///
 /// # Errors
@@ -46,59 +67,120 @@ pub fn palette_indices(
     pixels: &[u8],
     width: usize,
     colors: &[[u8; 3]],
-    dither: Dither,
+    mapping: Mapping,
 ) -> Result<Vec<u8>>
     ensures fault { FailsBy
         (indices_fault (length pixels.now) width (length colors.now)) result }
     ensures indices { IfOk result
-        (λ indices. AreDithered dither width pixels.now colors.now indices.items) }
-    ensures exact { (strength : ℕ) → dither ≡ Dither.Diffusion strength
+        (λ indices. AreDithered mapping width pixels.now colors.now indices.items) }
+    ensures nearest { mapping.dither ≡ Dither.Off → mapping.tolerance ≡ Tolerance.Squared 0
+        → IfOk result (λ indices. AreIndices pixels.now colors.now indices.items) }
+    ensures summed { mapping.dither ≡ Dither.Off → IfOk result (λ indices.
+        index_error colors.now pixels.now indices.items ≤ summed_error colors.now pixels.now
+        + tolerance_of mapping.tolerance colors.now pixels.now
+        * opaque_pixels pixels.now (λ _. 1)) }
+    ensures exact { (strength : ℕ) → mapping.dither ≡ Dither.Diffusion strength
+        → (mapping.tolerance ≡ Tolerance.Auto) ⊎ (mapping.tolerance ≡ Tolerance.Squared 0)
         → ((pixel : ℕ) → pixel < length pixels.now / 4 → IsOpaque pixels.now pixel
         → Contains colors.now (color_at pixels.now pixel))
         → IfOk result (λ indices. AreIndices pixels.now colors.now indices.items) }
 {
     validate_rows(pixels.len(), width)?;
     validate_color_count(colors.len())?;
-    Ok(dithered_indices(alloc, pixels, width, colors, dither)?)
+    color_bytes(colors);
+    let image = MappedImage::plain(pixels, width, colors);
+    Ok(dithered_indices(alloc, &image, mapping)?)
 }
 
 /// Returns the palette index of each pixel of whole rows, in 1 to 256 colors.
 pub fn dithered_indices(
     alloc: Global,
-    pixels: &[u8],
-    width: usize,
-    colors: &[[u8; 3]],
-    dither: Dither,
+    image: &MappedImage<'_>,
+    mapping: Mapping,
 ) -> std::result::Result<Vec<u8>, AllocError>
-    requires width { 0 < width }
-    requires rows { length pixels.now ≡ whole_rows (length pixels.now) width }
-    requires some { 0 < length colors.now }
-    requires few { length colors.now ≤ 256 }
-    ensures { IfOk result
-        (λ indices. AreDithered dither width pixels.now colors.now indices.items) }
+    requires image { IsMappable image.now }
+    requires plain { IsPlain image.now }
+    ensures { IfOk result (λ indices.
+        AreDithered mapping image.now.width image.now.pixels.now image.now.colors.now
+        indices.items) }
 {
-    match dither {
-        Dither::Off => nearest_indices(alloc, pixels, colors),
-        Dither::Ordered { amplitude } => {
-            let image = OrderedImage {
-                pixels,
-                width,
-                colors,
-                amplitude,
-            };
-            ordered_indices(alloc, &image)
-        }
-        Dither::Diffusion { strength } => {
-            let image = DiffusedImage {
-                pixels,
-                width,
-                colors,
+    match (mapping.dither, mapping.tolerance) {
+        (Dither::Diffusion { strength }, Tolerance::Squared(tolerance)) => {
+            let image = MappedImage {
                 strength: strength.clamp(1, 8),
+                tolerance,
+                ..*image
             };
             diffused_indices(alloc, &image)
         }
+        (
+            Dither::Ordered {
+                amplitude: Amplitude::Levels(amplitude),
+            },
+            Tolerance::Squared(tolerance),
+        ) => {
+            let image = MappedImage {
+                amplitude,
+                tolerance,
+                ..*image
+            };
+            ordered_indices(alloc, &image)
+        }
+        _ => {
+            let nearest = nearest_indices(alloc, image.pixels, image.colors)?;
+            indices_from(alloc, image, nearest, mapping)
+        }
     }
 }
+
+/// Returns the palette index of each pixel of whole rows, whose nearest entries are known.
+pub fn indices_from(
+    alloc: Global,
+    image: &MappedImage<'_>,
+    nearest: Vec<u8>,
+    mapping: Mapping,
+) -> std::result::Result<Vec<u8>, AllocError>
+    requires width { 0 < image.now.width }
+    requires rows { length image.now.pixels.now
+        ≡ whole_rows (length image.now.pixels.now) image.now.width }
+    requires few { length image.now.colors.now ≤ 256 }
+    requires plain { IsPlain image.now }
+    requires nearest { AreIndices image.now.pixels.now image.now.colors.now nearest.items }
+    ensures { IfOk result (λ indices.
+        AreDithered mapping image.now.width image.now.pixels.now image.now.colors.now
+        indices.items) }
+{
+    if image.colors.is_empty() {
+        return Ok(nearest);
+    }
+    channel_bytes(image.pixels, image.colors);
+    let tolerance = tolerance_of(image, &nearest, mapping.tolerance);
+    let image = MappedImage {
+        tolerance,
+        ..*image
+    };
+    match mapping.dither {
+        Dither::Off => Ok(keep_entries(&image, nearest)),
+        Dither::Ordered { amplitude } => {
+            let amplitude = amplitude_of(&image, &nearest, amplitude);
+            ordered_indices(alloc, &MappedImage { amplitude, ..image })
+        }
+        // Each pixel's color is an entry, so there is nothing to pass on.
+        Dither::Diffusion { .. } if tolerance == 0 && mapping.tolerance == Tolerance::Auto => {
+            Ok(nearest)
+        }
+        Dither::Diffusion { strength } => {
+            let strength = strength.clamp(1, 8);
+            diffused_indices(alloc, &MappedImage { strength, ..image })
+        }
+    }
+}
+
+/// States that channels of pixels are bytes, three per color. It does nothing.
+fn channel_bytes(pixels: &[u8], colors: &[[u8; 3]])
+    ensures bytes { (k : ℕ) → slice_index pixels.now k < 256 }
+    ensures three { All (λ color. length color ≡ 3) colors.now }
+{}
 
 /// States laws of error diffusion. It does nothing.
 ///
@@ -110,9 +192,9 @@ pub fn error_diffusion()
     ensures bounded { (strength value entry : ℕ) → value ≤ 4080 → entry < 256
         → (512 * strength ≤ passed_on strength value entry + 510 * strength)
         × (passed_on strength value entry ≤ 512 * strength + 510 * strength) }
-    ensures transparent { (d : Diffused) (indices : List ℕ) (errors : List (List ℕ)) (n : ℕ)
-        → slice_index d.pixels (4 * serpentine d.width n + 3) < 128
-        → visit_error d indices errors n ≡ no_error d.strength }
+    ensures transparent { (m : Mapped) (indices : List ℕ) (errors : List (List ℕ)) (n : ℕ)
+        → slice_index m.pixels (4 * serpentine m.width n + 3) < 128
+        → visit_error m indices errors n ≡ no_error m.strength }
 {}
 
 /// Returns an error unless so many bytes are whole rows of some pixels.

@@ -16,7 +16,7 @@ ghost use Rattle.sixel_base.specs.Dcs.{Reading, stage};
 ghost use Rattle.sixel_base.specs.Limits.{Limit};
 ghost use Rattle.sixel_base.specs.OneShot.{Payload, found};
 ghost use Rattle.sixel_encoder.specs.Compact.{compact_text};
-ghost use Rattle.sixel_encoder.specs.declared.dither.Dither.{Dither};
+ghost use Rattle.sixel_encoder.specs.declared.mapping.Mapping.{Mapping};
 ghost use Rattle.sixel_encoder.specs.declared.form.TextForm.{TextForm};
 ghost use Rattle.sixel_encoder.specs.Marks.{IsDrawnText};
 ghost use Rattle.sixel_encoder.specs.RefinedText.{IsRefinedText};
@@ -151,8 +151,8 @@ pub fn second_trip()
 ///
 /// So colors of transparent pixels are no part of what a refined output has to be.
 pub fn refined_text()
-    ensures { (image other : Image) (max_colors : ℕ) (dither : Dither) (form : TextForm)
+    ensures { (image other : Image) (max_colors : ℕ) (mapping : Mapping) (form : TextForm)
         (text : List ℕ) → image_fault image ≡ None → shown_image image ≡ shown_image other
-        → IsRefinedText image max_colors dither form text
-        → IsRefinedText other max_colors dither form text }
+        → IsRefinedText image max_colors mapping form text
+        → IsRefinedText other max_colors mapping form text }
 {}

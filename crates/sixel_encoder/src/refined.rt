@@ -6,9 +6,11 @@ ghost use Rattle.sixel_encoder.specs.Encoding.{source_value};
 ghost use Rattle.sixel_encoder.specs.IndexedDrawing.{palette_fault};
 ghost use Rattle.sixel_encoder.specs.RefinedText.{IsRefinedText};
 
-use crate::dither::Dither;
 use crate::form::TextForm;
-use crate::given_palette::{encode_dithered, encode_drawing, validate_source};
+use crate::given_palette::{encode_drawing, validate_source};
+use crate::indices::indices_from;
+use crate::indices::mapped::MappedImage;
+use crate::mapping::Mapping;
 use crate::source::Source;
 use sixel_base::Result;
 use sixel_palette::palette::{RefinedPalette, refine_palette};
@@ -26,19 +28,22 @@ pub fn encode_refined(
     alloc: Global,
     source: &Source<'_>,
     max_colors: u16,
-    dither: Dither,
+    mapping: Mapping,
     form: TextForm,
 ) -> Result<String>
     ensures fault { FailsBy (palette_fault (source_value source.now) max_colors) result }
     ensures bytes { OnOk result (All (λ byte. byte < 256) (source_value source.now).pixels) }
     ensures text { IfOk result (λ text.
-        IsRefinedText (source_value source.now) max_colors dither form (string_bytes text)) }
+        IsRefinedText (source_value source.now) max_colors mapping form (string_bytes text)) }
 {
     validate_source(source)?;
     let palette = refine_palette(alloc, source.pixels, max_colors)?;
-    if dither == Dither::Off || palette.colors.is_empty() {
-        encode_drawing(alloc, source, &palette.colors, &palette.indices, form)
-    } else {
-        encode_dithered(alloc, source, &palette.colors, dither, form)
-    }
+    let RefinedPalette {
+        colors,
+        indices,
+        ..
+    } = palette;
+    let image = MappedImage::plain(source.pixels, source.width, &colors);
+    let indices = indices_from(alloc, &image, indices, mapping)?;
+    encode_drawing(alloc, source, &colors, &indices, form)
 }

@@ -8,6 +8,7 @@ use crate::rows::{draw_rest, draw_rows};
 use crate::streaming::{decode_chunks, decode_payload_chunks};
 use crate::terminal::{Images, Read};
 use crate::viewer::open;
+use icy_sixel::encoder::{Dither, Mapping, Tolerance, palette_indices};
 use icy_sixel::receiver::SixelReceiver;
 use icy_sixel::script::Outcome;
 use icy_sixel::{Result, SixelDecoder, SixelImage};
@@ -187,6 +188,49 @@ fn palettes(rt: HostRuntime) -> std::result::Result<(), Fail> {
     let is_refined = is_text(encode_photograph(rt.alloc(), &image), REFINED);
     assert!(rt; is_diffused & is_black & is_refined);
     Ok(())
+}
+
+/// A palette of two grays.
+const DARK_GRAYS: &[[u8; 3]] = &[[0, 0, 0], [8, 8, 8]];
+
+/// Whether pixels have these indices in the palette of two grays, without dithering.
+fn are_kept(alloc: Global, grays: (&[u8], usize), tolerance: Tolerance, expected: &[u8]) -> bool {
+    let mut pixels = Vec::new(alloc);
+    for gray in grays.0 {
+        // A gray of 255 stands for a transparent pixel.
+        let alpha = if *gray == 255 { 0 } else { 255 };
+        if pixels
+            .extend_from_slice(&[*gray, *gray, *gray, alpha])
+            .is_err()
+        {
+            return false;
+        }
+    }
+    let mapping = Mapping {
+        dither: Dither::Off,
+        tolerance,
+    };
+    match palette_indices(alloc, &pixels, grays.1, DARK_GRAYS, mapping) {
+        Ok(indices) => indices.as_slice() == expected,
+        Err(_) => false,
+    }
+}
+
+#[test]
+fn tolerances(rt: HostRuntime) {
+    let row: (&[u8], usize) = (&[0, 5, 9], 3);
+    let most = Tolerance::Squared(49);
+    // The entry before is at 75, the nearest one at 27: 48 more is not enough.
+    let is_nearest = are_kept(rt.alloc(), row, Tolerance::Squared(48), &[0, 1, 1]);
+    let is_kept = are_kept(rt.alloc(), row, most, &[0, 0, 1]);
+    let is_automatic = are_kept(rt.alloc(), row, Tolerance::Auto, &[0, 1, 1]);
+    // The seventh row begins a band.
+    let column: (&[u8], usize) = (&[0, 5, 5, 5, 5, 5, 5], 1);
+    let is_band = are_kept(rt.alloc(), column, most, &[0, 0, 0, 0, 0, 0, 1]);
+    // The second row goes from the right, and transparent pixels have no entry.
+    let rows: (&[u8], usize) = (&[255, 255, 5, 0], 2);
+    let is_serpentine = are_kept(rt.alloc(), rows, most, &[0, 0, 0, 0]);
+    assert!(rt; is_nearest & is_kept & is_automatic & is_band & is_serpentine);
 }
 
 /// Draws a DCS sequence of two bands in chunks, and returns whether each row is drawn in time.

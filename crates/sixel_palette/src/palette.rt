@@ -20,7 +20,7 @@ mod code_list;
 mod color_counts;
 mod color_sums;
 mod colors;
-mod distance;
+pub mod distance;
 mod farthest;
 mod farthest_on_top;
 mod flags;

@@ -19,35 +19,71 @@ impl Default for EncodeOptions {
     }
 }
 
-/// How each pixel of an image gets an entry of a palette.
+/// Which color a pixel's entry is chosen for.
 #[derive(Clone, Copy, Debug, PartialEq, Eq)]
 pub enum Dither {
-    /// Each pixel gets its nearest entry.
+    /// The color of the pixel.
     Off,
     /// Error diffusion by Floyd and Steinberg, in serpentine order.
     Diffusion {
         /// How many eighths of the error are diffused, clamped to 1 to 8.
         ///
-        /// 6 suits palettes chosen for an image, 8 fixed palettes.
+        /// 7 suits palettes chosen for an image, 8 fixed palettes.
         strength: u8,
     },
     /// A fixed pattern is added to the pixels, which is stable from frame to frame.
     Ordered {
         /// How far apart the pattern moves a channel at most.
-        ///
-        /// The distance of neighboring entries suits a fixed palette, as 51 six equal levels.
-        amplitude: u8,
+        amplitude: Amplitude,
     },
 }
 
-impl Dither {
-    /// The dithering as C passes it.
-    fn dithering(self) -> Dithering {
-        match self {
-            Dither::Off => Dithering::default(),
-            Dither::Diffusion { strength } => Dithering { kind: 1, amount: strength },
-            Dither::Ordered { amplitude } => Dithering { kind: 2, amount: amplitude },
-        }
+/// How far apart the pattern of ordered dithering moves a channel at most.
+#[derive(Clone, Copy, Debug, PartialEq, Eq)]
+pub enum Amplitude {
+    /// The square root of the palette's mean squared error over the opaque pixels.
+    Auto,
+    /// So many of the 256 levels.
+    ///
+    /// The distance of neighboring entries suits a fixed palette, as 51 six equal levels.
+    Levels(u8),
+}
+
+/// By how much an entry may be farther from a color than the nearest one.
+#[derive(Clone, Copy, Debug, PartialEq, Eq)]
+pub enum Tolerance {
+    /// The mean squared error of the palette, at least 12, or 0 if there is no error.
+    Auto,
+    /// A squared distance. With 0 each pixel has the nearest entry.
+    Squared(u32),
+}
+
+/// How each pixel of an image gets an entry of a palette.
+///
+/// A pixel keeps the entry of the pixel before or above if its squared distance is below that of
+/// the nearest entry plus the tolerance.
+#[derive(Clone, Copy, Debug, PartialEq, Eq)]
+pub struct Mapping {
+    /// Which color a pixel's entry is chosen for.
+    pub dither: Dither,
+    /// How far a neighbor's entry may be from that color.
+    pub tolerance: Tolerance,
+}
+
+impl Mapping {
+    /// The mapping as C passes it. There an amount of 0 is a default.
+    fn in_c(self) -> (Dithering, u32) {
+        let (kind, amount) = match self.dither {
+            Dither::Off | Dither::Ordered { amplitude: Amplitude::Levels(0) } => (0, 0),
+            Dither::Diffusion { strength } => (1, strength.max(1)),
+            Dither::Ordered { amplitude: Amplitude::Auto } => (2, 0),
+            Dither::Ordered { amplitude: Amplitude::Levels(levels) } => (2, levels),
+        };
+        let tolerance = match self.tolerance {
+            Tolerance::Auto => u32::MAX,
+            Tolerance::Squared(distance) => distance.min(u32::MAX - 1),
+        };
+        (Dithering { kind, amount }, tolerance)
     }
 }
 
@@ -138,7 +174,7 @@ pub struct Encoding<'a> {
     aspect_ratio: PixelAspectRatio,
     background_mode: BackgroundMode,
     palette: PaletteMode<'a>,
-    dither: Dither,
+    mapping: Mapping,
     form: TextForm,
 }
 
@@ -154,7 +190,7 @@ impl<'a> Encoding<'a> {
             aspect_ratio: PixelAspectRatio::default(),
             background_mode: BackgroundMode::default(),
             palette: PaletteMode::Refined(256),
-            dither: Dither::Off,
+            mapping: Mapping { dither: Dither::Off, tolerance: Tolerance::Squared(0) },
             form: TextForm::Plain,
         }
     }
@@ -189,10 +225,10 @@ impl<'a> Encoding<'a> {
         Self { palette, ..self }
     }
 
-    /// Sets the dithering, which a farthest palette and indexed pixels do not have.
+    /// Sets how pixels get their entries, except for a farthest palette and indexed pixels.
     #[must_use]
-    pub fn dither(self, dither: Dither) -> Self {
-        Self { dither, ..self }
+    pub fn mapping(self, mapping: Mapping) -> Self {
+        Self { mapping, ..self }
     }
 
     /// Sets the form of the output.
@@ -247,18 +283,19 @@ impl<'a> Encoding<'a> {
         for (color, &[red, green, blue]) in colors.iter_mut().zip(given) {
             *color = Color { red, green, blue };
         }
+        let (dithering, tolerance) = self.mapping.in_c();
         ffi::Encoding {
             width: self.width,
             height: self.height,
             stride: self.stride,
-            reserved: 0,
+            tolerance,
             max_colors,
             color_count: u16::try_from(given.len()).unwrap_or(u16::MAX),
             format,
             pixel_height: self.aspect_ratio.pad() as u8,
             background: u8::from(!self.background_mode.is_transparent()),
             palette,
-            dithering: self.dither.dithering(),
+            dithering,
             form: u8::from(self.form == TextForm::Compact),
             transparent,
             colors,
@@ -269,18 +306,20 @@ impl<'a> Encoding<'a> {
 /// Returns the palette index of each pixel in a palette of 1 to 256 colors.
 ///
 /// ```
-/// use icy_sixel::encoder::{Dither, palette_indices};
+/// use icy_sixel::encoder::{Dither, Mapping, Tolerance, palette_indices};
 ///
 /// let gray = [100, 100, 100, 255].repeat(3);
 /// let colors = [[0, 0, 0], [255, 255, 255]];
-/// let dither = Dither::Diffusion { strength: 8 };
-/// assert_eq!(palette_indices(&gray, 3, &colors, dither)?, [0, 1, 0]);
-/// assert_eq!(palette_indices(&gray, 3, &colors, Dither::Off)?, [0, 0, 0]);
+/// let tolerance = Tolerance::Squared(0);
+/// let mapping = |dither| Mapping { dither, tolerance };
+/// let diffused = mapping(Dither::Diffusion { strength: 8 });
+/// assert_eq!(palette_indices(&gray, 3, &colors, diffused)?, [0, 1, 0]);
+/// assert_eq!(palette_indices(&gray, 3, &colors, mapping(Dither::Off))?, [0, 0, 0]);
 /// # Ok::<(), icy_sixel::SixelError>(())
 /// ```
 ///
-/// The pixels are rows of `width`, four bytes each. Without dithering each opaque pixel has the
-/// index of its nearest entry, the first of equals. A transparent pixel has index 0, and its color
+/// The pixels are rows of `width`, four bytes each. Without dithering and tolerance each opaque
+/// pixel has the index of its nearest entry, the first of equals. A transparent pixel has index 0, and its color
 /// has no effect.
 ///
 /// # Errors
@@ -295,7 +334,7 @@ pub fn palette_indices(
     pixels: &[u8],
     width: usize,
     colors: &[[u8; 3]],
-    dither: Dither,
+    mapping: Mapping,
 ) -> Result<Vec<u8>> {
     let error = |code| match code {
         BAD_DIMENSIONS => SixelError::InvalidDimensions { width, height: 0 },
@@ -307,7 +346,7 @@ pub fn palette_indices(
     };
     let mut indices = Vec::new();
     indices.try_reserve_exact(pixels.len() / 4)?;
-    ffi::palette_indices(pixels, width, colors, dither.dithering(), &mut indices).map_err(error)?;
+    ffi::palette_indices(pixels, width, colors, mapping.in_c(), &mut indices).map_err(error)?;
     Ok(indices)
 }
 

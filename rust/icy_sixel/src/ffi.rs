@@ -95,7 +95,7 @@ pub(crate) struct Encoding {
     pub(crate) width: usize,
     pub(crate) height: usize,
     pub(crate) stride: usize,
-    pub(crate) reserved: u32,
+    pub(crate) tolerance: u32,
     pub(crate) max_colors: u16,
     pub(crate) color_count: u16,
     pub(crate) format: u8,
@@ -218,6 +218,7 @@ unsafe extern "C" {
         colors: *const Color,
         count: usize,
         dithering: *const Dithering,
+        tolerance: u32,
         indices: *mut u8,
         index_capacity: usize,
     ) -> u32;
@@ -552,7 +553,7 @@ pub(crate) fn palette_indices(
     pixels: &[u8],
     width: usize,
     colors: &[[u8; 3]],
-    dithering: Dithering,
+    (dithering, tolerance): (Dithering, u32),
     indices: &mut Vec<u8>,
 ) -> Answer<()> {
     append(indices, |buf, size, written| {
@@ -568,6 +569,7 @@ pub(crate) fn palette_indices(
                 colors.as_ptr().cast(),
                 colors.len(),
                 &raw const dithering,
+                tolerance,
                 buf,
                 size,
             )

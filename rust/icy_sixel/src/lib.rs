@@ -20,8 +20,8 @@ pub use decoder::{
     SixelFeedResult, SixelFeedStatus, SixelStreamDecoder, sixel_decode, sixel_decode_from_dcs,
 };
 pub use encoder::{
-    Dither, EncodeOptions, Encoding, PaletteMode, PixelFormat, TextForm, palette_indices,
-    sixel_encode, sixel_encode_default,
+    Amplitude, Dither, EncodeOptions, Encoding, Mapping, PaletteMode, PixelFormat, TextForm,
+    Tolerance, palette_indices, sixel_encode, sixel_encode_default,
 };
 pub use error::{Result, SixelError};
 pub use palette::{PaletteChoice, RefinedPalette, choose_palette, refine_palette, witnesses_hold};

@@ -2,7 +2,7 @@
 
 use crate::codes::{COLOR_COUNT, error_of};
 use crate::encoder::{
-    Dither, EncodeOptions, Encoding, PaletteMode, PixelFormat, TextForm, exact_encoding,
+    EncodeOptions, Encoding, Mapping, PaletteMode, PixelFormat, TextForm, exact_encoding,
 };
 use crate::error::{Result, SixelError};
 use crate::ffi::Handle;
@@ -167,13 +167,14 @@ impl SixelImage {
     /// Returns the SIXEL output of this image in a given palette of 1 to 256 colors.
     ///
     /// ```
-    /// use icy_sixel::encoder::{Dither, TextForm};
+    /// use icy_sixel::encoder::{Dither, Mapping, TextForm, Tolerance};
     /// use icy_sixel::SixelImage;
     ///
     /// let gray = SixelImage::try_from_rgba([100, 100, 100, 255].repeat(3), 3, 1)?;
     /// let dither = Dither::Diffusion { strength: 8 };
+    /// let mapping = Mapping { dither, tolerance: Tolerance::Squared(0) };
     /// let colors = [[0, 0, 0], [255, 255, 255]];
-    /// let text = gray.encode_with_palette(&colors, dither, TextForm::Compact)?;
+    /// let text = gray.encode_with_palette(&colors, mapping, TextForm::Compact)?;
     /// assert!(text.ends_with("#0;2;0;0;0#1;2;100;100;100#0@@@$#1?@\x1b\\"));
     /// # Ok::<(), icy_sixel::SixelError>(())
     /// ```
@@ -188,10 +189,10 @@ impl SixelImage {
     pub fn encode_with_palette(
         &self,
         colors: &[[u8; 3]],
-        dither: Dither,
+        mapping: Mapping,
         form: TextForm,
     ) -> Result<String> {
-        let encoding = self.encoding()?.dither(dither).form(form);
+        let encoding = self.encoding()?.mapping(mapping).form(form);
         encoding.palette(PaletteMode::Given(colors)).encode(&self.pixels)
     }
 
@@ -246,11 +247,13 @@ impl SixelImage {
     /// Returns the SIXEL output of this image in a refined palette.
     ///
     /// ```
-    /// use icy_sixel::encoder::{Dither, TextForm};
+    /// use icy_sixel::encoder::{Dither, Mapping, TextForm, Tolerance};
     /// use icy_sixel::SixelImage;
     ///
     /// let gray = SixelImage::try_from_rgba([100, 100, 100, 255].repeat(3), 3, 1)?;
-    /// let text = gray.encode_refined(16, Dither::Diffusion { strength: 6 }, TextForm::Compact)?;
+    /// let dither = Dither::Diffusion { strength: 7 };
+    /// let mapping = Mapping { dither, tolerance: Tolerance::Auto };
+    /// let text = gray.encode_refined(16, mapping, TextForm::Compact)?;
     /// assert!(text.ends_with("#0;2;39;39;39#0@@@\x1b\\"));
     /// # Ok::<(), icy_sixel::SixelError>(())
     /// ```
@@ -265,10 +268,10 @@ impl SixelImage {
     pub fn encode_refined(
         &self,
         max_colors: u16,
-        dither: Dither,
+        mapping: Mapping,
         form: TextForm,
     ) -> Result<String> {
-        let encoding = self.encoding()?.dither(dither).form(form);
+        let encoding = self.encoding()?.mapping(mapping).form(form);
         encoding.palette(PaletteMode::Refined(max_colors)).encode(&self.pixels)
     }
 

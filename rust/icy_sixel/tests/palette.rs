@@ -1,9 +1,27 @@
 //! A palette of more colors than it has entries for, and images in palettes.
 
 use icy_sixel::SixelError::{BufferSizeMismatch, InvalidData, InvalidDimensions};
+use icy_sixel::{Amplitude, Mapping, Tolerance, choose_palette, palette_indices};
 use icy_sixel::{Dither, EncodeOptions, Encoding, PaletteMode, PixelFormat, SixelImage, TextForm};
-use icy_sixel::{choose_palette, palette_indices};
 use icy_sixel::{refine_palette, sixel_encode, witnesses_hold};
+
+/// Each pixel has the entry nearest to its target.
+fn exact(dither: Dither) -> Mapping {
+    Mapping { dither, tolerance: Tolerance::Squared(0) }
+}
+
+/// The second pixel has squared distances of 36 and 16 to the entries.
+#[test]
+fn tolerances() {
+    let pixels = [0, 0, 0, 255, 6, 0, 0, 255];
+    let (dither, squared) = (Dither::Off, Tolerance::Squared);
+    let runs = [(squared(20), 1), (squared(21), 0), (squared(u32::MAX), 0), (Tolerance::Auto, 1)];
+    for (tolerance, index) in runs {
+        let mapping = Mapping { dither, tolerance };
+        let found = palette_indices(&pixels, 2, &[[0; 3], [10, 0, 0]], mapping).unwrap();
+        assert_eq!(found, [0, index]);
+    }
+}
 
 /// With more colors than entries the buffers of entries and of witnesses are full, and the entries
 /// are those of the text.
@@ -38,7 +56,7 @@ const HEAD: &str = "\x1bP9;1;0q\"1;1;3;1";
 #[test]
 fn texts_in_palettes() {
     let image = SixelImage::from_rgba(ROW.to_vec(), 3, 1);
-    let diffusion = Dither::Diffusion { strength: 6 };
+    let diffusion = exact(Dither::Diffusion { strength: 6 });
     let definitions = format!("{HEAD}#0;2;0;0;0#1;2;100;100;100");
     let plain = format!("{definitions}#0@@?$#1??@$-\x1b\\");
     let compact = format!("{definitions}#0@@#1@\x1b\\");
@@ -51,7 +69,9 @@ fn texts_in_palettes() {
     assert_eq!(text(TextForm::Compact), compact);
     // The mean of the first two pixels is 2 percent of red.
     let refined = format!("{HEAD}#0;2;2;0;0#1;2;100;100;100#0@@#1@\x1b\\");
-    for dither in [Dither::Off, diffusion, Dither::Ordered { amplitude: 8 }] {
+    for dither in
+        [exact(Dither::Off), diffusion, exact(Dither::Ordered { amplitude: Amplitude::Levels(8) })]
+    {
         assert_eq!(image.encode_refined(2, dither, TextForm::Compact).unwrap(), refined);
     }
 }
@@ -96,7 +116,7 @@ fn all_indices() {
         pixels.extend([9, 9, 9, alpha].repeat(width - 256));
         let indices: Vec<u8> = pixels.chunks(4).map(|it| it[0]).collect();
         let image = SixelImage::from_rgba(pixels.clone(), width, 1);
-        let text = image.encode_with_palette(&colors, Dither::Off, TextForm::Plain);
+        let text = image.encode_with_palette(&colors, exact(Dither::Off), TextForm::Plain);
         assert_eq!(image.encode_indexed(&colors, &indices, TextForm::Plain), text);
     }
 }
@@ -105,7 +125,7 @@ fn all_indices() {
 fn errors_of_palettes() {
     let count = InvalidData("number of colors is not 1 to 256".into());
     let image = SixelImage::from_rgba(ROW.to_vec(), 3, 1);
-    let (off, plain) = (Dither::Off, TextForm::Plain);
+    let (off, plain) = (exact(Dither::Off), TextForm::Plain);
     assert_eq!(image.encode_with_palette(&[], off, plain), Err(count.clone()));
     assert_eq!(image.encode_with_palette(&[[0; 3]; 257], off, plain), Err(count.clone()));
     for max_colors in [0, 257, 65535] {
@@ -136,7 +156,7 @@ fn a_refined_palette() {
     assert_eq!((transparent.colors.len(), transparent.indices), (0, vec![0; 3]));
     let none = SixelImage::from_rgba(vec![127; 12], 3, 1);
     for dither in [Dither::Off, Dither::Diffusion { strength: 8 }] {
-        let text = none.encode_refined(16, dither, TextForm::Compact).unwrap();
+        let text = none.encode_refined(16, exact(dither), TextForm::Compact).unwrap();
         assert_eq!(text, format!("{HEAD}\x1b\\"));
     }
 }

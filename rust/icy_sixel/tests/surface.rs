@@ -128,15 +128,17 @@ fn names_of_our_own() {
     type Dither = icy_sixel::Dither;
     type Form = icy_sixel::TextForm;
     is_value::<Dither>();
+    type Mapping = icy_sixel::Mapping;
+    is_value::<Mapping>();
     is_value::<Form>();
     is_value::<icy_sixel::PixelFormat>();
     is_value::<icy_sixel::PaletteMode<'_>>();
     type Colors<'a> = &'a [[u8; 3]];
     type Indices = Answer<Vec<u8>>;
-    let _: fn(&[u8], usize, Colors<'_>, Dither) -> Indices = icy_sixel::palette_indices;
+    let _: fn(&[u8], usize, Colors<'_>, Mapping) -> Indices = icy_sixel::palette_indices;
     let _: fn(&Image, &Options) -> Answer<String> = Image::encode_compact;
-    let _: fn(&Image, u16, Dither, Form) -> Answer<String> = Image::encode_refined;
-    let _: fn(&Image, Colors<'_>, Dither, Form) -> Answer<String> = Image::encode_with_palette;
+    let _: fn(&Image, u16, Mapping, Form) -> Answer<String> = Image::encode_refined;
+    let _: fn(&Image, Colors<'_>, Mapping, Form) -> Answer<String> = Image::encode_with_palette;
     let _: fn(&Image, Colors<'_>, &[u8], Form) -> Answer<String> = Image::encode_indexed;
     let _: fn() -> icy_sixel::SixelReceiver = receiver::SixelReceiver::new;
     let _: fn(&mut receiver::SixelReceiver, &[u8]) -> Answer<icy_sixel::Received> =

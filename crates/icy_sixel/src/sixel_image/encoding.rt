@@ -7,7 +7,7 @@ ghost use Rattle.sixel_base.specs.Limits.{Limit};
 use crate::sixel_image::{BackgroundMode, SixelImage};
 use sixel_base::{Result, SixelError};
 use sixel_encoder::{
-    Dither, EncodeOptions, Source, TextForm, encode_in_palette, encode_refined, encode_source,
+    EncodeOptions, Mapping, Source, TextForm, encode_in_palette, encode_refined, encode_source,
     encode_with_indices, one_drawing,
 };
 use std::alloc::Global;
@@ -92,7 +92,8 @@ impl SixelImage {
     ///
     /// ```rust
     /// let dither = Dither::Diffusion { strength: 8 };
-    /// image.encode_with_palette(alloc, colors, dither, TextForm::Compact)
+    /// let mapping = Mapping { dither, tolerance: Tolerance::Auto };
+    /// image.encode_with_palette(alloc, colors, mapping, TextForm::Compact)
     /// ```
     ///
     /// The palette indices are those of [`palette_indices`](crate::encoder::palette_indices).
@@ -106,20 +107,20 @@ impl SixelImage {
         &self,
         alloc: Global,
         colors: &[[u8; 3]],
-        dither: Dither,
+        mapping: Mapping,
         form: TextForm,
     ) -> Result<String>
         ensures fault { FailsBy
             (palette_fault (image_value self.now) (length colors.now)) result }
         ensures text { IfOk result (λ text.
-            IsPaletteText (image_value self.now) colors.now dither form (string_bytes text)) }
+            IsPaletteText (image_value self.now) colors.now mapping form (string_bytes text)) }
         ensures hidden { (other : Image) (bytes : List ℕ)
             → shown_image other ≡ shown_image (image_value self.now)
-            → IsPaletteText other colors.now dither form bytes
+            → IsPaletteText other colors.now mapping form bytes
             → IfOk result (λ text. string_bytes text ≡ bytes) }
         ensures readable { OnOk result (CanRead new_decoder self.now.width self.now.height) }
     {
-        encode_in_palette(alloc, &self.source(), colors, dither, form)
+        encode_in_palette(alloc, &self.source(), colors, mapping, form)
     }
 
     /// Returns the SIXEL output of this image by given palette indices.
@@ -128,7 +129,8 @@ impl SixelImage {
     /// effect, and neither have the colors of pixels.
     ///
     /// ```rust
-    /// let indices = palette_indices(alloc, &image.pixels, image.width, colors, Dither::Off)?;
+    /// let mapping = Mapping { dither: Dither::Off, tolerance: Tolerance::Squared(0) };
+    /// let indices = palette_indices(alloc, &image.pixels, image.width, colors, mapping)?;
     /// image.encode_indexed(alloc, colors, &indices, TextForm::Plain)
     /// ```
     ///
@@ -159,13 +161,14 @@ impl SixelImage {
     /// Returns the SIXEL output of this image in a refined palette.
     ///
     /// The palette is that of [`refine_palette`](crate::palette::refine_palette), of 1 to 256
-    /// colors. Its colors are colors of registers, so a decoder shows the very palette. Without
-    /// dithering each opaque pixel has its nearest entry. Colors of transparent pixels never affect
-    /// the output.
+    /// colors. Its colors are colors of registers, so a decoder shows the very palette. The palette
+    /// indices are those of [`palette_indices`](crate::encoder::palette_indices). Colors of
+    /// transparent pixels never affect the output.
     ///
     /// ```rust
-    /// let dither = Dither::Diffusion { strength: 6 };
-    /// image.encode_refined(alloc, 16, dither, TextForm::Compact)
+    /// let dither = Dither::Diffusion { strength: 7 };
+    /// let mapping = Mapping { dither, tolerance: Tolerance::Auto };
+    /// image.encode_refined(alloc, 16, mapping, TextForm::Compact)
     /// ```
     ///
     /// # Errors
@@ -176,19 +179,19 @@ impl SixelImage {
         &self,
         alloc: Global,
         max_colors: u16,
-        dither: Dither,
+        mapping: Mapping,
         form: TextForm,
     ) -> Result<String>
         ensures fault { FailsBy (palette_fault (image_value self.now) max_colors) result }
         ensures text { IfOk result (λ text.
-            IsRefinedText (image_value self.now) max_colors dither form (string_bytes text)) }
+            IsRefinedText (image_value self.now) max_colors mapping form (string_bytes text)) }
         ensures hidden { (other : Image) (bytes : List ℕ)
             → shown_image other ≡ shown_image (image_value self.now)
-            → IsRefinedText other max_colors dither form bytes
+            → IsRefinedText other max_colors mapping form bytes
             → IfOk result (λ text. string_bytes text ≡ bytes) }
         ensures readable { OnOk result (CanRead new_decoder self.now.width self.now.height) }
     {
-        encode_refined(alloc, &self.source(), max_colors, dither, form)
+        encode_refined(alloc, &self.source(), max_colors, mapping, form)
     }
 
     /// Returns this image with its pixels borrowed.

@@ -2,55 +2,36 @@
 -- the latest errors, one a column. It only saves space: the definitions list all errors.
 use Rattle.std.specs.Prelude.{◌≡◌, ◌≢◌, ℕ, ◌+◌, ◌-◌, ◌*◌, ◌%◌, ◌<◌, ◌≤◌, ◌==◌}
 use Rattle.std.specs.Prelude.{if◌then◌else◌, List, [], ◌∷◌, length, slice_index, slice_index_or}
-use Rattle.sixel_encoder.specs.declared.indices.diffusion.DiffusedImage.{DiffusedImage}
+use Rattle.sixel_encoder.specs.declared.indices.mapped.MappedImage.{MappedImage}
 use Rattle.sixel_encoder.specs.declared.indices.diffusion.Neighbors.{Neighbors}
-use Rattle.sixel_encoder.specs.Dithering.{Diffused, HasTarget, before_share, below_share}
+use Rattle.sixel_encoder.specs.Dithering.{Mapped, HasTarget, before_share, below_share}
 use Rattle.sixel_encoder.specs.Dithering.{column_of_step, error_back, errors_of, next_share}
 use Rattle.sixel_encoder.specs.Dithering.{no_error, passed_on, received, rest_share}
 use Rattle.sixel_encoder.specs.Dithering.{rounded_sixteenths, serpentine}
-use Rattle.sixel_encoder.specs.Dithering.{target_of_visit, visit_error, whole_rows}
+use Rattle.sixel_encoder.specs.Dithering.{target_of_visit, visit_error}
 use Rattle.sixel_encoder.specs.Dithering.{with_received}
 
--- the image, apart from where its pixels and colors lie
-abbrev pub diffused_of : DiffusedImage → Diffused
-diffused_of image = record {
-  strength = image.strength;
-  width = image.width;
-  pixels = image.pixels.now;
-  colors = image.colors.now;
-}
-
--- the pixels are whole rows, and the palette and the strength are valid
-pub record IsDiffusable (image : DiffusedImage) : Type 0 where
-  pub wide : 0 < image.width
-  pub rows : length image.pixels.now ≡ whole_rows (length image.pixels.now) image.width
-  pub some : 0 < length image.colors.now
-  pub few : length image.colors.now ≤ 256
-  pub strength : image.strength ≤ 8
-
 -- the pixels of the first n visits have their indices
-abbrev pub AreVisited : Diffused → List ℕ → ℕ → Type 0
-AreVisited d indices n =
-    (k : ℕ) → k < n
-    → HasTarget (target_of_visit d (errors_of d indices k) k) d.pixels d.colors
-    (serpentine d.width k) (slice_index indices (serpentine d.width k))
+abbrev pub AreVisited : Mapped → List ℕ → ℕ → Type 0
+AreVisited m indices n =
+    (k : ℕ) → k < n → HasTarget m (target_of_visit m (errors_of m indices k) k) indices k
 
 -- Before a step of a row the line has the errors of this row's earlier steps, and in the other
 -- columns those of the row above.
-pub record IsLine (d : Diffused) (errors : List (List ℕ)) (row step : ℕ) (line : List (List ℕ))
+pub record IsLine (m : Mapped) (errors : List (List ℕ)) (row step : ℕ) (line : List (List ℕ))
     : Type 0 where
-  pub whole : length line ≡ d.width
+  pub whole : length line ≡ m.width
   pub this : (j : ℕ) → j < step
-      → slice_index_or line (column_of_step d.width row j) [] ≡ error_back d errors (step - 1 - j)
-  pub above : (j : ℕ) → step ≤ j → j < d.width
-      → slice_index_or line (column_of_step d.width row j) [] ≡ error_back d errors (step + j)
+      → slice_index_or line (column_of_step m.width row j) [] ≡ error_back m errors (step - 1 - j)
+  pub above : (j : ℕ) → step ≤ j → j < m.width
+      → slice_index_or line (column_of_step m.width row j) [] ≡ error_back m errors (step + j)
 
 -- the error is that above the next pixel of the row, in a line
-abbrev pub IsBeyond : Diffused → List (List ℕ) → ℕ → ℕ → List ℕ → Type 0
-IsBeyond d line row step error =
+abbrev pub IsBeyond : Mapped → List (List ℕ) → ℕ → ℕ → List ℕ → Type 0
+IsBeyond m line row step error =
     error
-    ≡ (if step + 1 == d.width then no_error d.strength
-    else slice_index_or line (column_of_step d.width row (step + 1)) [])
+    ≡ (if step + 1 == m.width then no_error m.strength
+    else slice_index_or line (column_of_step m.width row (step + 1)) [])
 
 -- what neighbors pass on in a channel
 abbrev pub received_of : Neighbors → ℕ → ℕ
@@ -65,12 +46,12 @@ abbrev pub received_limit : ℕ
 received_limit = 262144
 
 -- these are received by the pixel of a visit
-abbrev pub AreReceived : Diffused → List (List ℕ) → ℕ → List ℕ → Type 0
-AreReceived d errors n numbers =
-    (k : ℕ) → k < 3 → slice_index numbers k ≡ received d errors (n % d.width) k
+abbrev pub AreReceived : Mapped → List (List ℕ) → ℕ → List ℕ → Type 0
+AreReceived m errors n numbers =
+    (k : ℕ) → k < 3 → slice_index numbers k ≡ received m errors (n % m.width) k
 
 -- the channels of a pixel with these numbers received
-pub record AreSixteenths (image : DiffusedImage) (pixel : ℕ) (numbers values : List ℕ)
+pub record AreSixteenths (image : MappedImage) (pixel : ℕ) (numbers values : List ℕ)
     : Type 0 where
   pub each : (k : ℕ) → k < 3
       → slice_index values k
@@ -92,9 +73,8 @@ color_error strength values entry =
     ∷ passed_on strength (slice_index values 2) (slice_index entry 2) ∷ []
 
 -- a visit gives its pixel an index, leaves the others, and has this error
-pub record IsVisit (d : Diffused) (errors : List (List ℕ)) (n : ℕ) (old new error : List ℕ)
+pub record IsVisit (m : Mapped) (errors : List (List ℕ)) (n : ℕ) (old new error : List ℕ)
     : Type 0 where
-  pub others : (k : ℕ) → k ≢ serpentine d.width n → slice_index new k ≡ slice_index old k
-  pub target : HasTarget (target_of_visit d errors n) d.pixels d.colors (serpentine d.width n)
-      (slice_index new (serpentine d.width n))
-  pub passed : error ≡ visit_error d new errors n
+  pub others : (k : ℕ) → k ≢ serpentine m.width n → slice_index new k ≡ slice_index old k
+  pub target : HasTarget m (target_of_visit m errors n) new n
+  pub passed : error ≡ visit_error m new errors n

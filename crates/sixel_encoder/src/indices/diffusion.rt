@@ -6,36 +6,27 @@
 ghost use Rattle.std.specs.Prelude.{◌≡◌, ℕ, ◌<◌, ◌≤◌, ◌+◌, ◌*◌, ◌/◌, IfOk, List, OnOk, length};
 ghost use Rattle.std.specs.Prelude.{slice_index};
 ghost use Rattle.sixel_palette.specs.inside.PaletteKeys.{IsSearchOf};
-ghost use Rattle.sixel_encoder.specs.Dithering.{AreNearestTo, column_of_step, diffused_color};
-ghost use Rattle.sixel_encoder.specs.Dithering.{errors_of, no_error, passed_on, serpentine};
+ghost use Rattle.sixel_encoder.specs.Dithering.{AreMapped, errors_of, no_error, passed_on};
 ghost use Rattle.sixel_encoder.specs.Dithering.{next_share, before_share, below_share, rest_share};
-ghost use Rattle.sixel_encoder.specs.Dithering.{with_received};
-ghost use Rattle.sixel_encoder.specs.inside.Diffusion.{diffused_of, IsDiffusable, IsLine};
-ghost use Rattle.sixel_encoder.specs.inside.Diffusion.{AreReceived, AreVisited, IsVisit};
+ghost use Rattle.sixel_encoder.specs.Dithering.{target_of_visit, with_received};
+ghost use Rattle.sixel_encoder.specs.inside.Diffusion.{IsLine, AreReceived, AreVisited, IsVisit};
 ghost use Rattle.sixel_encoder.specs.inside.Diffusion.{AreSixteenths, received_of};
 ghost use Rattle.sixel_encoder.specs.inside.Diffusion.{IsBeyond, color_error, received_limit};
 ghost use Rattle.sixel_encoder.specs.inside.Diffusion.{rounded_color};
+ghost use Rattle.sixel_encoder.specs.inside.Mapped.{AreEntries, IsMappable, IsPlace, mapped_value};
 
 use crate::band::is_opaque;
+use crate::indices::mapped::{MappedImage, Place, column_of_step};
 use sixel_palette::palette::nearest::Search;
 use std::alloc::{AllocError, Global};
 
-/// An image whose errors are diffused.
-#[derive(Clone, Copy)]
-pub struct DiffusedImage<'a> {
-    pub pixels: &'a [u8],
-    pub width: usize,
-    pub colors: &'a [[u8; 3]],
-    /// How many eighths of an error are passed on.
-    pub strength: u8,
-}
-
-/// Returns the palette index of each pixel, of the entry nearest to its target.
-pub fn diffused_indices(alloc: Global, image: &DiffusedImage<'_>) -> Result<Vec<u8>, AllocError>
-    requires { IsDiffusable image.now }
-    ensures { IfOk result (λ indices. AreNearestTo
-        (diffused_color (diffused_of image.now) indices.items)
-        image.now.pixels.now image.now.colors.now indices.items) }
+/// Returns the palette index of each pixel, whose target has the errors that it receives.
+pub fn diffused_indices(alloc: Global, image: &MappedImage<'_>) -> Result<Vec<u8>, AllocError>
+    requires { IsMappable image.now }
+    ensures { IfOk result (λ indices. AreMapped (mapped_value image.now)
+        (λ n. target_of_visit (mapped_value image.now)
+        (errors_of (mapped_value image.now) indices.items n) n)
+        indices.items) }
 {
     if image.pixels.is_empty() {
         return Ok(Vec::new(alloc));
@@ -52,7 +43,7 @@ pub fn diffused_indices(alloc: Global, image: &DiffusedImage<'_>) -> Result<Vec<
 /// An error of each channel, in sixteenths above the lowest one.
 type PixelError = [u16; 3];
 
-impl DiffusedImage<'_> {
+impl MappedImage<'_> {
     /// Visits the pixels of a row.
     ///
     /// The line has the errors of the row above, by their columns. It gets those of this row.
@@ -64,18 +55,20 @@ impl DiffusedImage<'_> {
         search: &mut Search,
         row: usize,
     ) -> Result<(), AllocError>
-        requires image { IsDiffusable self.now }
+        requires image { IsMappable self.now }
         requires row { row * self.now.width + self.now.width ≤ length self.now.pixels.now / 4 }
         requires indices { length indices.old ≡ length self.now.pixels.now / 4 }
-        requires visited { AreVisited (diffused_of self.now) indices.old (row * self.now.width) }
-        requires line { IsLine (diffused_of self.now)
-            (errors_of (diffused_of self.now) indices.old (row * self.now.width)) row 0 line.old }
+        requires entries { AreEntries self.now.colors.now indices.old }
+        requires visited { AreVisited (mapped_value self.now) indices.old (row * self.now.width) }
+        requires line { IsLine (mapped_value self.now)
+            (errors_of (mapped_value self.now) indices.old (row * self.now.width)) row 0 line.old }
         requires search { IsSearchOf self.now.colors.now search.old }
         ensures indices { OnOk result (length indices.new ≡ length self.now.pixels.now / 4) }
-        ensures visited { OnOk result (AreVisited (diffused_of self.now) indices.new
+        ensures entries { OnOk result (AreEntries self.now.colors.now indices.new) }
+        ensures visited { OnOk result (AreVisited (mapped_value self.now) indices.new
             (row * self.now.width + self.now.width)) }
-        ensures line { OnOk result (IsLine (diffused_of self.now)
-            (errors_of (diffused_of self.now) indices.new (row * self.now.width + self.now.width))
+        ensures line { OnOk result (IsLine (mapped_value self.now)
+            (errors_of (mapped_value self.now) indices.new (row * self.now.width + self.now.width))
             (row + 1) 0 line.new) }
         ensures search { OnOk result (IsSearchOf self.now.colors.now search.new) }
     {
@@ -83,6 +76,11 @@ impl DiffusedImage<'_> {
         let mut behind = self.no_error();
         for step in 0..self.width {
             let column = column_of_step(self.width, row, step);
+            let place = Place {
+                row,
+                step,
+                pixel: row * self.width + column,
+            };
             let above = line[column];
             let neighbors = Neighbors {
                 before,
@@ -90,8 +88,7 @@ impl DiffusedImage<'_> {
                 above,
                 beyond: self.error_beyond(line, row, step),
             };
-            let pixel = row * self.width + column;
-            let error = self.visit(indices, search, pixel, neighbors.received())?;
+            let error = self.visit(indices, search, place, neighbors.received())?;
             line[column] = error;
             before = error;
             behind = above;
@@ -102,10 +99,10 @@ impl DiffusedImage<'_> {
     /// Returns the error above the next pixel of a row, if there is one.
     #[inline(always)]
     fn error_beyond(&self, line: &[PixelError], row: usize, step: usize) -> PixelError
-        requires image { IsDiffusable self.now }
+        requires image { IsMappable self.now }
         requires step { step < self.now.width }
         requires line { length line.now ≡ self.now.width }
-        ensures { IsBeyond (diffused_of self.now) line.now row step result }
+        ensures { IsBeyond (mapped_value self.now) line.now row step result }
     {
         if step + 1 == self.width {
             self.no_error()
@@ -114,34 +111,39 @@ impl DiffusedImage<'_> {
         }
     }
 
-    /// Stores the index of a pixel that receives these numbers, and returns its error.
+    /// Stores the index of a place that receives these numbers, and returns its error.
     #[inline(always)]
     fn visit(
         &self,
         indices: &mut [u8],
         search: &mut Search,
-        pixel: usize,
+        place: Place,
         received: [u32; 3],
     ) -> Result<PixelError, AllocError>
-        requires image { IsDiffusable self.now }
+        requires image { IsMappable self.now }
         requires indices { length indices.old ≡ length self.now.pixels.now / 4 }
-        requires pixel { pixel < length self.now.pixels.now / 4 }
+        requires entries { AreEntries self.now.colors.now indices.old }
+        requires place { IsPlace (mapped_value self.now) place }
         requires small { (k : ℕ) → k < 3 → slice_index received k ≤ received_limit }
         requires search { IsSearchOf self.now.colors.now search.old }
         ensures indices { OnOk result (length indices.new ≡ length self.now.pixels.now / 4) }
-        ensures visit { IfOk result (λ error. (errors : List (List ℕ)) (n : ℕ)
-            → serpentine self.now.width n ≡ pixel
-            → AreReceived (diffused_of self.now) errors n received
-            → IsVisit (diffused_of self.now) errors n indices.old indices.new error) }
+        ensures entries { OnOk result (AreEntries self.now.colors.now indices.new) }
+        ensures visit { IfOk result (λ error. (errors : List (List ℕ))
+            → AreReceived (mapped_value self.now) errors
+            (place.row * self.now.width + place.step) received
+            → IsVisit (mapped_value self.now) errors (place.row * self.now.width + place.step)
+            indices.old indices.new error) }
         ensures search { OnOk result (IsSearchOf self.now.colors.now search.new) }
     {
-        if !is_opaque(self.pixels, pixel) {
-            indices[pixel] = 0;
+        if !is_opaque(self.pixels, place.pixel) {
+            indices[place.pixel] = 0;
             return Ok(self.no_error());
         }
-        let values = self.sixteenths(pixel, received);
-        let index = search.index_of(rounded(values))?;
-        indices[pixel] = index;
+        let values = self.sixteenths(place.pixel, received);
+        let target = rounded(values);
+        let kept = self.kept(indices, place, target);
+        let index = self.index_of(search, kept, target)?;
+        indices[place.pixel] = index;
         Ok(self.error(values, self.colors[usize::from(index)]))
     }
 
@@ -186,16 +188,6 @@ impl DiffusedImage<'_> {
         let none = 512 * u16::from(self.strength);
         [none, none, none]
     }
-}
-
-/// Returns the column of a step of a row: odd rows go from the right.
-#[inline(always)]
-fn column_of_step(width: usize, row: usize, step: usize) -> usize
-    requires { step < width }
-    ensures value { result ≡ column_of_step width row step }
-    ensures within { result < width }
-{
-    if row % 2 == 0 { step } else { width - 1 - step }
 }
 
 /// The errors of the pixels that pass something on to one pixel.

@@ -2,58 +2,58 @@
 
 ghost use Rattle.std.specs.Prelude.{◌≡◌, ℕ, ◌<◌, ◌≤◌, ◌+◌, ◌*◌, ◌/◌, ◌%◌, IfOk, OnOk, length};
 ghost use Rattle.sixel_palette.specs.inside.PaletteKeys.{IsSearchOf};
-ghost use Rattle.sixel_encoder.specs.Dithering.{AreNearestTo, HasTarget, moved_channel};
-ghost use Rattle.sixel_encoder.specs.Dithering.{ordered_color, threshold};
+ghost use Rattle.sixel_encoder.specs.Dithering.{AreMapped, moved_channel, ordered_color};
+ghost use Rattle.sixel_encoder.specs.Dithering.{serpentine, threshold};
+ghost use Rattle.sixel_encoder.specs.inside.Mapped.{AreEntries, IsIndexAt, IsMappable, IsPlace};
+ghost use Rattle.sixel_encoder.specs.inside.Mapped.{mapped_value};
 
 use crate::band::is_opaque;
+use crate::indices::mapped::{MappedImage, Place};
 use sixel_palette::palette::nearest::Search;
 use std::alloc::{AllocError, Global};
 
-/// An image whose pixels are moved by the pattern.
-#[derive(Clone, Copy)]
-pub struct OrderedImage<'a> {
-    pub pixels: &'a [u8],
-    pub width: usize,
-    pub colors: &'a [[u8; 3]],
-    /// How far apart the pattern moves a channel at most.
-    pub amplitude: u8,
-}
-
-/// Returns the palette index of each pixel: the entry nearest to its moved color.
-pub fn ordered_indices(alloc: Global, image: &OrderedImage<'_>) -> Result<Vec<u8>, AllocError>
-    requires width { 0 < image.now.width }
-    requires some { 0 < length image.now.colors.now }
-    requires few { length image.now.colors.now ≤ 256 }
-    ensures { IfOk result (λ indices. AreNearestTo
-        (ordered_color image.now.amplitude image.now.width image.now.pixels.now)
-        image.now.pixels.now image.now.colors.now indices.items) }
+/// Returns the palette index of each pixel, whose target is its moved color.
+pub fn ordered_indices(alloc: Global, image: &MappedImage<'_>) -> Result<Vec<u8>, AllocError>
+    requires image { IsMappable image.now }
+    ensures { IfOk result (λ indices. AreMapped (mapped_value image.now)
+        (λ n. ordered_color (mapped_value image.now) (serpentine image.now.width n))
+        indices.items) }
 {
     let mut indices = vec![in alloc; 0; image.pixels.len() / 4]?;
     let mut search = Search::new(alloc, image.colors)?;
-    for pixel in 0..image.pixels.len() / 4 {
-        let index = image.palette_index(&mut search, pixel)?;
-        indices[pixel] = index;
+    for visit in 0..image.pixels.len() / 4 {
+        let place = image.place(visit / image.width, visit % image.width);
+        let index = image.palette_index(&indices, &mut search, place)?;
+        indices[place.pixel] = index;
     }
     Ok(indices)
 }
 
-impl OrderedImage<'_> {
-    /// Returns the palette index of a pixel, 0 if it is transparent.
+impl MappedImage<'_> {
+    /// Returns the palette index of a place, 0 if its pixel is transparent.
     #[inline(always)]
-    fn palette_index(&self, search: &mut Search, pixel: usize) -> Result<u8, AllocError>
-        requires width { 0 < self.now.width }
-        requires pixel { pixel < length self.now.pixels.now / 4 }
-        requires some { 0 < length self.now.colors.now }
+    fn palette_index(
+        &self,
+        indices: &[u8],
+        search: &mut Search,
+        place: Place,
+    ) -> Result<u8, AllocError>
+        requires image { IsMappable self.now }
+        requires place { IsPlace (mapped_value self.now) place }
+        requires size { length indices.now ≡ length self.now.pixels.now / 4 }
+        requires entries { AreEntries self.now.colors.now indices.now }
         requires search { IsSearchOf self.now.colors.now search.old }
-        ensures target { IfOk result (HasTarget
-            (ordered_color self.now.amplitude self.now.width self.now.pixels.now pixel)
-            self.now.pixels.now self.now.colors.now pixel) }
+        ensures index { IfOk result (IsIndexAt (mapped_value self.now)
+            (ordered_color (mapped_value self.now) place.pixel) indices.now
+            (place.row * self.now.width + place.step)) }
         ensures search { OnOk result (IsSearchOf self.now.colors.now search.new) }
     {
-        if !is_opaque(self.pixels, pixel) {
+        if !is_opaque(self.pixels, place.pixel) {
             return Ok(0);
         }
-        let index = search.index_of(self.moved_color(pixel))?;
+        let target = self.moved_color(place.pixel);
+        let kept = self.kept(indices, place, target);
+        let index = self.index_of(search, kept, target)?;
         Ok(index)
     }
 
@@ -62,8 +62,7 @@ impl OrderedImage<'_> {
     fn moved_color(&self, pixel: usize) -> [u8; 3]
         requires width { 0 < self.now.width }
         requires pixel { pixel < length self.now.pixels.now / 4 }
-        ensures { result
-            ≡ ordered_color self.now.amplitude self.now.width self.now.pixels.now pixel }
+        ensures { result ≡ ordered_color (mapped_value self.now) pixel }
     {
         let column = pixel % self.width;
         let row = pixel / self.width;

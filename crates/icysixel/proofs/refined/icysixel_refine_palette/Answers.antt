@@ -27,22 +27,37 @@ witnesses-le Member max_colors base entries witnesses h =
     (λ (none : length h.tops ≤ 0). omega (arith, ap length (h.none (omega arith))))
     (cases_lt 0 (length h.tops))
 
+-- a number of colors without a fault is at most 256
+count-le : (most : ℕ) → ¬ (color_count_fault most ≡ Some ColorCount) → most ≤ 256
+count-le most none =
+    ⊎_elim (λ (more : 256 < most).
+    let e : color_count_fault most ≡ Some ColorCount = grind (arith, nat_tests, more) in
+    absurd (none e))
+    (λ (l : most ≤ 256). l) (cases_lt 256 most)
+
+pub write_refined-requires-clause-colors : goal.write_refined-requires-clause-colors
+write_refined-requires-clause-colors c =
+    let whole = c.buffers_code-code.ensures.whole c.if-code.false in
+    omega (
+      arith,
+      c.in-Ok.ensures.refined.few,
+      count-le c.args.max_colors (λ e. c.in-Ok.ensures.colors whole e),
+      c.buffers_code-code.ensures.colors c.if-code.false,
+      c.min.ensures,
+      c.from.ensures,
+    )
+
 pub write_refined-requires-clause-witnesses : goal.write_refined-requires-clause-witnesses
 write_refined-requires-clause-witnesses c =
     let most = c.args.max_colors in
     let palette = c.in-Ok.palette in
     let refined = c.in-Ok.ensures.refined in
     let whole = c.buffers_code-code.ensures.whole c.if-code.false in
-    let small : most ≤ 256 =
-    ⊎_elim (λ (more : 256 < most).
-    let e : color_count_fault most ≡ Some ColorCount = grind (arith, nat_tests, more) in
-    absurd (c.in-Ok.ensures.colors whole e))
-    (λ (l : most ≤ 256). l) (cases_lt 256 most) in
     omega (
       arith,
       witnesses-le _ most refined.base palette.colors.items palette.witnesses.items refined.top,
       refined.few,
-      small,
+      count-le most (λ e. c.in-Ok.ensures.colors whole e),
       c.buffers_code-code.ensures.witnesses c.if-code.false,
       c.min.ensures,
       c.from.ensures,

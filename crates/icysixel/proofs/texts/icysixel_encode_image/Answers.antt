@@ -5,26 +5,6 @@ use Rattle.icysixel.specs.Encodings.{IsRowsText, dense_rows}
 use Rattle.icysixel.proofs.Calls.{call_stored, code_stored, same_stored, text_stored}
 use Rattle.icysixel.proofs.texts.icysixel_encode_image.Goals as goal
 
-pub state-requires : goal.state-requires
-state-requires c = grind arith
-
-pub returns-then-not-is_held : goal.returns-then-not-is_held
-returns-then-not-is_held c = record {
-  handle = grind arith;
-  no_handle = grind arith;
-  sizes = grind arith;
-  bad_stride = grind arith;
-  buffer = grind arith;
-  colors = grind arith;
-  stored = grind arith;
-  text = grind arith;
-  text_length = grind arith;
-  discarded = grind arith;
-  same_length = grind arith;
-  decoder = grind arith;
-  same_image = grind arith;
-}
-
 pub returns : goal.returns
 returns c =
     let encoding = c.args.encoding.now in

@@ -27,7 +27,7 @@ returns c =
     encoded.fault) in
     let text =
     subst
-    (λ (i : Image). IsPaletteText i colors c.args.dither Compact
+    (λ (i : Image). IsPaletteText i colors c.args.mapping Compact
     (string_bytes c.in_ok-text.text)) same encoded.text in
     (painting, read, fault, text)
 

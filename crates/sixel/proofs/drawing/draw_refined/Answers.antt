@@ -28,6 +28,6 @@ returns c =
     (rw limit at encoded.fault)) in
     let text =
     subst
-    (λ (i : Image). IsRefinedText i max_colors c.args.dither Compact
+    (λ (i : Image). IsRefinedText i max_colors c.args.mapping Compact
     (string_bytes c.in_ok-text.text)) same (rw limit at encoded.text) in
     (file, c.in_ok-file.ensures, fault, text)

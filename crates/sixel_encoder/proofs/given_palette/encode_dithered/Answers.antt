@@ -1,8 +1,50 @@
+use Rattle.std.proofs.Common.{length, ap, arith}
+use Rattle.sixel_encoder.specs.Dithering.{AreDithered, mapped_of, target_of}
 use Rattle.sixel_encoder.specs.Encoding.{source_value}
-use Rattle.sixel_encoder.proofs.DitheredIndices.{rows-image}
+use Rattle.sixel_encoder.proofs.DitheredIndices.{mapped-entry, rows-image}
+use Rattle.sixel_encoder.proofs.PaletteText.{rows-sound}
+use Rattle.sixel_encoder.proofs.Sizes.{within-sound}
 use Rattle.sixel_encoder.proofs.given_palette.encode_dithered.Goals as goal
+use Rattle.sixel_encoder.proofs.given_palette.encode_dithered.Goals.{After-deref}
 
-pub dithered_indices-requires-clause-rows : goal.dithered_indices-requires-clause-rows
-dithered_indices-requires-clause-rows c =
-    rows-image (source_value c.args.source.now)
-    c.requires.sound
+-- the indices
+told : (c : After-deref)
+    → AreDithered c.args.mapping c.args.source.now.width c.args.source.now.pixels.now
+    c.args.colors.now c.in_ok-indices.indices.items
+told c =
+    rw (
+      c.plain-image.ensures.pixels,
+      c.plain-image.ensures.width,
+      c.plain-image.ensures.colors,
+    ) at c.in_ok-indices.ensures
+
+pub dithered_indices-requires-clause-image : goal.dithered_indices-requires-clause-image
+dithered_indices-requires-clause-image c =
+    let image = source_value c.args.source.now in
+    record {
+      whole = record {
+        wide =
+            rw c.plain-image.ensures.width (within-sound image c.requires.sound).some_width;
+        rows =
+            rw (c.plain-image.ensures.pixels, c.plain-image.ensures.width)
+            (rows-image image c.requires.sound);
+        few = rw c.plain-image.ensures.colors c.requires.few;
+      };
+      some = rw c.plain-image.ensures.colors c.requires.some;
+      strength = omega (arith, c.plain-image.ensures.plain.strength);
+    }
+
+pub encode_drawing-requires-clause-count : goal.encode_drawing-requires-clause-count
+encode_drawing-requires-clause-count c =
+    let sized = (within-sound (source_value c.args.source.now) c.requires.sound).sized in
+    rw c.deref.ensures.value (omega (arith, sized, (told c).one_each))
+
+pub encode_drawing-requires-clause-opaque : goal.encode_drawing-requires-clause-opaque
+encode_drawing-requires-clause-opaque c = λ pixel inside opaque.
+    let image = source_value c.args.source.now in
+    let indices = c.in_ok-indices.indices.items in
+    let m = mapped_of c.args.mapping image.width image.pixels c.args.colors.now in
+    rw c.deref.ensures.value
+    (mapped-entry m (target_of c.args.mapping.dither m indices) indices pixel
+    (rows-sound image c.requires.sound) (told c)
+    (omega (arith, (told c).one_each, inside, ap length c.deref.ensures.value)) opaque)

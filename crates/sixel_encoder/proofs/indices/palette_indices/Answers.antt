@@ -1,41 +1,90 @@
-use Rattle.std.proofs.Common.{◌≡◌, ◌*◌, [], length, subst, arith}
-use Rattle.std.proofs.Common.{List, ℕ}
-use Rattle.std.specs.Prelude.{◌/◌, All}
+use Rattle.std.proofs.Common.{◌≡◌, ◌<◌, ℕ, List, [], inl, inr, length, ap, subst, ◌∙◌, arith, refl}
+use Rattle.std.specs.Prelude.{◌/◌, All, None}
+use Rattle.std.proofs.lemmas.Bool.Decides.{nat_tests}
+use Rattle.sixel_base.specs.CallFault.{color_count_fault}
 use Rattle.std.proofs.lemmas.List.{get_or_default}
+use Rattle.sixel_palette.proofs.PaletteColors.{IsColor}
 use Rattle.sixel_encoder.specs.declared.dither.Dither.{Dither}
-use Rattle.sixel_encoder.specs.Dithering.{AreDithered, Diffused, eighths}
+use Rattle.sixel_encoder.specs.Dithering.{AreDithered, AreMapped, Mapped, mapped_of, target_of}
+use Rattle.sixel_encoder.specs.Dithering.{tolerance_of}
 use Rattle.sixel_encoder.proofs.DiffusionLaws.{AreIndices-exact}
-use Rattle.sixel_encoder.proofs.DitheredIndices.{rows-sound}
-use Rattle.sixel_encoder.proofs.Serpentine.{serpentine-lt}
-use Rattle.sixel_encoder.proofs.Verdicts.{none-found}
+use Rattle.sixel_encoder.proofs.DitheredIndices.{AreIndices-mapped, AreRows, rows-sound}
+use Rattle.sixel_encoder.proofs.PaletteError.{error-bound, tolerance-held}
+use Rattle.sixel_encoder.proofs.Verdicts.{none-found, none-judged}
 use Rattle.sixel_encoder.proofs.indices.palette_indices.Goals as goal
 
+-- the rows of an image without a fault, mapped in any way to the colors
+rows-of : (c : goal.In_ok-dithered_indices) (m : Mapped) → m.width ≡ c.args.width
+    → m.pixels ≡ c.args.pixels.now → m.colors ≡ c.args.colors.now → AreRows m
+rows-of c m wide pixels colors =
+    let sound =
+    rows-sound (length c.args.pixels.now) c.args.width
+    (none-found _ _ _ c.validate_rows.ensures c.in_ok-validate_rows.was) in
+    let judged : color_count_fault (length c.args.colors.now) ≡ None =
+    none-judged _ _ _ c.validate_color_count.ensures c.in_ok-validate_color_count.was in
+    let some : 0 < length c.args.colors.now = grind (arith, nat_tests) in
+    let count = length c.args.pixels.now / 4 / c.args.width in
+    record {
+      rows = record {
+        some = rw wide sound.0;
+        count = count;
+        whole = rw (pixels, wide) (omega (arith, sound.1));
+      };
+      some = rw colors some;
+    }
+
+-- the indices
+told : (c : goal.In_ok-dithered_indices)
+    → AreDithered c.args.mapping c.args.width c.args.pixels.now c.args.colors.now
+    c.in_ok-dithered_indices.field-0.items
+told c =
+    rw (
+      c.plain-image.ensures.pixels,
+      c.plain-image.ensures.width,
+      c.plain-image.ensures.colors,
+    ) at c.in_ok-dithered_indices.ensures
+
+pub returns-clause-nearest : goal.returns-clause-nearest
+returns-clause-nearest c = λ off exact.
+    let pixels = c.args.pixels.now in
+    let m = mapped_of c.args.mapping c.args.width pixels c.args.colors.now in
+    let indices = c.in_ok-dithered_indices.field-0.items in
+    AreIndices-mapped m (target_of c.args.mapping.dither m indices) indices
+    (rows-of c m refl refl refl) (ap (λ t. tolerance_of t c.args.colors.now pixels) exact) (told c)
+    (λ n l light. ap (λ d. target_of d m indices n) off)
+
 pub returns-clause-exact : goal.returns-clause-exact
-returns-clause-exact c = λ strength is held.
+returns-clause-exact c = λ strength is none held.
     let pixels = c.args.pixels.now in
     let colors = c.args.colors.now in
-    let width = c.args.width in
+    let m = mapped_of c.args.mapping c.args.width pixels colors in
     let indices = c.in_ok-dithered_indices.field-0.items in
-    let rows =
-    rows-sound (length pixels) width
-    (none-found _ _ _ c.validate_rows.ensures c.in_ok-validate_rows.was) in
-    let d : Diffused = record {
-      strength = eighths strength;
-      width = width;
-      pixels = pixels;
-      colors = colors;
-    } in
-    let whole : length pixels / 4 ≡ length pixels / 4 / width * width = omega (arith, rows.1) in
+    let exact : tolerance_of c.args.mapping.tolerance colors pixels ≡ 0 =
+    elim none [
+      | inl auto ↦ ap (λ t. tolerance_of t colors pixels) auto ∙ tolerance-held colors pixels held
+      | inr zero ↦ ap (λ t. tolerance_of t colors pixels) zero
+    ] in
     let three : All (λ p. length p ≡ 3) colors =
     λ k e l.
     subst (λ (p : List ℕ). length p ≡ 3) (get_or_default colors k [] e l) (c.told-colors k l) in
-    AreIndices-exact d indices (length pixels / 4 / width) rows.0 whole
+    AreIndices-exact m indices (rows-of c m refl refl refl)
+    (record { three = three; bytes = λ j. omega (arith, c.type_inv.pixels j) }) held exact
+    (subst (λ (d : Dither). AreMapped m (target_of d m indices) indices) is (told c))
+
+pub returns-clause-summed : goal.returns-clause-summed
+returns-clause-summed c = λ off.
+    let pixels = c.args.pixels.now in
+    let colors = c.args.colors.now in
+    let m = mapped_of c.args.mapping c.args.width pixels colors in
+    let indices = c.in_ok-dithered_indices.field-0.items in
+    let all : All IsColor colors =
+    λ k e l.
+    subst IsColor (get_or_default colors k [] e l)
     (record {
-      three = three;
-      bytes = λ j. omega (arith, c.type_inv.pixels j);
-      held = λ n l light.
-          held _ (omega (arith, whole, serpentine-lt width (length pixels / 4 / width) n rows.0 l))
-          light;
-    })
-    (subst (λ (dither : Dither). AreDithered dither width pixels colors indices) is
-    c.in_ok-dithered_indices.ensures)
+      three = c.told-colors k l;
+      bytes = λ j lj.
+          c.color_bytes.ensures k [] l j 0 (omega (arith, c.told-colors k l, lj));
+    }) in
+    error-bound m indices (rows-of c m refl refl refl).rows
+    (λ j. omega (arith, c.type_inv.pixels j)) all
+    (subst (λ (d : Dither). AreMapped m (target_of d m indices) indices) off (told c))

@@ -20,13 +20,13 @@ returns-clause-text c =
     subst (λ (image : Image).
     IfOk c.encode_refined.result
     (λ text.
-    IsRefinedText image c.args.max_colors c.args.dither c.args.form (string_bytes text)))
+    IsRefinedText image c.args.max_colors c.args.mapping c.args.form (string_bytes text)))
     c.source.ensures c.encode_refined.ensures.text
 
 pub returns-clause-hidden : goal.returns-clause-hidden
 returns-clause-hidden c = λ other bytes same also.
     hidden-refined string_bytes c.encode_refined.result (image_value c.args.self.now) other
-    c.args.max_colors c.args.dither c.args.form bytes (color_count_fault c.args.max_colors)
+    c.args.max_colors c.args.mapping c.args.form bytes (color_count_fault c.args.max_colors)
     (returns-clause-fault c)
     (subst (λ (image : Image).
     OnOk c.encode_refined.result (All (λ byte. byte < 256) image.pixels))

@@ -17,14 +17,14 @@ pub returns-clause-text : goal.returns-clause-text
 returns-clause-text c =
     subst (λ (image : Image).
     IfOk c.encode_in_palette.result
-    (λ text. IsPaletteText image c.args.colors.now c.args.dither c.args.form
+    (λ text. IsPaletteText image c.args.colors.now c.args.mapping c.args.form
     (string_bytes text)))
     c.source.ensures c.encode_in_palette.ensures.text
 
 pub returns-clause-hidden : goal.returns-clause-hidden
 returns-clause-hidden c = λ other bytes same also.
     hidden-returned string_bytes c.encode_in_palette.result (image_value c.args.self.now) other
-    c.args.colors.now c.args.dither c.args.form bytes
+    c.args.colors.now c.args.mapping c.args.form bytes
     (color_count_fault (length c.args.colors.now))
     (returns-clause-fault c) (returns-clause-text c) (sym same) also
 

@@ -2,8 +2,9 @@ use Rattle.std.proofs.Common.{◌≡◌, ◌+◌, ◌*◌, ◌++◌, ℕ, List, 
 use Rattle.std.specs.Prelude.{◌/◌}
 use Rattle.std.proofs.lemmas.Grind.{same_number_lists}
 use Rattle.std.proofs.lemmas.List.{take_at}
-use Rattle.sixel_encoder.specs.inside.Diffusion.{diffused_of}
-use Rattle.sixel_encoder.proofs.DiffusionErrors.{AreNearestTo-visited, IsLine-none}
+use Rattle.sixel_encoder.specs.inside.Mapped.{mapped_value}
+use Rattle.sixel_encoder.proofs.DiffusionErrors.{IsLine-none}
+use Rattle.sixel_encoder.proofs.DitheredIndices.{AreEntries-zeros}
 use Rattle.sixel_encoder.proofs.indices.diffusion.diffused_indices.Goals as goal
 
 -- a list of the same length replaces an old one
@@ -13,14 +14,18 @@ replaced new old len same = take_at new (drop (length new) old) len same
 
 pub loop-row-init : goal.loop-row-init
 loop-row-init c =
-    let d = diffused_of c.args.image.now in
+    let m = mapped_value c.args.image.now in
     let line = c.in_ok-line in
-    let none : 0 * d.width ≡ 0 = omega arith in
+    let none : 0 * m.width ≡ 0 = omega arith in
     record {
       size = omega (arith, c.in_ok-indices.ensures.len);
+      entries =
+          AreEntries-zeros c.args.image.now.colors.now c.in_ok-indices.indices.items
+          (length c.args.image.now.pixels.now / 4) c.requires.some
+          (c.in_ok-indices.ensures.items_if_clones_equal (λ y e. e));
       visited = λ k l. absurd (omega arith);
       line =
-          rw none (IsLine-none d c.in_ok-indices.indices.items line.line.items
+          rw none (IsLine-none m c.in_ok-indices.indices.items line.line.items
           (rw c.no_error.ensures at (line.ensures.items_if_clones_equal
           (λ error clone.
           same_number_lists error c.no_error.result
@@ -35,17 +40,18 @@ diffuse_row-requires-clause-visited c =
 
 pub loop-row-preserved : goal.loop-row-preserved
 loop-row-preserved c =
-    let d = diffused_of c.args.image.now in
+    let m = mapped_value c.args.image.now in
     let old = c.loop-row in
     let new = c.diffuse_row.new in
     let told = c.in_ok-diffuse_row.ensures in
-    let next : (old.row + 1) * d.width ≡ old.row * d.width + d.width = omega arith in
+    let next : (old.row + 1) * m.width ≡ old.row * m.width + m.width = omega arith in
     let indices = replaced new.indices old.indices.items old.indices.len
     (omega (arith, told.indices, old.invariant.size)) in
     let line = replaced new.line old.line.items old.line.len
     (omega (arith, told.line.whole, old.invariant.line.whole)) in
     record {
       size = rw indices told.indices;
+      entries = rw indices told.entries;
       visited = rw (indices, next) told.visited;
       line = rw (indices, line, next) told.line;
       search = told.search;
@@ -53,10 +59,13 @@ loop-row-preserved c =
 
 pub returns : goal.returns
 returns c =
-    let d = diffused_of c.args.image.now in
-    let count = length d.pixels / 4 / d.width in
-    let last : c.loop-row.row ≡ count =
+    let m = mapped_value c.args.image.now in
+    let rows = c.requires.whole.rows in
+    let last : c.loop-row.row ≡ length m.pixels / 4 / m.width =
     omega (arith, c.loop-row.auto.row-end, c.loop-row-test.false) in
-    AreNearestTo-visited d c.loop-row.indices.items c.loop-row.row c.requires.wide
-    (omega (arith, c.requires.rows, ap (λ row. row * d.width) last)) c.loop-row.invariant.size
-    c.loop-row.invariant.visited
+    record {
+      one_each = c.loop-row.invariant.size;
+      each = λ n l.
+          c.loop-row.invariant.visited n
+          (omega (arith, rows, ap (λ row. row * m.width) last, l));
+    }

@@ -2,15 +2,17 @@ use Rattle.std.proofs.Common.{◌≡◌, ◌*◌, length}
 use Rattle.std.specs.Prelude.{◌/◌}
 use Rattle.sixel_palette.specs.inside.PaletteKeys.{IsSearchOf}
 use Rattle.sixel_encoder.specs.Dithering.{errors_of}
-use Rattle.sixel_encoder.specs.inside.Diffusion.{AreVisited, IsLine, diffused_of}
+use Rattle.sixel_encoder.specs.inside.Diffusion.{AreVisited, IsLine}
+use Rattle.sixel_encoder.specs.inside.Mapped.{AreEntries, mapped_value}
 use Rattle.sixel_encoder.proofs.indices.diffusion.diffused_indices.Given as goal
 
 abbrev pub invariant-loop-row : goal.invariant-loop-row
 invariant-loop-row l = record {
   size : length l.indices.items ≡ length l.image.pixels.now / 4;
-  visited : AreVisited (diffused_of l.image) l.indices.items (l.row * l.image.width);
-  line : IsLine (diffused_of l.image)
-      (errors_of (diffused_of l.image) l.indices.items (l.row * l.image.width)) l.row 0
+  entries : AreEntries l.image.colors.now l.indices.items;
+  visited : AreVisited (mapped_value l.image) l.indices.items (l.row * l.image.width);
+  line : IsLine (mapped_value l.image)
+      (errors_of (mapped_value l.image) l.indices.items (l.row * l.image.width)) l.row 0
       l.line.items;
   search : IsSearchOf l.image.colors.now l.search;
 }

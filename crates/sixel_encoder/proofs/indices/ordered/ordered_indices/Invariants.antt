@@ -1,14 +1,16 @@
-use Rattle.std.proofs.Common.{◌≡◌, ◌<◌, ℕ, length, get_or}
+use Rattle.std.proofs.Common.{◌≡◌, ◌<◌, ℕ, length}
 use Rattle.std.specs.Prelude.{◌/◌}
 use Rattle.sixel_palette.specs.inside.PaletteKeys.{IsSearchOf}
-use Rattle.sixel_encoder.specs.Dithering.{HasTarget, ordered_color}
+use Rattle.sixel_encoder.specs.Dithering.{HasTarget, ordered_color, serpentine}
+use Rattle.sixel_encoder.specs.inside.Mapped.{AreEntries, mapped_value}
 use Rattle.sixel_encoder.proofs.indices.ordered.ordered_indices.Given as goal
 
-abbrev pub invariant-loop-pixel : goal.invariant-loop-pixel
-invariant-loop-pixel l = record {
+abbrev pub invariant-loop-visit : goal.invariant-loop-visit
+invariant-loop-visit l = record {
   size : length l.indices.items ≡ length l.image.pixels.now / 4;
-  each : (k : ℕ) → k < l.pixel
-      → HasTarget (ordered_color l.image.amplitude l.image.width l.image.pixels.now k)
-      l.image.pixels.now l.image.colors.now k (get_or l.indices.items k 0);
+  entries : AreEntries l.image.colors.now l.indices.items;
+  each : (k : ℕ) → k < l.visit
+      → HasTarget (mapped_value l.image)
+      (ordered_color (mapped_value l.image) (serpentine l.image.width k)) l.indices.items k;
   search : IsSearchOf l.image.colors.now l.search;
 }

@@ -1,16 +1,17 @@
-use Rattle.std.proofs.Common.{◌≡◌, ◌<◌, ◌+◌, ◌*◌, ◌∷◌, [], get_or, ap, sym, subst, ◌∙◌, arith}
+use Rattle.std.proofs.Common.{◌≡◌, ◌<◌, ◌+◌, ◌*◌, ◌∷◌, [], get_or, ap, sym, subst, ◌∙◌}
+use Rattle.std.proofs.Common.{arith}
 use Rattle.std.specs.Prelude.{ℕ}
 use Rattle.std.proofs.lemmas.Nat.{mod-mul-add}
 use Rattle.sixel_encoder.specs.declared.indices.diffusion.Neighbors.{Neighbors}
 use Rattle.sixel_encoder.specs.Dithering.{column_of_step, error_above, error_beyond, errors_of}
-use Rattle.sixel_encoder.specs.Dithering.{serpentine}
-use Rattle.sixel_encoder.specs.inside.Diffusion.{AreVisited, IsLine, diffused_of}
+use Rattle.sixel_encoder.specs.inside.Diffusion.{AreVisited, IsLine}
+use Rattle.sixel_encoder.specs.inside.Mapped.{mapped_value}
 use Rattle.sixel_encoder.proofs.DiffusionErrors.{AreVisited-more, IsLine-more, IsLine-next_row}
 use Rattle.sixel_encoder.proofs.DiffusionErrors.{errors_of-more}
 use Rattle.sixel_encoder.proofs.DiffusionVisit.{AreReceived-neighbors, above-line, before-more}
 use Rattle.sixel_encoder.proofs.DiffusionVisit.{behind-more, beyond-line}
 use Rattle.sixel_encoder.proofs.Serpentine.{serpentine-step}
-use Rattle.sixel_encoder.proofs.indices.diffusion.DiffusedImage.diffuse_row.Goals as goal
+use Rattle.sixel_encoder.proofs.indices.mapped.MappedImage.diffuse_row.Goals as goal
 
 pub loop-step-init : goal.loop-step-init
 loop-step-init c =
@@ -18,6 +19,7 @@ loop-step-init c =
     omega arith in
     record {
       size = c.requires.indices;
+      entries = c.requires.entries;
       visited = rw none c.requires.visited;
       line = rw none c.requires.line;
       before = c.no_error-before.ensures;
@@ -27,7 +29,7 @@ loop-step-init c =
 
 pub loop-step-preserved : goal.loop-step-preserved
 loop-step-preserved c =
-    let d = diffused_of c.args.self.now in
+    let m = mapped_value c.args.self.now in
     let width = c.args.self.now.width in
     let row = c.args.row in
     let step = c.loop-step.step in
@@ -36,17 +38,15 @@ loop-step-preserved c =
     let new = c.visit.new.indices in
     let line = c.loop-step.line in
     let error = c.in_ok-error.error in
-    let errors = errors_of d old n in
+    let errors = errors_of m old n in
     let h = c.loop-step.invariant in
     let inside : step < width = c.loop-step-test.true in
     let column = c.column_of_step-column.result in
-    let place : column ≡ column_of_step width row step = c.column_of_step-column.ensures.value in
-    let at : serpentine width n ≡ row * width + column =
-    serpentine-step width row step inside ∙ ap (λ k. row * width + k) (sym place) in
-    let above : get_or line column [] ≡ error_above d errors step =
-    ap (λ k. get_or line k []) place ∙ above-line d errors line row step inside h.line in
-    let beyond : c.error_beyond.result ≡ error_beyond d errors step =
-    beyond-line d errors line row step c.error_beyond.result inside h.line
+    let same : column ≡ column_of_step width row step = c.column_of_step-column.ensures.value in
+    let above : get_or line column [] ≡ error_above m errors step =
+    ap (λ k. get_or line k []) same ∙ above-line m errors line row step inside h.line in
+    let beyond : c.error_beyond.result ≡ error_beyond m errors step =
+    beyond-line m errors line row step c.error_beyond.result inside h.line
     c.error_beyond.ensures in
     let neighbors : Neighbors = record {
       before = c.loop-step.before;
@@ -55,34 +55,36 @@ loop-step-preserved c =
       beyond = c.error_beyond.result;
     } in
     let visit =
-    c.in_ok-error.ensures.visit errors n at
-    (AreReceived-neighbors d errors n step neighbors c.received.result
+    c.in_ok-error.ensures.visit errors
+    (AreReceived-neighbors m errors n step neighbors c.received.result
     (mod-mul-add row width step inside) h.before h.behind above beyond
     c.received.ensures.value) in
     let next : row * width + (step + 1) ≡ n + 1 = omega arith in
-    let more : errors_of d new (row * width + (step + 1)) ≡ error ∷ errors =
-    ap (errors_of d new) next ∙ errors_of-more d old new error n c.requires.image.wide visit in
+    let more : errors_of m new (row * width + (step + 1)) ≡ error ∷ errors =
+    ap (errors_of m new) next
+    ∙ errors_of-more m old new error n c.requires.image.whole.wide visit in
     record {
       size = c.in_ok-error.ensures.indices;
+      entries = c.in_ok-error.ensures.entries;
       visited =
           rw next
-          (AreVisited-more d old new error n c.requires.image.wide h.visited visit);
-      line = rw (more, place) (IsLine-more d errors line row step error inside h.line);
-      before = rw more (before-more d errors step error);
-      behind = rw more (above ∙ behind-more d errors step error);
+          (AreVisited-more m old new error n c.requires.image.whole.wide h.visited visit);
+      line = rw (more, same) (IsLine-more m errors line row step error inside h.line);
+      before = rw more (before-more m errors step error);
+      behind = rw more (above ∙ behind-more m errors step error);
       search = c.in_ok-error.ensures.search;
     }
 
 pub returns-clause-line : goal.returns-clause-line
 returns-clause-line c =
-    let d = diffused_of c.args.self.now in
+    let m = mapped_value c.args.self.now in
     let width = c.args.self.now.width in
     let row = c.args.row in
     let last : c.loop-step.step ≡ width =
     omega (arith, c.loop-step.auto.step-end, c.loop-step-test.false) in
-    IsLine-next_row d (errors_of d c.loop-step.indices (row * width + width)) c.loop-step.line row
+    IsLine-next_row m (errors_of m c.loop-step.indices (row * width + width)) c.loop-step.line row
     (subst (λ (step : ℕ).
-    IsLine d (errors_of d c.loop-step.indices (row * width + step)) row step c.loop-step.line)
+    IsLine m (errors_of m c.loop-step.indices (row * width + step)) row step c.loop-step.line)
     last c.loop-step.invariant.line)
 
 pub returns-clause-indices : goal.returns-clause-indices
@@ -90,9 +92,9 @@ returns-clause-indices c = c.loop-step.invariant.size
 
 pub returns-clause-visited : goal.returns-clause-visited
 returns-clause-visited c =
-    let d = diffused_of c.args.self.now in
+    let m = mapped_value c.args.self.now in
     let width = c.args.self.now.width in
-    subst (λ (step : ℕ). AreVisited d c.loop-step.indices (c.args.row * width + step))
+    subst (λ (step : ℕ). AreVisited m c.loop-step.indices (c.args.row * width + step))
     (omega (arith, c.loop-step.auto.step-end, c.loop-step-test.false))
     c.loop-step.invariant.visited
 
@@ -111,9 +113,25 @@ visit-requires-clause-image c = c.requires.image
 pub visit-requires-clause-indices : goal.visit-requires-clause-indices
 visit-requires-clause-indices c = c.loop-step.invariant.size
 
-pub visit-requires-clause-pixel : goal.visit-requires-clause-pixel
-visit-requires-clause-pixel c =
-    omega (arith, c.column_of_step-column.ensures.within, c.requires.row)
+pub visit-requires-clause-place : goal.visit-requires-clause-place
+visit-requires-clause-place c =
+    let width = c.args.self.now.width in
+    let row = c.args.row in
+    let column = c.column_of_step-column.ensures in
+    record {
+      step = c.loop-step-test.true;
+      row = c.requires.row;
+      pixel =
+          serpentine-step width row c.loop-step.step c.loop-step-test.true
+          ∙ ap (λ k. row * width + k) (sym column.value);
+      within = omega (arith, column.within, c.requires.row);
+    }
+
+pub visit-requires-clause-entries : goal.visit-requires-clause-entries
+visit-requires-clause-entries c = c.loop-step.invariant.entries
+
+pub returns-clause-entries : goal.returns-clause-entries
+returns-clause-entries c = c.loop-step.invariant.entries
 
 pub visit-requires-clause-small : goal.visit-requires-clause-small
 visit-requires-clause-small c = c.received.ensures.small

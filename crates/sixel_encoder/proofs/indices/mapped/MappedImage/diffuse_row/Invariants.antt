@@ -1,0 +1,24 @@
+use Rattle.std.proofs.Common.{◌≡◌, ◌+◌, ◌*◌, length}
+use Rattle.std.specs.Prelude.{◌/◌}
+use Rattle.sixel_palette.specs.inside.PaletteKeys.{IsSearchOf}
+use Rattle.sixel_encoder.specs.Dithering.{error_before, error_behind, errors_of}
+use Rattle.sixel_encoder.specs.inside.Diffusion.{AreVisited, IsLine}
+use Rattle.sixel_encoder.specs.inside.Mapped.{AreEntries, mapped_value}
+use Rattle.sixel_encoder.proofs.indices.mapped.MappedImage.diffuse_row.Given as goal
+
+abbrev pub invariant-loop-step : goal.invariant-loop-step
+invariant-loop-step l = record {
+  size : length l.indices ≡ length l.self.pixels.now / 4;
+  entries : AreEntries l.self.colors.now l.indices;
+  visited : AreVisited (mapped_value l.self) l.indices (l.row * l.self.width + l.step);
+  line : IsLine (mapped_value l.self)
+      (errors_of (mapped_value l.self) l.indices (l.row * l.self.width + l.step)) l.row l.step
+      l.line;
+  before : l.before
+      ≡ error_before (mapped_value l.self)
+      (errors_of (mapped_value l.self) l.indices (l.row * l.self.width + l.step)) l.step;
+  behind : l.behind
+      ≡ error_behind (mapped_value l.self)
+      (errors_of (mapped_value l.self) l.indices (l.row * l.self.width + l.step)) l.step;
+  search : IsSearchOf l.self.colors.now l.search;
+}

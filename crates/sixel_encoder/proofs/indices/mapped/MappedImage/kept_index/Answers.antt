@@ -1,0 +1,40 @@
+use Rattle.std.proofs.Common.{sym, subst}
+use Rattle.std.specs.Prelude.{List, ℕ, ◌+◌, ◌*◌, ◌<◌, slice_index}
+use Rattle.sixel_palette.specs.Palette.{IsNearest, IsOpaque, color_at}
+use Rattle.sixel_encoder.specs.Dithering.{IsIndex, neighbor_of}
+use Rattle.sixel_encoder.specs.inside.Mapped.{mapped_value}
+use Rattle.sixel_encoder.proofs.DitheredIndices.{IsIndexAt-dark, IsIndexAt-light}
+use Rattle.sixel_encoder.proofs.indices.mapped.MappedImage.kept_index.Goals as goal
+
+pub returns-then-not-is_opaque : goal.returns-then-not-is_opaque
+returns-then-not-is_opaque c =
+    let m = mapped_value c.args.self.now in
+    IsIndexAt-dark m (color_at m.pixels c.args.place.pixel) c.args.indices.now
+    (c.args.place.row * m.width + c.args.place.step) c.requires.image.some
+    (subst (λ (p : ℕ). slice_index m.pixels (4 * p + 3) < 128) (sym c.requires.place.pixel)
+    (c.is_opaque.ensures.transparent c.if-not-is_opaque.true))
+
+pub returns : goal.returns
+returns c =
+    let m = mapped_value c.args.self.now in
+    let n = c.args.place.row * m.width + c.args.place.step in
+    IsIndexAt-light m (color_at m.pixels c.args.place.pixel) c.args.indices.now n
+    c.chosen.result
+    (subst (IsOpaque m.pixels) (sym c.requires.place.pixel)
+    (c.is_opaque.ensures.opaque c.if-not-is_opaque.false))
+    (subst (λ (t : List ℕ). IsIndex m t (neighbor_of m t c.args.indices.now n) c.chosen.result)
+    c.color-target.ensures
+    (c.chosen.ensures (neighbor_of m c.color-target.result c.args.indices.now n)
+    c.kept-kept.ensures))
+
+pub chosen-requires : goal.chosen-requires
+chosen-requires c =
+    let m = mapped_value c.args.self.now in
+    let light =
+    subst (IsOpaque m.pixels) (sym c.requires.place.pixel)
+    (c.is_opaque.ensures.opaque c.if-not-is_opaque.false) in
+    subst (λ (t : List ℕ). IsNearest m.colors t (slice_index c.args.indices.now c.args.place.pixel))
+    (sym c.color-target.ensures)
+    (subst
+    (λ (p : ℕ). IsNearest m.colors (color_at m.pixels p) (slice_index c.args.indices.now p))
+    c.requires.place.pixel (c.requires.nearest.opaque light))

@@ -1,0 +1,12 @@
+-- How code sees the error of a palette.
+use Rattle.std.specs.Prelude.{◌≡◌, ℕ, ◌*◌, ◌≤◌, List}
+use Rattle.sixel_palette.specs.Palette.{no_entry}
+use Rattle.sixel_palette.specs.Refined.{opaque_pixels, summed_error}
+use Rattle.sixel_encoder.specs.declared.indices.palette_error.PaletteError.{PaletteError}
+
+-- it is the summed error and the number of opaque pixels, each of which has a small error
+pub record IsErrorOf (colors : List (List ℕ)) (pixels : List ℕ) (error : PaletteError)
+    : Type 0 where
+  pub sum : error.sum ≡ summed_error colors pixels
+  pub count : error.pixels ≡ opaque_pixels pixels (λ _. 1)
+  pub small : error.sum ≤ no_entry * error.pixels

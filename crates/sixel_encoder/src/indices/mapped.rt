@@ -1,0 +1,230 @@
+//! An image that is mapped to a palette, and the entries of neighbors that its pixels may keep.
+
+ghost use Rattle.std.specs.Prelude.{◌≡◌, ◌+◌, ◌*◌, ◌/◌, ◌<◌, ◌≤◌, ℕ, IfOk, OnOk, Option, length};
+ghost use Rattle.sixel_palette.specs.Palette.{IsNearest, color_at};
+ghost use Rattle.sixel_palette.specs.inside.PaletteKeys.{IsSearchOf};
+ghost use Rattle.sixel_encoder.specs.Dithering.{IsIndex, column_of_step, entry_above};
+ghost use Rattle.sixel_encoder.specs.Dithering.{entry_before, entry_of, neighbor_of};
+ghost use Rattle.sixel_encoder.specs.inside.Mapped.{AreEntries, IsInside, IsKept, IsMappable};
+ghost use Rattle.sixel_encoder.specs.inside.Mapped.{IsPlace, IsPlain, kept_value, mapped_value};
+
+use crate::band::is_opaque;
+use sixel_palette::palette::distance::distance;
+use sixel_palette::palette::nearest::Search;
+use std::alloc::AllocError;
+
+/// An image that is mapped to a palette.
+#[derive(Clone, Copy)]
+pub struct MappedImage<'a> {
+    pub pixels: &'a [u8],
+    pub width: usize,
+    pub colors: &'a [[u8; 3]],
+    /// How many eighths of an error are passed on.
+    pub strength: u8,
+    /// How far apart the pattern moves a channel at most.
+    pub amplitude: u8,
+    /// By how much a kept entry may be farther than the nearest one.
+    pub tolerance: u32,
+}
+
+/// A step of a row, and its pixel.
+#[derive(Clone, Copy)]
+pub struct Place {
+    pub row: usize,
+    pub step: usize,
+    pub pixel: usize,
+}
+
+/// An entry that a pixel may keep, and its squared distance to the pixel's target.
+#[derive(Clone, Copy)]
+pub struct Kept {
+    pub squared: u32,
+    pub index: u8,
+}
+
+/// No entry to keep: it is farther than any.
+const NONE: Kept = Kept {
+    squared: u32::MAX,
+    index: 0,
+};
+
+impl<'a> MappedImage<'a> {
+    /// Returns an image whose pixels have their nearest entries, without dithering.
+    pub fn plain(pixels: &'a [u8], width: usize, colors: &'a [[u8; 3]]) -> Self
+        ensures pixels { result.pixels.now ≡ pixels.now }
+        ensures width { result.width ≡ width }
+        ensures colors { result.colors.now ≡ colors.now }
+        ensures plain { IsPlain result }
+    {
+        Self {
+            pixels,
+            width,
+            colors,
+            strength: 0,
+            amplitude: 0,
+            tolerance: 0,
+        }
+    }
+}
+
+impl MappedImage<'_> {
+    /// Returns the place of a step of a row.
+    #[inline(always)]
+    pub fn place(&self, row: usize, step: usize) -> Place
+        requires row { row * self.now.width + self.now.width ≤ length self.now.pixels.now / 4 }
+        requires step { step < self.now.width }
+        ensures place { IsPlace (mapped_value self.now) result }
+        ensures row { result.row ≡ row }
+        ensures step { result.step ≡ step }
+    {
+        Place {
+            row,
+            step,
+            pixel: row * self.width + column_of_step(self.width, row, step),
+        }
+    }
+
+    /// Returns the color of a pixel.
+    #[inline(always)]
+    pub fn color(&self, pixel: usize) -> [u8; 3]
+        requires { pixel < length self.now.pixels.now / 4 }
+        ensures { result ≡ color_at self.now.pixels.now pixel }
+    {
+        let at = 4 * pixel;
+        [self.pixels[at], self.pixels[at + 1], self.pixels[at + 2]]
+    }
+
+    /// Returns the palette index for a target, which is searched unless an entry is kept.
+    ///
+    /// An entry nearer than the tolerance needs no search.
+    #[inline(always)]
+    pub fn index_of(
+        &self,
+        search: &mut Search,
+        kept: Kept,
+        target: [u8; 3],
+    ) -> Result<u8, AllocError>
+        requires some { 0 < length self.now.colors.now }
+        requires search { IsSearchOf self.now.colors.now search.old }
+        ensures index { IfOk result (λ index. (neighbor : Option ℕ)
+            → IsKept (mapped_value self.now) target neighbor kept
+            → IsIndex (mapped_value self.now) target neighbor index) }
+        ensures search { OnOk result (IsSearchOf self.now.colors.now search.new) }
+    {
+        if kept.squared < self.tolerance {
+            return Ok(kept.index);
+        }
+        let nearest = search.index_of(target)?;
+        Ok(self.chosen(kept, nearest, target))
+    }
+
+    /// Returns the index of the entry that is kept, or the nearest one.
+    #[inline(always)]
+    pub fn chosen(&self, kept: Kept, nearest: u8, target: [u8; 3]) -> u8
+        requires { IsNearest self.now.colors.now target nearest }
+        ensures { (neighbor : Option ℕ) → IsKept (mapped_value self.now) target neighbor kept
+            → IsIndex (mapped_value self.now) target neighbor result }
+    {
+        let squared = distance(self.colors[usize::from(nearest)], target);
+        if kept.squared < squared.saturating_add(self.tolerance) {
+            kept.index
+        } else {
+            nearest
+        }
+    }
+
+    /// Returns the entry that a pixel may keep: of its neighbors' entries the nearer one.
+    #[inline(always)]
+    pub fn kept(&self, indices: &[u8], place: Place, target: [u8; 3]) -> Kept
+        requires image { IsMappable self.now }
+        requires place { IsPlace (mapped_value self.now) place }
+        requires size { length indices.now ≡ length self.now.pixels.now / 4 }
+        requires entries { AreEntries self.now.colors.now indices.now }
+        ensures { IsKept (mapped_value self.now) target
+            (neighbor_of (mapped_value self.now) target indices.now
+            (place.row * self.now.width + place.step)) result }
+    {
+        if self.tolerance == 0 {
+            return NONE;
+        }
+        let before = self.entry_before(indices, place, target);
+        let above = self.entry_above(indices, place, target);
+        if above.squared < before.squared {
+            above
+        } else {
+            before
+        }
+    }
+
+    /// Returns the entry of the pixel before a step.
+    #[inline(always)]
+    fn entry_before(&self, indices: &[u8], place: Place, target: [u8; 3]) -> Kept
+        requires image { IsMappable self.now }
+        requires place { IsPlace (mapped_value self.now) place }
+        requires size { length indices.now ≡ length self.now.pixels.now / 4 }
+        requires entries { AreEntries self.now.colors.now indices.now }
+        ensures value { result ≡ kept_value self.now.colors.now target
+            (entry_before (mapped_value self.now) indices.now
+            (place.row * self.now.width + place.step)) }
+        ensures inside { IsInside self.now.colors.now target
+            (entry_before (mapped_value self.now) indices.now
+            (place.row * self.now.width + place.step)) }
+    {
+        if place.step == 0 {
+            return NONE;
+        }
+        let column = column_of_step(self.width, place.row, place.step - 1);
+        self.entry_at(indices, place.row * self.width + column, target)
+    }
+
+    /// Returns the entry of the pixel above, in the same band.
+    #[inline(always)]
+    fn entry_above(&self, indices: &[u8], place: Place, target: [u8; 3]) -> Kept
+        requires image { IsMappable self.now }
+        requires place { IsPlace (mapped_value self.now) place }
+        requires size { length indices.now ≡ length self.now.pixels.now / 4 }
+        requires entries { AreEntries self.now.colors.now indices.now }
+        ensures value { result ≡ kept_value self.now.colors.now target
+            (entry_above (mapped_value self.now) indices.now
+            (place.row * self.now.width + place.step)) }
+        ensures inside { IsInside self.now.colors.now target
+            (entry_above (mapped_value self.now) indices.now
+            (place.row * self.now.width + place.step)) }
+    {
+        if place.row % 6 == 0 {
+            return NONE;
+        }
+        self.entry_at(indices, place.pixel - self.width, target)
+    }
+
+    /// Returns the entry of a pixel, if the pixel is opaque.
+    #[inline(always)]
+    fn entry_at(&self, indices: &[u8], pixel: usize, target: [u8; 3]) -> Kept
+        requires pixel { pixel < length self.now.pixels.now / 4 }
+        requires size { length indices.now ≡ length self.now.pixels.now / 4 }
+        requires entries { AreEntries self.now.colors.now indices.now }
+        ensures value { result ≡ kept_value self.now.colors.now target (entry_of self.now.pixels.now
+            indices.now pixel) }
+        ensures inside { IsInside self.now.colors.now target (entry_of self.now.pixels.now
+            indices.now pixel) }
+    {
+        if !is_opaque(self.pixels, pixel) {
+            return NONE;
+        }
+        let index = indices[pixel];
+        Kept {
+            squared: distance(self.colors[usize::from(index)], target),
+            index,
+        }
+    }
+}
+
+/// Returns the column of a step of a row: odd rows go from the right.
+#[inline(always)]
+pub fn column_of_step(width: usize, row: usize, step: usize) -> usize
+    requires { step < width }
+    ensures value { result ≡ column_of_step width row step }
+    ensures within { result < width }
+{
+    if row % 2 == 0 { step } else { width - 1 - step }
+}

@@ -1,0 +1,87 @@
+//! The summed squared error of a palette, and the tolerance and the amplitude that follow from it.
+
+ghost use Rattle.std.specs.Prelude.{◌≡◌, ◌*◌, ◌/◌, ◌≤◌, max};
+ghost use Rattle.sixel_palette.specs.Palette.{AreIndices, no_entry};
+ghost use Rattle.sixel_encoder.specs.Dithering.{amplitude_of, root, tolerance_of};
+ghost use Rattle.sixel_encoder.specs.inside.PaletteError.{IsErrorOf};
+
+use crate::band::is_opaque;
+use crate::dither::Amplitude;
+use crate::indices::mapped::MappedImage;
+use crate::mapping::Tolerance;
+use sixel_palette::palette::distance::distance;
+
+/// The summed squared error of a palette, and the number of opaque pixels.
+#[derive(Clone, Copy)]
+struct PaletteError {
+    sum: u128,
+    pixels: u128,
+}
+
+/// Returns the tolerance for the palette of an image.
+pub fn tolerance_of(image: &MappedImage<'_>, nearest: &[u8], tolerance: Tolerance) -> u32
+    requires { AreIndices image.now.pixels.now image.now.colors.now nearest.now }
+    ensures { result ≡ tolerance_of tolerance image.now.colors.now image.now.pixels.now }
+{
+    match tolerance {
+        Tolerance::Squared(squared) => squared,
+        Tolerance::Auto => {
+            let error = palette_error(image, nearest);
+            if error.sum == 0 {
+                0
+            } else {
+                error.mean().max(12)
+            }
+        }
+    }
+}
+
+/// Returns the amplitude for the palette of an image.
+pub fn amplitude_of(image: &MappedImage<'_>, nearest: &[u8], amplitude: Amplitude) -> u8
+    requires { AreIndices image.now.pixels.now image.now.colors.now nearest.now }
+    ensures { result ≡ amplitude_of amplitude image.now.colors.now image.now.pixels.now }
+{
+    match amplitude {
+        Amplitude::Levels(levels) => levels,
+        Amplitude::Auto => root(palette_error(image, nearest).mean()),
+    }
+}
+
+/// Returns the error of the palette, from the indices of the pixels' nearest entries.
+fn palette_error(image: &MappedImage<'_>, nearest: &[u8]) -> PaletteError
+    requires { AreIndices image.now.pixels.now image.now.colors.now nearest.now }
+    ensures { IsErrorOf image.now.colors.now image.now.pixels.now result }
+{
+    let mut error = PaletteError { sum: 0, pixels: 0 };
+    for pixel in 0..nearest.len() {
+        if is_opaque(image.pixels, pixel) {
+            let entry = image.colors[usize::from(nearest[pixel])];
+            error.sum += u128::from(distance(entry, image.color(pixel)));
+            error.pixels += 1;
+        }
+    }
+    error
+}
+
+impl PaletteError {
+    /// Returns the mean squared error of an opaque pixel, rounded down.
+    fn mean(&self) -> u32
+        requires { self.now.sum ≤ no_entry * self.now.pixels }
+        ensures { result ≡ self.now.sum / max 1 self.now.pixels }
+    {
+        (self.sum / self.pixels.max(1)) as u32
+    }
+}
+
+/// Returns the square root of a number, rounded down, but at most 255.
+fn root(number: u32) -> u8
+    ensures { result ≡ root number 255 }
+{
+    for less in 0..255 {
+        let root: u32 = 255 - less;
+        if root * root <= number {
+            return root as u8;
+        }
+    }
+    0
+}

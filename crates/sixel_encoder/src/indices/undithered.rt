@@ -1,0 +1,51 @@
+//! Entries of neighbors that are kept without dithering.
+
+ghost use Rattle.std.specs.Prelude.{◌≡◌, ◌+◌, ◌*◌, ◌/◌, length};
+ghost use Rattle.sixel_palette.specs.Palette.{AreIndices, color_at};
+ghost use Rattle.sixel_encoder.specs.Dithering.{AreMapped, serpentine};
+ghost use Rattle.sixel_encoder.specs.inside.Mapped.{AreEntries, IsIndexAt, IsLater, IsMappable};
+ghost use Rattle.sixel_encoder.specs.inside.Mapped.{IsPlace, mapped_value};
+
+use crate::band::is_opaque;
+use crate::indices::mapped::{MappedImage, Place};
+
+/// Returns the palette index of each pixel, from the indices of their nearest entries.
+pub fn keep_entries(image: &MappedImage<'_>, nearest: Vec<u8>) -> Vec<u8>
+    requires image { IsMappable image.now }
+    requires nearest { AreIndices image.now.pixels.now image.now.colors.now nearest.items }
+    ensures { AreMapped (mapped_value image.now)
+        (λ n. color_at image.now.pixels.now (serpentine image.now.width n)) result.items }
+{
+    let mut indices = nearest;
+    if image.tolerance == 0 {
+        return indices;
+    }
+    for visit in 0..image.pixels.len() / 4 {
+        let place = image.place(visit / image.width, visit % image.width);
+        let index = image.kept_index(&indices, place);
+        indices[place.pixel] = index;
+    }
+    indices
+}
+
+impl MappedImage<'_> {
+    /// Returns the palette index of a place, which has the nearest entry so far.
+    #[inline(always)]
+    fn kept_index(&self, indices: &[u8], place: Place) -> u8
+        requires image { IsMappable self.now }
+        requires place { IsPlace (mapped_value self.now) place }
+        requires size { length indices.now ≡ length self.now.pixels.now / 4 }
+        requires entries { AreEntries self.now.colors.now indices.now }
+        requires nearest { IsLater (mapped_value self.now) indices.now
+            (place.row * self.now.width + place.step) }
+        ensures { IsIndexAt (mapped_value self.now) (color_at self.now.pixels.now place.pixel)
+            indices.now (place.row * self.now.width + place.step) result }
+    {
+        if !is_opaque(self.pixels, place.pixel) {
+            return 0;
+        }
+        let target = self.color(place.pixel);
+        let kept = self.kept(indices, place, target);
+        self.chosen(kept, indices[place.pixel], target)
+    }
+}
