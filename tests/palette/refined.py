@@ -64,7 +64,7 @@ def moved(bins, entries):
 
 
 def refined_entries(pixels, most):
-    """The entries of the refined palette of RGBA pixels, at most so many."""
+    """The entries of the refined palette of RGBA pixels, at most `most`."""
     counts = Counter(it[:3] for it in pixels if it[3] >= 128)
     if len(counts) <= most:
         return [grid_color(it) for it in sorted(counts)]

@@ -86,8 +86,8 @@ pub record IsFed (before after : State) (piece : List ℕ) (now : Fed) (code : �
       → before.receiver.image.is_refused ≡ true
       → code ≡ fault_code (receivers.failed before.receiver.image.form)
 
--- what is reported of a feed that made so many final rows so many: as of the feed, but rows, 4, in
--- place of more, 0, if there are more of them
+-- what is reported of a feed after which `rows_before` final rows are `rows_after`: as of the feed,
+-- but rows, 4, in place of more, 0, if there are more of them
 abbrev pub band_report : ℕ → ℕ → Fed → Fed
 band_report rows_before rows_after fed =
     if (fed.status == 0) && nat_lt rows_before rows_after then record fed { status = 4 } else fed

@@ -49,7 +49,7 @@ impl Encoding {
         }
     }
 
-    /// The layout of the rows in so many bytes, or the code of the error.
+    /// The layout of the rows in this number of bytes, or the code of the error.
     fn layout(&self, bytes: usize) -> Result<Layout, u32>
         ensures sizes { (fault : SixelError)
             → encode_fault self.now.width self.now.height ≡ Some fault

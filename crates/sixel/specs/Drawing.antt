@@ -50,7 +50,7 @@ color_limit max_colors image = unwrap_or max_colors (standard_limit image.pixels
 abbrev pub refined_fault : Option ℕ → Rgba → Option CallFault
 refined_fault max_colors image = palette_fault (drawn_image image) (color_limit max_colors image)
 
--- the output in a refined palette of at most so many colors
+-- the output in a refined palette of at most that number of colors
 abbrev pub IsRefinedOutput : Option ℕ → Mapping → Result Rgba NetpbmError → List ℕ → Ending
     → Type 0
 IsRefinedOutput max_colors mapping =

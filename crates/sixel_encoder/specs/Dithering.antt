@@ -24,7 +24,7 @@ use Rattle.sixel_encoder.specs.declared.mapping.Tolerance.TheVariants.{Auto, Squ
 
 -- ---- errors of a call
 
--- how many bytes the whole rows among so many bytes have
+-- the number of bytes of the whole rows among these bytes
 abbrev pub whole_rows : ℕ → ℕ → ℕ
 whole_rows bytes width = 4 * (bytes / 4 / width * width)
 
@@ -35,14 +35,14 @@ rows_fault bytes width =
     else if bytes == whole_rows bytes width then None
     else Some (BufferSizeMismatch (whole_rows bytes width) bytes)
 
--- what is wrong with pixels of so many bytes in rows of this width, and so many colors
+-- what is wrong with this number of bytes in rows of this width, and this number of colors
 abbrev pub indices_fault : ℕ → ℕ → ℕ → Option CallFault
 indices_fault bytes width colors =
     option_or (size_call_fault (rows_fault bytes width)) (color_count_fault colors)
 
 -- ---- the order of visits
 
--- an image that is mapped to a palette: of each error so many eighths are passed on, the pattern
+-- an image that is mapped to a palette: `strength` eighths of each error are passed on, the pattern
 -- moves a channel by the amplitude, and an entry may be kept that is farther by the tolerance
 pub record Mapped : Type 0 where
   pub width : ℕ
@@ -168,7 +168,7 @@ below_share error = 5 * error / 16
 abbrev pub rest_share : ℕ → ℕ
 rest_share error = error - next_share error - before_share error - below_share error
 
--- the error of the visit that is so many visits back, where there is one
+-- the error of the visit that is `back` visits before, where there is one
 abbrev pub error_back : Mapped → List (List ℕ) → ℕ → List ℕ
 error_back m errors back = slice_index_or errors back (no_error m.strength)
 
@@ -218,7 +218,7 @@ target_of_visit m errors n =
     rounded_sixteenths (sixteenths m errors n 0) ∷ rounded_sixteenths (sixteenths m errors n 1)
     ∷ rounded_sixteenths (sixteenths m errors n 2) ∷ []
 
--- what is passed on in a channel: of the difference to the entry so many eighths, rounded down
+-- what is passed on in a channel: `strength` eighths of the difference to the entry, rounded down
 abbrev pub passed_on : ℕ → ℕ → ℕ → ℕ
 passed_on strength value entry = (value + 4096 - 16 * entry) * strength / 8
 

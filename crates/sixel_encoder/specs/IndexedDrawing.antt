@@ -59,7 +59,7 @@ pub record IsPaletteText (image : Image) (colors : List (List ℕ)) (mapping : M
 
 -- ---- errors of a call
 
--- what is wrong with an image that is to be encoded in so many colors
+-- what is wrong with an image that is to be encoded in this number of colors
 abbrev pub palette_fault : Image → ℕ → Option CallFault
 palette_fault image colors =
     option_or (size_call_fault (image_fault image)) (color_count_fault colors)
@@ -70,19 +70,19 @@ index_count_fault image indices =
     if indices == image.width * image.height then None
     else Some (Exactly (BufferSizeMismatch (image.width * image.height) indices))
 
--- whether a pixel is opaque and has an index past so many colors
+-- whether a pixel is opaque and has an index past the colors
 abbrev pub is_past : List ℕ → List ℕ → ℕ → ℕ → Bool
 is_past pixels indices colors pixel =
     nat_le 128 (slice_index pixels (4 * pixel + 3)) && nat_le colors (slice_index indices pixel)
 
--- an index of an opaque pixel past so many colors
+-- an index of an opaque pixel past the colors
 abbrev pub index_range_fault : List ℕ → List ℕ → ℕ → Option CallFault
 index_range_fault pixels indices colors =
     if list_any (is_past pixels indices colors) (range_with_len 0 (length indices))
     then Some IndexRange
     else None
 
--- what is wrong with an image that is to be encoded in so many colors by these indices
+-- what is wrong with an image that is to be encoded in this number of colors by these indices
 abbrev pub indexed_fault : Image → ℕ → List ℕ → Option CallFault
 indexed_fault image colors indices =
     option_or (palette_fault image colors)

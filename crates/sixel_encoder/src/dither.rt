@@ -32,7 +32,7 @@ pub enum Amplitude {
     ///
     /// It is rounded down, and at most 255.
     Auto,
-    /// So many of the 256 levels.
+    /// A number of the 256 levels.
     ///
     /// The distance of neighboring entries suits a fixed palette, as 51 six equal levels.
     Levels(u8),

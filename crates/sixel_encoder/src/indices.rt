@@ -197,7 +197,7 @@ pub fn error_diffusion()
         → visit_error m indices errors n ≡ no_error m.strength }
 {}
 
-/// Returns an error unless so many bytes are whole rows of some pixels.
+/// Returns an error unless the bytes are whole rows of some pixels.
 fn validate_rows(bytes: usize, width: usize) -> Result<()>
     ensures { result ≡ verdict (rows_fault bytes width) }
 {

@@ -121,7 +121,7 @@ cut_at boxes position cut =
     slice_set boxes position (below (box_at boxes position) cut.channel cut.value)
     ++ above (box_at boxes position) cut.channel cut.value ∷ []
 
--- the boxes after so many cuts, or after which no cut gains
+-- the boxes after this number of cuts, or after which no cut gains
 unfoldable pub boxes_after : Pixels → ℕ → List Box
 boxes_after pixels zero = (λ _. true) ∷ []
 boxes_after pixels (suc n) =

@@ -43,7 +43,7 @@ pub enum Dither {
 pub enum Amplitude {
     /// The square root of the palette's mean squared error over the opaque pixels.
     Auto,
-    /// So many of the 256 levels.
+    /// A number of the 256 levels.
     ///
     /// The distance of neighboring entries suits a fixed palette, as 51 six equal levels.
     Levels(u8),

@@ -102,7 +102,7 @@ impl SixelReceiver {
         Ok(())
     }
 
-    /// Returns how many rows from the top of the open image are released.
+    /// Returns how many rows from the top of the open image were released.
     ///
     /// It is 0 after an error and if no image is open. The call does not allocate.
     pub fn released_rows(&self) -> usize
@@ -115,7 +115,7 @@ impl SixelReceiver {
         }
     }
 
-    /// Whether so many rows from row `first` on are final.
+    /// Whether `rows` rows from row `first` on are final.
     fn are_final(&self, first: usize, rows: usize) -> bool
         ensures { result ≡ nat_le (first + rows) (rows_so_far self.now.image) }
     {

@@ -8,7 +8,7 @@ ghost use Rattle.icy_sixel.specs.FinalRows.{buffer_len, layout_fault, usize_max}
 use sixel_base::{Result, SixelError};
 use sixel_canvas::channels::RowLayout;
 
-/// Checks that so many rows lie apart from each other in memory of so many bytes.
+/// Checks that `rows` rows lie apart from each other in `len` bytes of memory.
 pub fn check_rows(layout: RowLayout, rows: usize, len: usize) -> Result<()>
     ensures verdict { IsVerdict (layout_fault layout rows len) result }
     ensures fits { OnOk result (AreRowsIn layout rows len) }
@@ -28,7 +28,7 @@ pub fn check_rows(layout: RowLayout, rows: usize, len: usize) -> Result<()>
     Ok(())
 }
 
-/// Returns how many bytes so many rows take, if a `usize` counts them.
+/// Returns how many bytes these rows take, if a `usize` counts them.
 fn buffer_len(layout: RowLayout, rows: usize) -> Option<usize>
     requires { 4 * layout.columns ≤ layout.stride }
     ensures { result ≡ (if nat_lt usize_max (buffer_len layout rows) then None

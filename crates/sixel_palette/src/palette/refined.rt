@@ -102,7 +102,7 @@ pub fn refine_palette(alloc: Global, pixels: &[u8], max_colors: u16) -> Result<R
     Ok(palette_of(alloc, pixels, usize::from(max_colors))?)
 }
 
-/// The refined palette of whole pixels, with room for so many entries.
+/// The refined palette of whole pixels, of at most `room` entries.
 fn palette_of(
     alloc: Global,
     pixels: &[u8],
