@@ -10,4 +10,5 @@ pub mod NetpbmPixels
 pub mod OptionSteps
 pub mod Outputs
 pub mod Responses
+pub mod SpreadTexts
 mod WrittenBytes

@@ -13,12 +13,12 @@ use Rattle.sixel_base.specs.Payload.{Image}
 use Rattle.sixel_palette.specs.Palette.{color_at}
 use Rattle.sixel_encoder.specs.Encoding.{square_value}
 use Rattle.sixel_encoder.specs.IndexedDrawing.{IsPaletteText, palette_fault}
-use Rattle.sixel_encoder.specs.RefinedText.{IsRefinedText}
 use Rattle.sixel_encoder.specs.declared.mapping.Mapping.{Mapping}
 use Rattle.sixel_encoder.specs.declared.form.TextForm.TheVariants.{Compact}
 use Rattle.sixel.specs.declared.draw_options.DrawPalette.{DrawPalette}
 use Rattle.sixel.specs.declared.draw_options.DrawPalette.TheVariants.{Standard, Refined, File}
 use Rattle.sixel.specs.Ending.{Ending, Done, Refused, Unreadable}
+use Rattle.sixel.specs.Spread.{IsSpreadText}
 
 -- the image of a file, of square pixels on a transparent background
 abbrev pub drawn_image : Rgba → Image
@@ -55,8 +55,7 @@ abbrev pub IsRefinedOutput : Option ℕ → Mapping → Result Rgba NetpbmError 
     → Type 0
 IsRefinedOutput max_colors mapping =
     IsDrawn (refined_fault max_colors)
-    (λ image.
-    IsRefinedText (drawn_image image) (color_limit max_colors image) mapping Compact)
+    (λ image. IsSpreadText (drawn_image image) (color_limit max_colors image) mapping)
 
 -- ---- the palette of a file
 

@@ -6,5 +6,6 @@ pub mod Output
 pub mod Words
 pub mod Ending
 pub mod Sequences
+pub mod Spread
 pub mod Drawing
 pub mod WorkOutput

@@ -11,6 +11,7 @@ use crate::draw_options::{DrawOptions, DrawPalette};
 use crate::netpbm::read_image;
 use crate::palette_file::read_colors;
 use crate::picture_fault::PictureFault;
+use crate::spread::encode_spread;
 use icy_sixel::encoder::Mapping;
 use icy_sixel::{SixelImage, TextForm};
 use std::alloc::Global;
@@ -49,7 +50,7 @@ fn draw_refined(
     let file = read_image(alloc, file)?;
     let max_colors = max_colors.unwrap_or(standard_limit(&file.pixels));
     let image = SixelImage::from_rgba(file.pixels, file.width, file.height);
-    let text = image.encode_refined(alloc, max_colors, mapping, TextForm::Compact)?;
+    let text = encode_spread(alloc, &image, max_colors, mapping)?;
     Ok(text)
 }
 

@@ -17,6 +17,7 @@ mod picture_words;
 mod read;
 mod response;
 mod sequences;
+mod spread;
 #[cfg(test)]
 mod tests;
 mod words;

@@ -5,9 +5,8 @@ use Rattle.sixel.specs.netpbm.Image as files
 use Rattle.sixel_base.specs.CallFault.{FailsBy}
 use Rattle.sixel_base.specs.Payload.{Image}
 use Rattle.sixel_encoder.specs.IndexedDrawing.{palette_fault}
-use Rattle.sixel_encoder.specs.RefinedText.{IsRefinedText}
-use Rattle.sixel_encoder.specs.declared.form.TextForm.TheVariants.{Compact}
 use Rattle.sixel.specs.Drawing.{color_limit, drawn_image, refined_fault, standard_limit}
+use Rattle.sixel.specs.Spread.{IsSpreadText}
 use Rattle.sixel.proofs.Drawings.{no_call_fault}
 use Rattle.sixel.proofs.drawing.draw_refined.Goals as goal
 
@@ -28,6 +27,5 @@ returns c =
     (rw limit at encoded.fault)) in
     let text =
     subst
-    (λ (i : Image). IsRefinedText i max_colors c.args.mapping Compact
-    (string_bytes c.in_ok-text.text)) same (rw limit at encoded.text) in
+    (λ (i : Image). IsSpreadText i max_colors c.args.mapping (string_bytes c.in_ok-text.text)) same (rw limit at encoded.text) in
     (file, c.in_ok-file.ensures, fault, text)
