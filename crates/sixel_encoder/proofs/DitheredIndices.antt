@@ -3,7 +3,7 @@ use Rattle.std.proofs.Common.{◌≡◌, ℕ, ◌+◌, ◌*◌, ◌<◌, ◌≤�
 use Rattle.std.proofs.Common.{subst, ap, refl}
 use Rattle.std.proofs.Common.{◌∙◌, arith, inl, inr}
 use Rattle.std.specs.Prelude.{◌/◌, ◌%◌, None, slice_index}
-use Rattle.std.proofs.Math.Nat.{mul_comm}
+use Rattle.std.proofs.Math.Nat.{div-mul-le_self, mul_comm}
 use Rattle.std.proofs.lemmas.Bool.{cases_eq, cases_lt}
 use Rattle.std.proofs.lemmas.Bool.Decides.{nat_tests}
 use Rattle.std.proofs.lemmas.List.{get_or_past, get_or-replicate, get_or-set_other, get_or-set_same}
@@ -310,6 +310,13 @@ AreMapped-none m target indices rows none are = record {
 }
 
 -- ---- whole rows
+
+-- a row lies in them
+pub row-inside : (bytes width row : ℕ) → row < bytes / 4 / width
+    → row * width + width ≤ bytes / 4
+row-inside bytes width row l =
+    let high = mul-le (row + 1) width (bytes / 4 / width) width (omega (arith, l)) (omega arith) in
+    omega (arith, high, div-mul-le_self (bytes / 4) width)
 
 -- the row of a visit lies in them
 pub row-within : (bytes width n : ℕ) → 0 < width → bytes ≡ whole_rows bytes width

@@ -101,19 +101,26 @@ entry_of-some pixels indices pixel entry =
     go false same = absurd cc
 
 -- so the entry of a neighbor is one
+chosen-inside : (m : Mapped) (indices : List ℕ) (t : Bool) (pixel entry : ℕ)
+    → AreEntries m.colors indices → cond t None (entry_of m.pixels indices pixel) ≡ Some entry
+    → entry < length m.colors
+chosen-inside m indices true pixel entry are same = absurd cc
+chosen-inside m indices false pixel entry are same =
+    subst (λ (k : ℕ). k < length m.colors) (entry_of-some m.pixels indices pixel entry same)
+    (are pixel)
+
+pub above-inside : (m : Mapped) (indices : List ℕ) (n : ℕ) → AreEntries m.colors indices
+    → (entry : ℕ) → entry_above m indices n ≡ Some entry → entry < length m.colors
+above-inside m indices n are entry same =
+    chosen-inside m indices (n / m.width % 6 == 0) (serpentine m.width n - m.width) entry are same
+
 pub neighbor-inside : (m : Mapped) (c indices : List ℕ) (n : ℕ) → AreEntries m.colors indices
     → (entry : ℕ) → neighbor_of m c indices n ≡ Some entry → entry < length m.colors
 neighbor-inside m c indices n are =
     inside-nearer m.colors c (entry_before m indices n) (entry_above m indices n)
-    (go (n % m.width == 0) (serpentine m.width (n - 1)))
-    (go (n / m.width % 6 == 0) (serpentine m.width n - m.width))
-  where
-    go : (t : Bool) (pixel entry : ℕ)
-        → cond t None (entry_of m.pixels indices pixel) ≡ Some entry → entry < length m.colors
-    go true pixel entry same = absurd cc
-    go false pixel entry same =
-        subst (λ (k : ℕ). k < length m.colors) (entry_of-some m.pixels indices pixel entry same)
-        (are pixel)
+    (λ entry same.
+    chosen-inside m indices (n % m.width == 0) (serpentine m.width (n - 1)) entry are same)
+    (above-inside m indices n are)
 
 -- ---- the index
 
@@ -182,6 +189,27 @@ pub IsNearest-exact : (m : Mapped) (c : List ℕ) (neighbor : Option ℕ) (index
 IsNearest-exact m c neighbor index none inside is =
     is.nearest
     (λ entry same. omega (arith, none, nearest-le m.colors c entry [] (inside entry same)))
+
+-- so it is, if the pixel before has that entry
+pub IsIndex-before : (m : Mapped) (c : List ℕ) (above : Option ℕ) (index : ℕ)
+    → IsNearest m.colors c index
+    → ((entry : ℕ) → above ≡ Some entry → entry < length m.colors)
+    → IsIndex m c (nearer_entry m.colors c (Some index) above) index
+IsIndex-before m c above index near inside =
+    subst (λ (neighbor : Option ℕ). IsIndex m c neighbor index) (sym (go above inside)) (record {
+      entry = near.entry;
+      kept = λ entry same l. cc;
+      nearest = λ _. near;
+    })
+  where
+    go : (above : Option ℕ) → ((entry : ℕ) → above ≡ Some entry → entry < length m.colors)
+        → nearer_entry m.colors c (Some index) above ≡ Some index
+    go None inside = refl
+    go (Some above) inside =
+        let least = near.least above (inside above refl) in
+        let test : nat_lt (entry_distance m.colors c above) (entry_distance m.colors c index)
+        ≡ false = grind (arith, nat_tests) in
+        ap (λ t. cond t (Some above) (Some index)) test
 
 -- the index is the only one
 pub IsIndex-same : (m : Mapped) (c : List ℕ) (neighbor : Option ℕ) (i j : ℕ)

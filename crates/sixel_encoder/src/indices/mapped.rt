@@ -115,6 +115,9 @@ impl MappedImage<'_> {
             return Ok(kept.index);
         }
         let nearest = search.index_of(target)?;
+        if self.tolerance == 0 {
+            return Ok(nearest);
+        }
         Ok(self.chosen(kept, nearest, target))
     }
 

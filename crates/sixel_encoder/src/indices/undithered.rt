@@ -1,13 +1,13 @@
 //! Entries of neighbors that are kept without dithering.
 
-ghost use Rattle.std.specs.Prelude.{◌≡◌, ◌+◌, ◌*◌, ◌/◌, length};
+ghost use Rattle.std.specs.Prelude.{◌≡◌, ◌+◌, ◌*◌, ◌/◌, IsTrue, Some, length};
 ghost use Rattle.sixel_palette.specs.Palette.{AreIndices, color_at};
-ghost use Rattle.sixel_encoder.specs.Dithering.{AreMapped, serpentine};
+ghost use Rattle.sixel_encoder.specs.Dithering.{AreMapped, entry_before, serpentine};
 ghost use Rattle.sixel_encoder.specs.inside.Mapped.{AreEntries, IsIndexAt, IsLater, IsMappable};
 ghost use Rattle.sixel_encoder.specs.inside.Mapped.{IsPlace, mapped_value};
 
 use crate::band::is_opaque;
-use crate::indices::mapped::{MappedImage, Place};
+use crate::indices::mapped::{MappedImage, Place, column_of_step};
 
 /// Returns the palette index of each pixel, from the indices of their nearest entries.
 pub fn keep_entries(image: &MappedImage<'_>, nearest: Vec<u8>) -> Vec<u8>
@@ -20,10 +20,12 @@ pub fn keep_entries(image: &MappedImage<'_>, nearest: Vec<u8>) -> Vec<u8>
     if image.tolerance == 0 {
         return indices;
     }
-    for visit in 0..image.pixels.len() / 4 {
-        let place = image.place(visit / image.width, visit % image.width);
-        let index = image.kept_index(&indices, place);
-        indices[place.pixel] = index;
+    for row in 0..image.pixels.len() / 4 / image.width {
+        for step in 0..image.width {
+            let place = image.place(row, step);
+            let index = image.kept_index(&indices, place);
+            indices[place.pixel] = index;
+        }
     }
     indices
 }
@@ -44,8 +46,31 @@ impl MappedImage<'_> {
         if !is_opaque(self.pixels, place.pixel) {
             return 0;
         }
+        let nearest = indices[place.pixel];
+        if self.is_before(indices, place, nearest) {
+            return nearest;
+        }
         let target = self.color(place.pixel);
         let kept = self.kept(indices, place, target);
-        self.chosen(kept, indices[place.pixel], target)
+        self.chosen(kept, nearest, target)
+    }
+
+    /// Returns whether the pixel before a step is opaque and has this index.
+    #[inline(always)]
+    fn is_before(&self, indices: &[u8], place: Place, index: u8) -> bool
+        requires place { IsPlace (mapped_value self.now) place }
+        requires size { length indices.now ≡ length self.now.pixels.now / 4 }
+        ensures { IsTrue result → entry_before (mapped_value self.now) indices.now
+            (place.row * self.now.width + place.step) ≡ Some index }
+    {
+        if place.step == 0 {
+            return false;
+        }
+        let column = column_of_step(self.width, place.row, place.step - 1);
+        let pixel = place.row * self.width + column;
+        if !is_opaque(self.pixels, pixel) || indices[pixel] != index {
+            return false;
+        }
+        true
     }
 }
