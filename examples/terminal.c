@@ -57,27 +57,25 @@ static uint32_t end_image(struct terminal *term)
     return ICYSIXEL_OK;
 }
 
-/* Shows why an image is rejected: an allocation failed. The parser then skips the payload. */
-static void reject_image(struct terminal *term, uint32_t code)
+/* Shows an error once: an allocation failed. */
+static void show_error(uint32_t code)
 {
     char text[64];
+    if (code == ICYSIXEL_OK || code == ICYSIXEL_STREAM_FAILED) return;
     icysixel_strerror(code, text, sizeof text);
     printf("[%s]", text);
-    icysixel_abort(&term->sixel);
-    term->state = SKIPPED;
 }
 
-/* Reads a part of the payload, and returns how many bytes belong to it. */
+/* Reads a part of the payload, and returns how many bytes belong to it, also after an error. */
 static size_t read_payload(struct terminal *term, const uint8_t *bytes, size_t length)
 {
     icysixel_fed fed = {0};
-    uint32_t code = icysixel_feed(&term->sixel, bytes, length, &fed);
+    show_error(icysixel_feed(&term->sixel, bytes, length, &fed));
     reserve_rows(term, icysixel_get_drawn_height(&term->sixel));
-    if (code == ICYSIXEL_OK && fed.status == ICYSIXEL_COMPLETE) {
-        code = end_image(term);
+    if (fed.status == ICYSIXEL_COMPLETE) {
+        show_error(end_image(term));
         term->state = TEXT; /* the terminator is not consumed: the parser reads it */
     }
-    if (code != ICYSIXEL_OK) reject_image(term, code);
     return fed.consumed;
 }
 
@@ -96,9 +94,9 @@ static void parse(struct terminal *term, uint8_t byte)
     } else if (term->state == PARAMETERS && byte == ';') {
         term->count += term->count < 2;
     } else if (term->state == PARAMETERS && byte == 'q') {
-        term->state = PAYLOAD;
         uint32_t code = begin_image(term);
-        if (code != ICYSIXEL_OK) reject_image(term, code);
+        term->state = code == ICYSIXEL_OK ? PAYLOAD : SKIPPED;
+        show_error(code);
     } else if (term->state == PARAMETERS) {
         term->state = SKIPPED; /* a DCS sequence that is not SIXEL */
     } else if (term->state == TEXT) {

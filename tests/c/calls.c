@@ -131,6 +131,26 @@ static void test_progress(void)
     CHECK(!icysixel_is_receiving(h) && icysixel_get_rows_so_far(h) == 0);
 }
 
+/* A feed that fails writes which bytes belong to the image. Without an image it writes nothing. */
+static void test_failed_feeds(void)
+{
+    static const struct { const char *chunk; uint32_t code; size_t consumed; uint32_t status; }
+    chunks[] = {
+        {"~!65536~", BAD, 8, ICYSIXEL_MORE},
+        {"~-\033", ICYSIXEL_DCS_STREAM_FAILED, 3, ICYSIXEL_MORE},
+        {"\\text", ICYSIXEL_DCS_STREAM_FAILED, 1, ICYSIXEL_COMPLETE},
+        {"text", ICYSIXEL_DCS_STREAM_FAILED, 0, ICYSIXEL_COMPLETE},
+    };
+    icysixel_begin_dcs(h);
+    RETURNS(OK, FEED("\033Pq"));
+    EACH(row, chunks) {
+        CHECK(FEED(row->chunk) == row->code && fed.consumed == row->consumed);
+        CHECK(fed.status == row->status && fed.byte == 0);
+    }
+    icysixel_abort(h);
+    CHECK(FEED("~") == ICYSIXEL_NO_SESSION && fed.status == ICYSIXEL_COMPLETE);
+}
+
 /* The work of painting counts a tag as one column, and its 128 columns once the band ends. */
 static void test_canvas_paints(void)
 {
@@ -880,13 +900,13 @@ static void test_version(void)
 int main(void)
 {
     static const struct { const char *name; void (*test)(void); } tests[] = {
-        TEST(empty_handle), TEST(new_on_full_handle), TEST(progress), TEST(canvas_paints),
-        TEST(bands), TEST(copied_rows), TEST(wider_end), TEST(whole_rows), TEST(lenient),
-        TEST(transparent), TEST(cropped_rows), TEST(pixels), TEST(errors), TEST(drawn_height),
-        TEST(raster_size), TEST(take_pixels), TEST(new_on_full_handle), TEST(registers),
-        TEST(settings), TEST(encode), TEST(shapes), TEST(take_text), TEST(encodings), TEST(formats),
-        TEST(widest), TEST(palettes), TEST(indices), TEST(tolerance), TEST(code_texts),
-        TEST(version),
+        TEST(empty_handle), TEST(new_on_full_handle), TEST(progress), TEST(failed_feeds),
+        TEST(canvas_paints), TEST(bands), TEST(copied_rows), TEST(wider_end), TEST(whole_rows),
+        TEST(lenient), TEST(transparent), TEST(cropped_rows), TEST(pixels), TEST(errors),
+        TEST(drawn_height), TEST(raster_size), TEST(take_pixels), TEST(new_on_full_handle),
+        TEST(registers), TEST(settings), TEST(encode), TEST(shapes), TEST(take_text),
+        TEST(encodings), TEST(formats), TEST(widest), TEST(palettes), TEST(indices),
+        TEST(tolerance), TEST(code_texts), TEST(version),
     };
     for (size_t i = 0; i < COUNT_OF(tests); i++) subject = tests[i].name, tests[i].test();
     icysixel_free(h);

@@ -64,12 +64,13 @@ static struct bytes random_data(bool is_string)
 }
 
 /* How data are decoded: a payload's parameters, the height, and whether they are a sequence. */
-static _Thread_local struct { bool is_string; uint8_t height; int32_t p1, p2; } settings;
+static _Thread_local struct { bool is_string, is_lenient; uint8_t height; int32_t p1, p2; } settings;
 
 static icysixel new_decoder(void)
 {
     icysixel decoder = new_handle();
     icysixel_set_limit(&decoder, 20000), icysixel_set_height(&decoder, settings.height);
+    icysixel_set_lenient(&decoder, settings.is_lenient);
     if (settings.is_string) icysixel_begin_dcs(&decoder);
     else icysixel_begin_payload(&decoder, settings.p1, settings.p2);
     return decoder;
@@ -112,6 +113,36 @@ static void try_rows(struct bytes data, const struct outcome *image)
     free(rows.pixels), icysixel_free(&decoder);
 }
 
+/* Feeds chunks of a length, and returns how many bytes belong to the image and how it ended. */
+static icysixel_fed feed_all(struct bytes data, size_t length, bool is_lenient)
+{
+    settings.is_lenient = is_lenient;
+    icysixel decoder = new_decoder();
+    icysixel_fed all = {0};
+    for (size_t at = 0; at < data.length && all.status == ICYSIXEL_MORE; at += length) {
+        struct bytes chunk = part(data, at, length);
+        icysixel_fed fed = {0};
+        icysixel_feed(&decoder, chunk.at, chunk.length, &fed);
+        all = (icysixel_fed){all.consumed + fed.consumed, fed.status, fed.byte};
+    }
+    settings.is_lenient = false;
+    icysixel_free(&decoder);
+    return all;
+}
+
+/* A strict image that fails has the bytes of a lenient one. Without a header both fail. */
+static void try_counts(struct bytes data)
+{
+    static const size_t lengths[] = {1, 7, 4096};
+    icysixel_fed lenient = feed_all(data, 4096, true);
+    for (size_t i = 0; i < COUNT_OF(lengths); i++) {
+        icysixel_fed strict = feed_all(data, lengths[i], false);
+        CHECK(strict.consumed == lenient.consumed);
+        CHECK(strict.status == lenient.status && strict.byte == lenient.byte);
+    }
+    add(&lenient.consumed, sizeof lenient.consumed);
+}
+
 /* Decodes at once and by a session in random chunks. A payload comes to the same both times. */
 static void try_data(bool is_string)
 {
@@ -138,6 +169,9 @@ static void try_data(bool is_string)
     struct outcome fed_outcome = add_outcome(&parts, code, shape);
     CHECK(is_string || is_same(&fed_outcome, &at_once));
     try_rows(data, &fed_outcome);
+    try_counts(data);
+    if (data.length > 0) data.at[below((uint32_t)data.length)] = (uint8_t)below(256);
+    try_counts(data);
     free(data.at), free(at_once.pixels), free(fed_outcome.pixels);
     icysixel_free(&whole), icysixel_free(&parts);
 }

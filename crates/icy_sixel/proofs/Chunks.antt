@@ -1,5 +1,5 @@
 -- What is known of the bytes of an image once a beginning of them was fed.
-use Rattle.std.proofs.Common.{◌≡◌, ℕ, ◌≤◌, true, List, [], ◌++◌, refl, ap, sym, ◌∙◌, inl, inr}
+use Rattle.std.proofs.Common.{◌≡◌, ℕ, ◌≤◌, true, false, List, [], ◌++◌, refl, ap, sym, ◌∙◌, inl, inr}
 use Rattle.std.proofs.Common.{subst, arith, Option, Some, None}
 use Rattle.std.specs.Prelude.{◌&&◌, if◌then◌else◌, nat_lt, is_none, is_some, length}
 use Rattle.std.specs.Prelude.{Result, Ok, Err, IfErr}
@@ -8,12 +8,23 @@ use Rattle.std.proofs.lemmas.Bool.Decides.{nat_tests}
 use Rattle.sixel_base.specs.declared.error.SixelError.{SixelError}
 use Rattle.sixel_base.specs.Fault.{Faults, Incomplete}
 use Rattle.sixel_base.specs.Bytes.{front, first_terminator}
+use Rattle.sixel_base.specs.Bytes as own
 use Rattle.sixel_base.specs.History.{history_of}
 use Rattle.sixel_base.specs.Lenient.{fault as reported}
 use Rattle.sixel_base.specs.Settings.{Settings}
 use Rattle.sixel_base.specs.Status.{status_of}
-use Rattle.sixel_base.specs.Dcs.{can_finish, dcs_in_payload, dcs_status}
+use Rattle.sixel_base.specs.Dcs.{can_finish, dcs_fault, dcs_growths, dcs_in_payload, dcs_status}
 use Rattle.sixel_base.specs.Dcs as strings
+use Rattle.sixel_base.specs.declared.status.SixelFeedResult.{SixelFeedResult}
+use Rattle.sixel_base.specs.declared.status.SixelDcsFeedResult.{SixelDcsFeedResult}
+use Rattle.sixel_decoder.specs.DcsCalls.{IsFed}
+use Rattle.sixel_decoder.specs.PayloadCalls as payloads
+use Rattle.sixel_decoder.specs.ImageEnds.{Extends, Passes, sequence_count, sequence_status}
+use Rattle.sixel_decoder.specs.Session.{Session, DcsSession}
+use Rattle.sixel_decoder.specs.declared.image_end.SequenceEnd.{SequenceEnd}
+use Rattle.icy_sixel.specs.ReceiverCalls.{IsCounted}
+use Rattle.icy_sixel.specs.inside.Receiving.{reception_of}
+use Rattle.icy_sixel.specs.declared.receiver.Open.TheVariants as opened
 use Rattle.icy_sixel.specs.declared.script.Status.TheVariants.{Payload, Dcs}
 use Rattle.sixel_base.specs.Limits.{Limit}
 use Rattle.icy_sixel.specs.Receiver.{Form, Nothing, OfPayload, OfString, count, status, fault}
@@ -23,6 +34,7 @@ use Rattle.icy_sixel.specs.Receiver.{has_ended}
 use Rattle.sixel_decoder.proofs.ParserSteps.{Faults-along}
 use Rattle.sixel_decoder.proofs.ChunkPlaces.{or_right}
 use Rattle.sixel_decoder.proofs.Chunks.{first_terminator-ended}
+use Rattle.sixel_decoder.proofs.ImageEnds.{accepted_same}
 use Rattle.sixel_decoder.proofs.Finality.{front_ended, count_ended, settled_ended}
 use Rattle.sixel_decoder.proofs.Finality.{status_ended, dcs_count_ended, dcs_fault_ended}
 use Rattle.sixel_decoder.proofs.DcsEnds.{count-fits}
@@ -147,3 +159,55 @@ pub count_fits : (form : Form) (bytes : List ℕ) → count form bytes ≤ lengt
 count_fits Nothing bytes = omega arith
 count_fits (OfPayload settings) bytes = count-fits bytes
 count_fits OfString bytes = dcs_count-fits bytes
+
+-- ---- which bytes belong to an image
+
+pub payload_counted : (old new : Session) (chunk : List ℕ) (fed : SixelFeedResult)
+    → new.bytes ≡ old.bytes ++ chunk → Passes old.bytes (old.bytes ++ chunk) fed
+    → fed.consumed ≤ length chunk
+    → IsCounted (reception_of (opened.Payload old)) (reception_of (opened.Payload new)) chunk
+    (record { consumed = fed.consumed; status = Payload fed.status })
+payload_counted old new chunk fed bytes passes within = record {
+  count = passes.0 ∙ ap own.count (sym bytes);
+  within = within;
+  status = ap Payload (passes.1 ∙ ap (λ w. status_of (first_terminator w)) (sym bytes));
+}
+
+-- a feed that succeeds consumes them, too
+pub payload_fed_counted : (old new : Session) (chunk : List ℕ) (fed : SixelFeedResult)
+    → payloads.IsFed old new chunk (Ok fed)
+    → IsCounted (reception_of (opened.Payload old)) (reception_of (opened.Payload new)) chunk
+    (record { consumed = fed.consumed; status = Payload fed.status })
+payload_fed_counted old new chunk fed is =
+    record { count = is.consumed; within = is.within; status = ap Payload is.status }
+
+pub string_counted : (old new : DcsSession) (end : SequenceEnd) (chunk : List ℕ)
+    (fed : SixelDcsFeedResult) → new.bytes ≡ old.bytes ++ chunk → Extends end old.bytes chunk fed
+    → IsCounted (reception_of (opened.ControlString old)) (reception_of (opened.ControlString new))
+    chunk (record { consumed = fed.consumed; status = Dcs fed.status })
+string_counted old new end chunk fed bytes is = record {
+  count = is.counted ∙ ap sequence_count (sym bytes);
+  within = is.within;
+  status = ap Dcs (is.stands ∙ ap sequence_status (sym bytes));
+}
+
+pub string_fed_counted : (old new : DcsSession) (chunk : List ℕ) (fed : SixelDcsFeedResult)
+    → IsFed old new chunk (Ok fed)
+    → IsCounted (reception_of (opened.ControlString old)) (reception_of (opened.ControlString new))
+    chunk (record { consumed = fed.consumed; status = Dcs fed.status })
+string_fed_counted old new chunk fed is =
+    let was = accepted_same old.decoder.pixel_limit old.bytes (is.sound is.ok.0) in
+    let now = accepted_same old.decoder.pixel_limit new.bytes is.faultless in
+    record {
+      count = omega (arith, was.0, now.0, is.consumed);
+      within = is.within;
+      status = ap Dcs (is.status ∙ sym now.1);
+    }
+
+-- the error of a DCS sequence is that of all its bytes
+pub string_refused_for_good : (old new : DcsSession) (chunk more : List ℕ) (error : SixelError)
+    → IsFed old new chunk (Err error) → old.is_refused ≡ false
+    → Faults error (nat_lt 0 (dcs_growths (new.bytes ++ more)))
+    (dcs_fault old.decoder.pixel_limit (new.bytes ++ more))
+string_refused_for_good old new chunk more error is accepted =
+    is.refused_for_good error more refl accepted

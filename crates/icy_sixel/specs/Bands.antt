@@ -2,10 +2,10 @@
 -- read, and what is reported. Which rows are final is in FinalRows.
 use Rattle.std.specs.Prelude.{ℕ, ◌≡◌, ◌==◌, ◌&&◌, not, nat_lt, if◌then◌else◌, List, [], ◌∷◌, Result}
 use Rattle.std.specs.Result.{result_map_both}
-use Rattle.sixel_base.specs.declared.error.SixelError.{SixelError}
 use Rattle.icy_sixel.specs.FinalRows.{rows_so_far}
 use Rattle.icy_sixel.specs.Receiver.{Receiver, has_ended}
 use Rattle.icy_sixel.specs.ReceiverCalls.{IsFed}
+use Rattle.icy_sixel.specs.declared.receiver.FailedFeed.{FailedFeed}
 use Rattle.icy_sixel.specs.declared.receiver.Received.{Received}
 use Rattle.icy_sixel.specs.declared.receiver.bands.BandStatus.{BandStatus}
 use Rattle.icy_sixel.specs.declared.receiver.bands.BandStatus.TheVariants.{Rows, Image}
@@ -32,10 +32,10 @@ received_band before after received = record {
 
 -- The open image reads the chunk up to its first graphics new line, or is rejected.
 pub record IsBandFed (old new : Receiver) (chunk : List ℕ)
-    (result : Result ReceivedBand SixelError) : Type 0 where
+    (result : Result ReceivedBand FailedFeed) : Type 0 where
   -- what a feed of these bytes returns
-  pub received : Result Received SixelError
+  pub received : Result Received FailedFeed
   pub fed : IsFed old new (band_of chunk) received
   -- the call returns the same, with the status of a band
   pub reported : result ≡ result_map_both
-      (received_band (rows_so_far old.image) (rows_so_far new.image)) (λ error. error) received
+      (received_band (rows_so_far old.image) (rows_so_far new.image)) (λ failed. failed) received

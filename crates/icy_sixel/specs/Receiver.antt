@@ -22,6 +22,7 @@ use Rattle.sixel_base.specs.Limits.{Limit}
 use Rattle.sixel_base.specs.OneShot.{Found, Payload, NoPayload}
 use Rattle.sixel_base.specs.OneShot as one_shot
 use Rattle.sixel_base.specs.Reach as reach
+use Rattle.sixel_decoder.specs.ImageEnds.{sequence_count, sequence_status}
 use Rattle.sixel_decoder.specs.Paints as paints
 pub use Rattle.sixel_decoder.specs.Paints.{area_of, most_row_writes, most_run_paints}
 
@@ -95,6 +96,17 @@ abbrev pub status : Form → List ℕ → Status
 status Nothing bytes = statuses.Payload NeedMoreData
 status (OfPayload settings) bytes = statuses.Payload (status_of (first_terminator bytes))
 status OfString bytes = statuses.Dcs (dcs_status bytes)
+
+-- how many bytes belong to the image, and its status, whatever faults the bytes have
+abbrev pub own_count : Form → List ℕ → ℕ
+own_count Nothing bytes = 0
+own_count (OfPayload settings) bytes = own.count bytes
+own_count OfString bytes = sequence_count bytes
+
+abbrev pub own_status : Form → List ℕ → Status
+own_status Nothing bytes = statuses.Payload NeedMoreData
+own_status (OfPayload settings) bytes = statuses.Payload (status_of (first_terminator bytes))
+own_status OfString bytes = statuses.Dcs (sequence_status bytes)
 
 -- whether an image of this status has ended
 abbrev pub has_ended : Status → Bool

@@ -14,6 +14,7 @@ use Rattle.icy_sixel.specs.FinalRows.{pixel_so_far}
 use Rattle.icy_sixel.specs.ReceivedImages.{whole_value}
 use Rattle.icy_sixel.specs.Receiver.{Form, Receiver, Reception, OfPayload, OfString, no_image}
 use Rattle.icy_sixel.specs.Receiver as receivers
+use Rattle.icy_sixel.specs.declared.receiver.FailedFeed.{FailedFeed}
 use Rattle.icy_sixel.specs.declared.receiver.Received.{Received}
 use Rattle.icy_sixel.specs.declared.receiver.received_image.ReceivedImage.{ReceivedImage}
 
@@ -24,9 +25,22 @@ pub record IsBegun (old new : Receiver) (form : Form) : Type 0 where
   -- the image was fed nothing, and begins from the decoder
   pub image : new.image ≡ receivers.begun form old.decoder
 
+-- The bytes consumed are those of the chunk that belong to the image, whatever faults it has.
+pub record IsCounted (old new : Reception) (chunk : List ℕ) (fed : Received) : Type 0 where
+  pub count : receivers.own_count old.form old.bytes + fed.consumed
+      ≡ receivers.own_count new.form new.bytes
+  pub within : fed.consumed ≤ length chunk
+  -- the status says so, too
+  pub status : fed.status ≡ receivers.own_status new.form new.bytes
+
+-- what a feed did, whether it failed or not
+abbrev pub received : Result Received FailedFeed → Received
+received (Ok fed) = fed
+received (Err failed) = record { consumed = failed.consumed; status = failed.status }
+
 -- The open image reads the chunk, or is rejected.
 pub record IsFed (old new : Receiver) (chunk : List ℕ)
-    (result : Result Received SixelError) : Type 0 where
+    (result : Result Received FailedFeed) : Type 0 where
   -- the decoder stays
   pub decoder : new.decoder ≡ old.decoder
   -- a payload stays a payload, and a DCS sequence a DCS sequence
@@ -63,35 +77,35 @@ pub record IsFed (old new : Receiver) (chunk : List ℕ)
   pub consumed : IfOk result (λ fed.
       receivers.count old.image.form old.image.bytes + fed.consumed
       ≡ receivers.count new.image.form new.image.bytes)
-  -- they are at most the chunk
-  pub within : IfOk result (λ fed. fed.consumed ≤ length chunk)
   -- the status is that of all bytes so far
   pub status : IfOk result (λ fed.
       fed.status ≡ receivers.status new.image.form new.image.bytes)
+  -- whether the feed fails or not, faults have no effect on which bytes belong to the image
+  pub counted : IsCounted old.image new.image chunk (received result)
   -- an error is the first fault of all bytes so far, or an allocation failed; after an error each
   -- feed reports that the stream has failed
-  pub error : IfErr result (λ error. MatchBool old.image.is_refused
-      (IsFault error (receivers.failed old.image.form))
-      (Faults error
+  pub error : IfErr result (λ failed. MatchBool old.image.is_refused
+      (IsFault failed.error (receivers.failed old.image.form))
+      (Faults failed.error
       (nat_lt (receivers.growths old.image.form old.image.bytes)
       (receivers.growths new.image.form new.image.bytes))
       (receivers.fault old.image.start.pixel_limit new.image.form new.image.bytes)))
   -- decoding the bytes of a payload in one call fails with that error
-  pub refused : (settings : Settings) (error : SixelError)
-      → old.image.form ≡ OfPayload settings → result ≡ Err error → old.image.is_refused ≡ false
-      → Faults error
+  pub refused : (settings : Settings) (failed : FailedFeed)
+      → old.image.form ≡ OfPayload settings → result ≡ Err failed → old.image.is_refused ≡ false
+      → Faults failed.error
       (payload_wants old.image.start.pixel_limit new.image.bytes)
       (payload_fault old.image.start.pixel_limit new.image.bytes)
   -- that stays so, whatever bytes follow
-  pub refused_for_good : (settings : Settings) (error : SixelError) (more : List ℕ)
-      → old.image.form ≡ OfPayload settings → result ≡ Err error → old.image.is_refused ≡ false
-      → Faults error
+  pub refused_for_good : (settings : Settings) (failed : FailedFeed) (more : List ℕ)
+      → old.image.form ≡ OfPayload settings → result ≡ Err failed → old.image.is_refused ≡ false
+      → Faults failed.error
       (payload_wants old.image.start.pixel_limit (new.image.bytes ++ more))
       (payload_fault old.image.start.pixel_limit (new.image.bytes ++ more))
   -- a DCS sequence keeps its fault, whatever bytes follow
-  pub string_refused_for_good : (error : SixelError) (more : List ℕ)
-      → old.image.form ≡ OfString → result ≡ Err error → old.image.is_refused ≡ false
-      → Faults error (nat_lt 0 (dcs_growths (new.image.bytes ++ more)))
+  pub string_refused_for_good : (failed : FailedFeed) (more : List ℕ)
+      → old.image.form ≡ OfString → result ≡ Err failed → old.image.is_refused ≡ false
+      → Faults failed.error (nat_lt 0 (dcs_growths (new.image.bytes ++ more)))
       (dcs_fault old.image.start.pixel_limit (new.image.bytes ++ more))
 
 -- the image that a receiver has finished: the released rows are above those that are left

@@ -17,7 +17,9 @@ pub use encoder::{
     Amplitude, Dither, EncodeOptions, Mapping, TextForm, Tolerance, palette_indices, sixel_encode,
     sixel_encode_default,
 };
-pub use receiver::{BandStatus, Height, Received, ReceivedBand, ReceivedImage, SixelReceiver};
+pub use receiver::{
+    BandStatus, FailedFeed, Height, Received, ReceivedBand, ReceivedImage, SixelReceiver,
+};
 pub use script::Status;
 pub use sixel_base::size::validate_encode_dimensions;
 pub use sixel_base::{Result, SixelError, limits};

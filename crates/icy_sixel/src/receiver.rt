@@ -2,10 +2,11 @@
 //!
 //! The contracts of its calls are the records of `ReceiverCalls`.
 
-ghost use Rattle.std.specs.Prelude.{◌≡◌, ◌*◌, ◌<◌, ◌∷◌, [], true, false, length, min};
+ghost use Rattle.std.specs.Prelude.{◌≡◌, ◌*◌, ◌<◌, ◌∷◌, List, ℕ, [], true, false, length, min};
 ghost use Rattle.std.specs.Prelude.{IfOk, IfSome, None, Ok, Some};
 ghost use Rattle.sixel_base.specs.CallFault.{FailsBy, RowsReleased};
 ghost use Rattle.sixel_base.specs.Decoder.{new_decoder};
+ghost use Rattle.sixel_decoder.specs.ImageEnds.{Extends, IsEnd};
 ghost use Rattle.sixel_decoder.specs.Report.{found_report};
 ghost use Rattle.icy_sixel.specs.ImageView.{image_value};
 ghost use Rattle.icy_sixel.specs.ReceivedImages.{received_report};
@@ -33,10 +34,10 @@ pub use final_rows::stable_rows;
 pub use received_image::{Height, ReceivedImage};
 use sixel_base::{Result, SixelError};
 use sixel_canvas::band_canvas::BandCanvas;
-use sixel_decoder::{DcsReader, PayloadReader};
+use sixel_decoder::{DcsReader, PayloadReader, SequenceEnd, payload_end};
 use std::alloc::Global;
 use std::marker::Model;
-use std::mem;
+use std::{mem, result};
 
 /// What a feed of a receiver did.
 #[derive(Clone, Copy, Debug, PartialEq, Eq)]
@@ -45,6 +46,25 @@ pub struct Received {
     pub consumed: usize,
     /// What the caller does next, as a session of that form returns it.
     pub status: Status,
+}
+
+/// Why a feed of a receiver failed, and what it did all the same.
+#[derive(Debug, PartialEq, Eq, Drop)]
+pub struct FailedFeed {
+    /// How many bytes of the chunk belong to the image.
+    pub consumed: usize,
+    /// Whether the image has ended.
+    pub status: Status,
+    /// The error.
+    pub error: SixelError,
+}
+
+impl From<FailedFeed> for SixelError {
+    ghost from_gives = { λ failed error. error ≡ failed.error };
+
+    fn from(failed: FailedFeed) -> SixelError {
+        failed.error
+    }
 }
 
 /// The image that is open, if one is.
@@ -155,15 +175,50 @@ impl SixelReceiver {
     /// fails until another image is begun. If no image is open, the error is
     /// `SixelError::InvalidData("stream decoder has failed")`.
     ///
+    /// Errors have no effect on which bytes belong to the image. A feed that fails reports how many
+    /// bytes of the chunk are the image's own, and whether the image has ended. So a host drops
+    /// these bytes, and goes on with those after the image. A DCS sequence with a wrong header goes
+    /// on up to its terminator. One without an introducer does, too.
+    ///
     /// [`SixelStreamDecoder::feed`]: crate::SixelStreamDecoder::feed
     /// [`SixelDcsStreamDecoder::feed`]: crate::SixelDcsStreamDecoder::feed
-    pub fn feed(&mut self, piece: &[u8]) -> Result<Received>
+    pub fn feed(&mut self, piece: &[u8]) -> result::Result<Received, FailedFeed>
         ensures { IsFed self.old self.new piece.now result }
     {
         match &mut self.open {
-            Open::Nothing => Err(SixelError::stream_failed()),
-            Open::Payload(reader) => Ok(of_payload(reader.feed(piece)?)),
-            Open::ControlString(reader) => Ok(of_string(reader.feed(piece)?)),
+            Open::Nothing => Err(FailedFeed {
+                error: SixelError::stream_failed(),
+                consumed: 0,
+                status: Status::Payload(SixelFeedStatus::NeedMoreData),
+            }),
+            Open::Payload(reader) => {
+                let terminator = reader.terminator();
+                match reader.feed(piece) {
+                    Ok(fed) => Ok(of_payload(fed)),
+                    Err(error) => {
+                        let fed = payload_end(terminator, piece);
+                        Err(FailedFeed {
+                            error,
+                            consumed: fed.consumed,
+                            status: Status::Payload(fed.status),
+                        })
+                    }
+                }
+            }
+            Open::ControlString(reader) => {
+                let end = reader.end();
+                match reader.feed(piece) {
+                    Ok(fed) => Ok(of_string(fed)),
+                    Err(error) => {
+                        let fed = string_end(end, piece);
+                        Err(FailedFeed {
+                            error,
+                            consumed: fed.consumed,
+                            status: Status::Dcs(fed.status),
+                        })
+                    }
+                }
+            }
         }
     }
 
@@ -355,6 +410,19 @@ impl SixelReceiver {
             Open::ControlString(reader) => reader.has_ended(),
         }
     }
+}
+
+/// Returns how many bytes of a chunk belong to a DCS sequence that goes on from this end.
+///
+/// Out of line: inlined, the end is in memory on every feed.
+#[cold]
+#[inline(never)]
+fn string_end(end: SequenceEnd, piece: &[u8]) -> SixelDcsFeedResult
+    ensures { (bytes : List ℕ) → IsEnd end bytes
+        → (now : SequenceEnd) × Extends now bytes piece.now result }
+{
+    let mut now = end;
+    now.add(piece)
 }
 
 /// Converts the result of feeding a payload.

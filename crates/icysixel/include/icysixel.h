@@ -42,7 +42,7 @@
  *
  * Results. A function that returns uint32_t returns an enum icysixel_code, except for
  * icysixel_version. With ICYSIXEL_OK it has written to each output argument. With an error it
- * leaves them unchanged, except for `wanted`.
+ * leaves them unchanged, except for `wanted` and the result of a feed.
  *
  * Stored image and text. An image is stored by icysixel_finish, icysixel_decode and
  * icysixel_decode_payload. Each error of these calls drops an image that was stored before, and
@@ -292,7 +292,12 @@ void icysixel_begin_payload(icysixel *handle, int32_t p1, int32_t p2);
  * the image. After the end of the image a feed consumes nothing and returns the same status again.
  * The errors are ICYSIXEL_NO_SESSION if no image is open, those of the data so far, and
  * ICYSIXEL_OUT_OF_MEMORY. After an error each feed and finish of the image returns
- * ICYSIXEL_STREAM_FAILED for a payload and ICYSIXEL_DCS_STREAM_FAILED for a DCS sequence. */
+ * ICYSIXEL_STREAM_FAILED for a payload and ICYSIXEL_DCS_STREAM_FAILED for a DCS sequence.
+ *
+ * Errors have no effect on which bytes belong to the image. If an image is open, a feed that fails
+ * writes the number of bytes consumed and the status, too. So the caller goes on to feed until the
+ * status is not ICYSIXEL_MORE, and drops what is consumed. Then it aborts the image. A DCS sequence
+ * with a wrong header, or without an introducer, goes on up to its first terminator. */
 uint32_t icysixel_feed(icysixel *handle, const uint8_t *chunk, size_t length, icysixel_fed *fed);
 
 /* Reads a chunk of the open image as icysixel_feed does, but only up to its first graphics new

@@ -8,14 +8,14 @@ use Rattle.sixel_base.specs.Settings.{Settings}
 use Rattle.icy_sixel.specs.Bands.{band_of}
 use Rattle.icy_sixel.specs.FinalRows.{rows_so_far}
 use Rattle.icy_sixel.specs.Receiver.{OfPayload, OfString, is_open, is_over, count}
-use Rattle.icy_sixel.specs.Receiver.{fault, growths}
+use Rattle.icy_sixel.specs.Receiver.{fault, growths, own_count, own_status}
 use Rattle.icy_sixel.specs.Receiver as receivers
 use Rattle.icysixel.specs.Code.{IsTold, fault_code, status_code, status_byte}
 use Rattle.icysixel.specs.Kept.{AreKept}
 use Rattle.icysixel.specs.declared.state.State.{State}
 use Rattle.icysixel.specs.declared.sessions.Fed.{Fed}
 
--- The open image was fed the chunk. Code 0 reports what was done, any other code is an error.
+-- The open image was fed the chunk. Code 0 reports success, any other code is an error.
 pub record IsFed (before after : State) (piece : List ℕ) (now : Fed) (code : ℕ) : Type 0 where
   -- what stays, and the bytes so far
   pub closed : is_open before.receiver.image.form ≡ false → code ≡ 2
@@ -28,6 +28,15 @@ pub record IsFed (before after : State) (piece : List ℕ) (now : Fed) (code : �
       → after.receiver.image.bytes ≡ before.receiver.image.bytes ++ piece
   -- a feed releases no row
   pub released : code ≡ 0 → after.receiver.image.released ≡ before.receiver.image.released
+  -- which bytes belong to the image, and how it has ended, whatever faults it has
+  pub counted : is_open before.receiver.image.form ≡ true
+      → own_count before.receiver.image.form before.receiver.image.bytes + now.consumed
+      ≡ own_count after.receiver.image.form after.receiver.image.bytes
+  pub within : is_open before.receiver.image.form ≡ true → now.consumed ≤ length piece
+  pub ends : is_open before.receiver.image.form ≡ true → now.status
+      ≡ status_code (own_status after.receiver.image.form after.receiver.image.bytes)
+  pub ends_by : is_open before.receiver.image.form ≡ true → now.byte
+      ≡ status_byte (own_status after.receiver.image.form after.receiver.image.bytes)
   -- what is reported with code 0
   pub accepted : code ≡ 0 → after.receiver.image.is_refused ≡ false
   pub faultless : code ≡ 0 → fault before.receiver.image.start.pixel_limit
@@ -35,7 +44,6 @@ pub record IsFed (before after : State) (piece : List ℕ) (now : Fed) (code : �
   pub consumed : code ≡ 0
       → count before.receiver.image.form before.receiver.image.bytes + now.consumed
       ≡ count after.receiver.image.form after.receiver.image.bytes
-  pub within : code ≡ 0 → now.consumed ≤ length piece
   pub status : code ≡ 0 → now.status
       ≡ status_code (receivers.status after.receiver.image.form after.receiver.image.bytes)
   pub byte : code ≡ 0 → now.byte
@@ -99,3 +107,4 @@ pub record IsBandFed (before after : State) (piece : List ℕ) (now : Fed) (code
   pub is_fed : IsFed before after (band_of piece) fed code
   pub reported : code ≡ 0 → now ≡ band_report (rows_so_far before.receiver.image)
       (rows_so_far after.receiver.image) fed
+  pub failed : code ≢ 0 → now ≡ fed

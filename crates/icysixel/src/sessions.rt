@@ -1,8 +1,8 @@
 //! The calls that create and free a decoder, and begin, feed and abort an image.
 
-ghost use Rattle.std.specs.Prelude.{◌≡◌, ◌≢◌, Some, None, is_some, true, cond};
+ghost use Rattle.std.specs.Prelude.{◌≡◌, ◌≢◌, Some, None, is_some, true, false, cond};
 ghost use Rattle.sixel_base.specs.Decoder.{new_decoder};
-ghost use Rattle.icy_sixel.specs.Receiver.{OfPayload, OfString, begun, idle, no_image};
+ghost use Rattle.icy_sixel.specs.Receiver.{OfPayload, OfString, begun, idle, is_open, no_image};
 ghost use Rattle.icysixel.specs.Changes.{IsOpened};
 ghost use Rattle.icysixel.specs.Code.{settings_of};
 ghost use Rattle.icysixel.specs.Code.{status_code as code_of_status};
@@ -14,8 +14,8 @@ use crate::code::{Code, FeedStatus, code_of, status_byte, status_code};
 use crate::parameters::settings;
 use crate::slot::Slot;
 use crate::state::State;
-use icy_sixel::Received;
 use icy_sixel::receiver::band_len;
+use icy_sixel::{FailedFeed, Received};
 use std::alloc::Global;
 
 /// The result of a feed: `icysixel_fed` of the header.
@@ -107,7 +107,7 @@ pub extern "C" fn icysixel_begin_payload(alloc: Global, slot: &mut Slot, p1: i32
     }
 }
 
-/// Reads a chunk of the open image and writes the result.
+/// Reads a chunk of the open image and writes the result, also with an error.
 #[unsafe(no_mangle)]
 pub extern "C" fn icysixel_feed(slot: &mut Slot, piece: &[u8], fed: &mut Fed) -> u32
     ensures held { is_some slot.new.handle.state ≡ is_some slot.old.handle.state }
@@ -115,7 +115,9 @@ pub extern "C" fn icysixel_feed(slot: &mut Slot, piece: &[u8], fed: &mut Fed) ->
     ensures fed { (before after : State) → slot.old.handle.state ≡ Some before
         → slot.new.handle.state ≡ Some after
         → IsFed before after piece.now fed.new result }
-    ensures told { result ≢ 0 → fed.new ≡ fed.old }
+    ensures empty { slot.old.handle.state ≡ None → fed.new ≡ fed.old }
+    ensures told { (before : State) → slot.old.handle.state ≡ Some before
+        → is_open before.receiver.image.form ≡ false → fed.new ≡ fed.old }
 {
     if !slot.is_held() {
         return Code::NoHandle as u32;
@@ -133,7 +135,9 @@ pub extern "C" fn icysixel_feed_band(slot: &mut Slot, piece: &[u8], fed: &mut Fe
     ensures fed { (before after : State) → slot.old.handle.state ≡ Some before
         → slot.new.handle.state ≡ Some after
         → IsBandFed before after piece.now fed.new result }
-    ensures told { result ≢ 0 → fed.new ≡ fed.old }
+    ensures empty { slot.old.handle.state ≡ None → fed.new ≡ fed.old }
+    ensures told { (before : State) → slot.old.handle.state ≡ Some before
+        → is_open before.receiver.image.form ≡ false → fed.new ≡ fed.old }
 {
     if !slot.is_held() {
         return Code::NoHandle as u32;
@@ -144,7 +148,7 @@ pub extern "C" fn icysixel_feed_band(slot: &mut Slot, piece: &[u8], fed: &mut Fe
 /// Reads a chunk of the image, if one is open, up to its first graphics new line.
 fn feed_band(state: &mut State, piece: &[u8], fed: &mut Fed) -> u32
     ensures fed { IsBandFed state.old state.new piece.now fed.new result }
-    ensures told { result ≢ 0 → fed.new ≡ fed.old }
+    ensures told { is_open state.old.receiver.image.form ≡ false → fed.new ≡ fed.old }
 {
     let before = state.receiver.rows_so_far();
     let code = feed(state, &piece[..band_len(piece)], fed);
@@ -155,10 +159,10 @@ fn feed_band(state: &mut State, piece: &[u8], fed: &mut Fed) -> u32
     code
 }
 
-/// Reads a chunk of the image, if one is open, and writes the result.
+/// Reads a chunk of the image, and writes the result if one is open.
 fn feed(state: &mut State, piece: &[u8], fed: &mut Fed) -> u32
     ensures fed { IsFed state.old state.new piece.now fed.new result }
-    ensures told { result ≢ 0 → fed.new ≡ fed.old }
+    ensures told { is_open state.old.receiver.image.form ≡ false → fed.new ≡ fed.old }
 {
     if piece.len() == 1
         && let Some(received) = state.receiver.try_byte(piece[0])
@@ -175,7 +179,7 @@ fn feed(state: &mut State, piece: &[u8], fed: &mut Fed) -> u32
 #[inline(never)]
 fn feed_chunk(state: &mut State, piece: &[u8], fed: &mut Fed) -> u32
     ensures fed { IsFed state.old state.new piece.now fed.new result }
-    ensures told { result ≢ 0 → fed.new ≡ fed.old }
+    ensures told { is_open state.old.receiver.image.form ≡ false → fed.new ≡ fed.old }
 {
     if !state.receiver.is_receiving() {
         return Code::NoSession as u32;
@@ -185,7 +189,16 @@ fn feed_chunk(state: &mut State, piece: &[u8], fed: &mut Fed) -> u32
             *fed = Fed::of(received);
             Code::Success as u32
         }
-        Err(error) => code_of(&error),
+        Err(
+            FailedFeed {
+                consumed,
+                status,
+                error,
+            },
+        ) => {
+            *fed = Fed::of(Received { consumed, status });
+            code_of(&error)
+        }
     }
 }
 

@@ -110,7 +110,8 @@ finished_faultless limit bytes some finishes faultless =
 pub finishes_faultless : (limit : Limit) (bytes : List ℕ) → end_fault limit bytes ≡ None
     → can_finish limit bytes ≡ true
 finishes_faultless limit bytes =
-    elim (can_finish limit bytes) as (λ t. (if t then None else Some Incomplete) ≡ None → t ≡ true) [
+    elim (can_finish limit bytes) as (λ t. (if t then None else Some Incomplete) ≡ None → t
+        ≡ true) [
       | true ↦ λ none. refl
       | false ↦ λ none. absurd (none-some _ (sym none))
     ]

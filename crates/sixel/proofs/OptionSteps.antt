@@ -1,9 +1,8 @@
 -- What pairs of a name and a value change, one after another.
 use Rattle.std.proofs.Common.{◌≡◌, ◌↔◌, ◌≤◌, ◌<◌, ◌-◌, List, [], ◌∷◌, ℕ, Some, None, refl, sym, ap}
-use Rattle.std.proofs.Common.{◌∙◌}
-use Rattle.std.proofs.Common.{subst, arith, length, get_or, take, drop, string_bytes, String}
-use Rattle.std.proofs.Common.{Bor, IfNone, IfSome, Option, codes, option_map, inl, inr}
-use Rattle.std.proofs.Common.{Result, Ok, Err}
+use Rattle.std.proofs.Common.{◌∙◌, subst, arith, length, get_or, take, drop, string_bytes, String}
+use Rattle.std.proofs.Common.{Bor, IfNone, IfSome, Option, codes, option_map, inl, inr, Result, Ok}
+use Rattle.std.proofs.Common.{Err}
 use Rattle.std.specs.Result.{result_ok}
 use Rattle.std.specs.declared.alloc.Global.{Global}
 use Rattle.std.proofs.lemmas.List.{take_all}

@@ -26,8 +26,7 @@ use Rattle.sixel.specs.declared.draw_options.DrawPalette.{DrawPalette}
 use Rattle.sixel.specs.declared.draw_options.DrawPalette.TheVariants.{Standard, Refined, File}
 use Rattle.sixel.specs.Drawing.{IsDrawOutput}
 use Rattle.sixel.specs.Options.{mapping_of}
-use Rattle.sixel.specs.Form.{line_end, image_line, image_form, pam_header}
-use Rattle.sixel.specs.Form.{pam_form}
+use Rattle.sixel.specs.Form.{line_end, image_line, image_form, pam_header, pam_form}
 use Rattle.sixel.specs.Ending.{Ending, Done, Refused, Unreadable}
 use Rattle.sixel.specs.Sequences.{Broken}
 use Rattle.sixel.specs.Output.{Writes}

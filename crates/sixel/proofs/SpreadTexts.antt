@@ -18,7 +18,8 @@ use Rattle.sixel.specs.Spread.{AreSpread, IsSpreadText, is_flat, spread_amount, 
 pub IsSpreadText-refined : {S : Type 0} (bytes : S → List ℕ) (result : Result S SixelError)
     (image : Image) (max_colors : ℕ) (mapping : Mapping)
     → ((palette : RefinedPalette) → IsRefined image.pixels max_colors palette
-    → palette.colors.items ≡ spread_entries image.pixels (spread_amount mapping.dither max_colors) palette)
+    → palette.colors.items ≡ spread_entries image.pixels
+        (spread_amount mapping.dither max_colors) palette)
     → IfOk result (λ text. IsRefinedText image max_colors mapping Compact (bytes text))
     → IfOk result (λ text. IsSpreadText image max_colors mapping (bytes text))
 IsSpreadText-refined bytes (Ok text) image max_colors mapping same is =

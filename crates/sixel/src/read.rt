@@ -3,9 +3,8 @@
 //! The clauses on bytes hold where the reader reports the bytes that it has left. An error of the
 //! reader is the fault `Input`, and is not retried.
 
-ghost use Rattle.std.specs.Prelude.{◌≡◌, ◌<◌, ◌≤◌, ◌⊎◌, ◌++◌, length, take};
-ghost use Rattle.std.specs.Prelude.{◌+◌, ◌*◌, max, vec_capacity, vec_len};
-ghost use Rattle.std.specs.Prelude.{OnOk, OnErr, IfOk, IfErr, IfSome};
+ghost use Rattle.std.specs.Prelude.{◌≡◌, ◌<◌, ◌≤◌, ◌⊎◌, ◌++◌, length, take, ◌+◌, ◌*◌, max};
+ghost use Rattle.std.specs.Prelude.{vec_capacity, vec_len, OnOk, OnErr, IfOk, IfErr, IfSome};
 ghost use Rattle.std.specs.Io.KnownBytes.{Consumes, IsAtEnd, Keeps};
 ghost use Rattle.sixel_base.specs.declared.error.SixelError.TheVariants.{OutOfMemory};
 ghost use Rattle.sixel.specs.declared.fault.Fault.TheVariants.{Sixel, Input};

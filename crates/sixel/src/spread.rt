@@ -8,10 +8,10 @@ ghost use Rattle.sixel_base.specs.Size.{verdict};
 ghost use Rattle.sixel_encoder.specs.Encoding.{image_fault};
 ghost use Rattle.sixel_encoder.specs.IndexedDrawing.{palette_fault};
 ghost use Rattle.sixel_palette.specs.Palette.{AreIndices};
-ghost use Rattle.sixel_palette.specs.Refined.{percentage};
 ghost use Rattle.sixel.specs.Spread.{AreSpread, IsSpreadText, is_alike, is_flat, spread_amount};
 
 use icy_sixel::encoder::{Dither, Mapping};
+use icy_sixel::palette::register_color::percentage;
 use icy_sixel::palette::{refine_palette, spread_palette};
 use icy_sixel::{Result, SixelImage, TextForm, validate_encode_dimensions};
 use sixel_base::size::validate_buffer;
@@ -105,11 +105,4 @@ fn is_alike(a: [u8; 3], b: [u8; 3]) -> bool
     percentage(a[0]) == percentage(b[0])
         && percentage(a[1]) == percentage(b[1])
         && percentage(a[2]) == percentage(b[2])
-}
-
-/// A channel as a percentage, rounded.
-fn percentage(channel: u8) -> u32
-    ensures { result ≡ percentage channel }
-{
-    (u32::from(channel) * 100 + 127) / 255
 }

@@ -46,7 +46,7 @@ pub none_by : (o : Option ℕ) (rest : List ℕ) → ended_by o rest ≡ None �
 none_by None rest is = refl
 none_by (Some t) rest is = absurd cc
 
-some_by : (o : Option ℕ) (rest : List ℕ) (status : SixelDcsFeedStatus)
+pub some_by : (o : Option ℕ) (rest : List ℕ) (status : SixelDcsFeedStatus)
     → ended_by o rest ≡ Some status → (t : ℕ) × (o ≡ Some t) × (end_status t rest ≡ status)
 some_by None rest status is = absurd cc
 some_by (Some t) rest status is = (t, refl, cc)

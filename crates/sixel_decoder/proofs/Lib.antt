@@ -23,6 +23,7 @@ pub mod FinalRows
 pub mod Sessions
 pub mod DcsFinishes
 pub mod Feeds
+pub mod ImageEnds
 pub mod Lanes
 pub mod SixelRuns
 pub mod PaintedRuns

@@ -1,5 +1,6 @@
 pub mod DcsCalls
 pub mod FinalRows
+pub mod ImageEnds
 pub mod OneShotCalls
 pub mod Paints
 pub mod PayloadCalls

@@ -87,7 +87,7 @@ fn end_after_escape(rest: &[u8]) -> SixelDcsFeedResult
 }
 
 /// Returns the end of a sequence that had this status, with these bytes after it.
-fn end_later(status: SixelDcsFeedStatus, rest: &[u8]) -> SixelDcsFeedResult
+pub fn end_later(status: SixelDcsFeedStatus, rest: &[u8]) -> SixelDcsFeedResult
     ensures waiting { status ≡ NeedMoreData → (result.consumed + 1 ≡ escape_count rest.now)
         × (result.status ≡ escape_status rest.now) }
     ensures over { (status ≡ NeedMoreData → ⊥)

@@ -1,10 +1,11 @@
 //! The parser of a DCS sequence: introducer, header, payload and end.
 
 ghost use Rattle.std.specs.Prelude.{◌≡◌, ◌≤◌, ◌++◌, ◌+◌, ◌∷◌, [], true, false, List, ℕ, length};
-ghost use Rattle.std.specs.Prelude.{◌||◌, None, Option, IfOk, OnOk, MatchResult};
-ghost use Rattle.sixel_base.specs.Dcs.{has_come};
+ghost use Rattle.std.specs.Prelude.{◌||◌, None, Option, IfOk, OnErr, OnOk, MatchResult};
+ghost use Rattle.sixel_base.specs.Dcs.{ended_with, has_come};
 ghost use Rattle.sixel_base.specs.declared.state.DecoderState.{DecoderState};
 ghost use Rattle.sixel_base.specs.Fault.{IsFault, DcsStreamFailed};
+ghost use Rattle.sixel_decoder.specs.ImageEnds.{IsEnd, inside};
 ghost use Rattle.sixel_decoder.specs.declared.dcs_parser.DcsState.TheVariants.{Start, Payload};
 ghost use Rattle.sixel_decoder.specs.declared.dcs_parser.DcsState.TheVariants.{Failed};
 ghost use Rattle.sixel_decoder.specs.inside.DcsParser.{HasFollowed, IsInPayload, is_head};
@@ -14,6 +15,7 @@ ghost use Rattle.sixel_decoder.specs.inside.DcsReader.{released_of};
 use crate::bytes::tail;
 use crate::dcs_end::end_now;
 use crate::header::Header;
+use crate::image_end::SequenceEnd;
 use crate::payload_reader::PayloadReader;
 use sixel_base::state::DecoderState;
 use sixel_base::status::{SixelDcsFeedResult, SixelDcsFeedStatus, SixelFeedStatus};
@@ -42,17 +44,6 @@ impl<C: Canvas + Drop> DcsState<C> {
             DcsState::Payload(_) | DcsState::Failed => false,
         }
     }
-
-    /// Drops what was read.
-    ///
-    /// Out of line: inlined, LLVM clears the moved value on every feed.
-    #[cold]
-    #[inline(never)]
-    pub fn fail(&mut self)
-        ensures { self.new ≡ Failed }
-    {
-        *self = DcsState::Failed;
-    }
 }
 
 /// How far a DCS sequence was read, how it ended, and what its payload begins from.
@@ -79,6 +70,27 @@ impl<C: Canvas + Drop> DcsParser<C> {
         }
     }
 
+    /// Drops what was read after an error in a chunk, before which a byte was fed or not.
+    ///
+    /// Out of line: inlined, LLVM clears the moved value on every feed.
+    #[cold]
+    #[inline(never)]
+    pub fn fail(&mut self, is_begun: bool, chunk: &[u8])
+        ensures state { self.new.state ≡ Failed }
+        ensures decoder { self.new.decoder ≡ self.old.decoder }
+        ensures ended { (bytes : List ℕ)
+            → IsEnd (record { is_begun = is_begun; ended = self.old.ended }) bytes
+            → self.new.ended ≡ ended_with (inside (bytes ++ chunk.now)) }
+    {
+        let mut end = SequenceEnd {
+            is_begun,
+            ended: self.ended,
+        };
+        end.add(chunk);
+        self.ended = end.ended;
+        self.state = DcsState::Failed;
+    }
+
     /// Whether the end of the sequence has come, after which no byte is its own.
     pub fn has_ended(&self) -> bool
         ensures { result ≡ has_come self.now.ended }
@@ -100,6 +112,7 @@ impl<C: Canvas + Drop> DcsParser<C> {
     #[inline(always)]
     pub fn feed(&mut self, chunk: &[u8]) -> Result<SixelDcsFeedResult>
         ensures decoder { self.new.decoder ≡ self.old.decoder }
+        ensures ended { OnErr result (self.new.ended ≡ self.old.ended) }
         ensures failed { is_failed self.old.state ≡ true
             → MatchResult result (λ _. ⊥) (λ error. IsFault error DcsStreamFailed) }
         ensures follows { (before : List ℕ) → is_failed self.old.state ≡ false
@@ -120,6 +133,7 @@ impl<C: Canvas + Drop> DcsParser<C> {
     /// Reads a chunk that begins before the payload.
     fn read_beginning(&mut self, chunk: &[u8]) -> Result<SixelDcsFeedResult>
         ensures decoder { self.new.decoder ≡ self.old.decoder }
+        ensures ended { OnErr result (self.new.ended ≡ self.old.ended) }
         ensures follows { (before : List ℕ) → is_head self.old.state ≡ true
             → HasFollowed self.old.state self.old.decoder self.old.ended before
             → Follows result self.new.state self.old.decoder self.new.ended before chunk.now }
@@ -214,6 +228,7 @@ fn read_payload<C: Canvas + Drop>(
     chunk: &[u8],
 ) -> Result<SixelDcsFeedResult>
     ensures within { IfOk result (λ fed. fed.consumed ≤ length chunk.now + 2) }
+    ensures ended { OnErr result (ended.new ≡ ended.old) }
     ensures follows { (decoder : DecoderState) (before : List ℕ)
         → IsInPayload reader.old decoder ended.old before
         → Follows {C = C} result (Payload reader.new) decoder ended.new before chunk.now }

@@ -5,6 +5,7 @@
 ghost use Rattle.std.specs.Prelude.{◌≡◌, ◌∷◌, [], true, false, min, IsTrue, IfOk};
 ghost use Rattle.sixel_base.specs.Dcs.{dcs_in_payload, dcs_status, has_ended};
 ghost use Rattle.sixel_base.specs.OneShot.{found};
+ghost use Rattle.sixel_decoder.specs.ImageEnds.{IsEnd};
 ghost use Rattle.sixel_decoder.specs.FinalRows.{found_pixel};
 ghost use Rattle.sixel_decoder.specs.DcsCalls.{begun, byte_read, IsFed, IsFinished, IsSizeSoFar};
 ghost use Rattle.sixel_decoder.specs.DcsCalls.{IsDrawnHeight, IsWriteCount, IsPaintCount};
@@ -16,6 +17,7 @@ mod final_rows;
 
 use crate::dcs_parser::{DcsParser, DcsState};
 use crate::decoded_payload::DecodedPayload;
+use crate::image_end::SequenceEnd;
 use crate::log::Log;
 use sixel_base::state::DecoderState;
 use sixel_base::status::SixelDcsFeedResult;
@@ -60,11 +62,12 @@ impl<C: Canvas + Drop> DcsReader<C> {
     pub fn feed(&mut self, chunk: &[u8]) -> Result<SixelDcsFeedResult>
         ensures { IsFed self.old self.new chunk.now result }
     {
+        let is_begun = self.end().is_begun;
         self.log.extend(chunk);
         match self.parser.feed(chunk) {
             Ok(fed) => Ok(fed),
             Err(error) => {
-                self.parser.state.fail();
+                self.parser.fail(is_begun, chunk);
                 Err(error)
             }
         }
@@ -87,6 +90,17 @@ impl<C: Canvas + Drop> DcsReader<C> {
         }
         self.log.push(byte);
         true
+    }
+
+    /// Returns whether the sequence has ended, also after an error.
+    #[inline(always)]
+    pub fn end(&self) -> SequenceEnd
+        ensures { IsEnd result self.now.bytes }
+    {
+        SequenceEnd {
+            is_begun: !matches!(self.parser.state, DcsState::Start),
+            ended: self.parser.ended,
+        }
     }
 
     /// Whether the payload has begun and no feed has failed.

@@ -12,6 +12,7 @@ mod decoded_payload;
 mod drawn_rows;
 mod front_sixels;
 mod header;
+mod image_end;
 mod lenience;
 mod log;
 mod one_shot;
@@ -22,5 +23,6 @@ mod raster;
 
 pub use dcs_reader::DcsReader;
 pub use decoded_payload::DecodedPayload;
+pub use image_end::{SequenceEnd, payload_end};
 pub use one_shot::{decode_found, decode_payload};
 pub use payload_reader::PayloadReader;

@@ -3,7 +3,7 @@
 //! The contracts of its calls are the records of `PayloadCalls`.
 
 ghost use Rattle.std.specs.Prelude.{◌≡◌, ◌∷◌, [], true, false, min, IsTrue, IfOk};
-ghost use Rattle.sixel_base.specs.Bytes.{is_terminated};
+ghost use Rattle.sixel_base.specs.Bytes.{first_terminator, is_terminated};
 ghost use Rattle.sixel_base.specs.Decoder.{origin_of};
 ghost use Rattle.sixel_base.specs.OneShot.{Payload};
 ghost use Rattle.sixel_decoder.specs.FinalRows.{found_pixel};
@@ -19,6 +19,7 @@ ghost use Rattle.sixel_decoder.specs.declared.payload_reader.PayloadState.TheVar
 mod final_rows;
 
 use crate::decoded_payload::DecodedPayload;
+use crate::image_end::payload_end;
 use crate::log::Log;
 use crate::payload_parser::PayloadParser;
 use sixel_base::settings::DcsSettings;
@@ -90,13 +91,14 @@ impl<C: Canvas + Drop> PayloadReader<C> {
 
     /// Reads a chunk up to the first terminator of all chunks.
     ///
-    /// After an error every feed fails.
+    /// After an error every feed fails, and only counts.
     #[inline(always)]
     pub fn feed(&mut self, chunk: &[u8]) -> Result<SixelFeedResult>
         ensures { IsFed self.old self.new chunk.now result }
     {
         self.log.extend(chunk);
         let PayloadState::Reading(parser) = &mut self.state else {
+            self.terminator = payload_end(self.terminator, chunk).status.terminator();
             return Err(SixelError::stream_failed());
         };
         match self.terminator {
@@ -110,6 +112,7 @@ impl<C: Canvas + Drop> PayloadReader<C> {
                     Ok(fed)
                 }
                 Err(error) => {
+                    self.terminator = payload_end(None, chunk).status.terminator();
                     self.state.fail();
                     Err(error)
                 }
@@ -156,6 +159,13 @@ impl<C: Canvas + Drop> PayloadReader<C> {
             PayloadState::Reading(parser) => parser.painter.drawn_height(),
             PayloadState::Failed => 0,
         }
+    }
+
+    /// Returns the terminator that was fed, also after an error.
+    pub fn terminator(&self) -> Option<u8>
+        ensures { result ≡ first_terminator self.now.bytes }
+    {
+        self.terminator
     }
 
     /// Whether a terminator was fed, and no feed has failed.

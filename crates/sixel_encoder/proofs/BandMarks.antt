@@ -1,14 +1,14 @@
 -- The marks of a compact text draw the drawing, band by band.
 use Rattle.std.specs.Int.{bit_at}
 use Rattle.std.specs.Prelude.{None, Some, slice_index, ◌/◌}
-use Rattle.std.proofs.Common.{List, ap, arith, inl, inr, max, refl, suc, sym, zero, ℕ, ◌*◌, ◌+◌, ◌-◌}
-use Rattle.std.proofs.Common.{◌<◌, ◌∙◌, ◌≡◌}
+use Rattle.std.proofs.Common.{List, ap, arith, inl, inr, max, refl, suc, sym, zero, ℕ, ◌*◌, ◌+◌}
+use Rattle.std.proofs.Common.{◌-◌, ◌<◌, ◌∙◌, ◌≡◌}
 use Rattle.std.proofs.lemmas.Bool.{cases_lt}
 use Rattle.sixel_encoder.specs.declared.segments.Segment.{Segment}
 use Rattle.sixel_encoder.specs.Compact.{Drawn, compact_band, compact_marks, drawn_by, nothing_of}
 use Rattle.sixel_encoder.specs.Compact.{register_after, segments_marks, to_band, transparent_row}
 use Rattle.sixel_encoder.specs.Marks.{Draws, Mark, Pen, first_pen, moved_by}
-use Rattle.sixel_encoder.specs.Numbers.{number_of, numbered_definitions}
+use Rattle.sixel_encoder.specs.RegisterOrder.{number_of, numbered_definitions}
 use Rattle.sixel_encoder.specs.Segments.{drawn_segments}
 use Rattle.sixel_encoder.specs.Text.{Drawing, bands, entry_at}
 use Rattle.sixel_encoder.specs.Trip.{IsWritable, bands_up_to, is_used}

@@ -5,7 +5,7 @@ use Rattle.std.proofs.Common.{Bool, arith, cond, false, length, refl, true, â—Œâ
 use Rattle.std.proofs.lemmas.Bool.Decides.{nat_tests}
 use Rattle.sixel_encoder.specs.Compact.{compact_marks, compact_text, marked_text}
 use Rattle.sixel_encoder.specs.Marks.{IsDrawnText}
-use Rattle.sixel_encoder.specs.Numbers.{numbered_definitions}
+use Rattle.sixel_encoder.specs.RegisterOrder.{numbered_definitions}
 use Rattle.sixel_encoder.specs.Text.{Drawing, text_of}
 use Rattle.sixel_encoder.specs.Trip.{IsWritable}
 use Rattle.sixel_encoder.proofs.PlainText.{IsDrawnText-plain}

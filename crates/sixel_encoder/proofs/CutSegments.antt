@@ -1,9 +1,7 @@
 -- The segments that a band is cut into, pixel by pixel: those of one entry are a gap apart.
-use Rattle.std.specs.Prelude.{Some, nat_lt}
-use Rattle.std.specs.Prelude.{◌&&◌, ◌==◌}
-use Rattle.std.proofs.Common.{Bool, List, [], ap, arith, cond, false, inl, inr, refl}
-use Rattle.std.proofs.Common.{sym, true, ℕ, ◌+◌, ◌<◌, ◌∙◌, ◌∷◌}
-use Rattle.std.proofs.Common.{◌≡◌, ◌≤◌}
+use Rattle.std.specs.Prelude.{Some, nat_lt, ◌&&◌, ◌==◌}
+use Rattle.std.proofs.Common.{Bool, List, [], ap, arith, cond, false, inl, inr, refl, sym, true, ℕ}
+use Rattle.std.proofs.Common.{◌+◌, ◌<◌, ◌∙◌, ◌∷◌, ◌≡◌, ◌≤◌}
 use Rattle.std.proofs.lemmas.Bool.{cases_eq}
 use Rattle.std.proofs.lemmas.Bool.Decides.{nat_tests}
 use Rattle.sixel_encoder.specs.declared.segments.Segment.{Segment}

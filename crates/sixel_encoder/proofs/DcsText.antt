@@ -7,8 +7,7 @@ use Rattle.std.proofs.Common.{◌∷◌, ◌≡◌, ◌≤◌}
 use Rattle.std.proofs.lemmas.Bool.Decides.{nat_tests}
 use Rattle.std.proofs.lemmas.Fmt.{decimal_digit}
 use Rattle.std.proofs.lemmas.Grind.{common_steps}
-use Rattle.sixel_base.specs.Bytes.{carrying, first_terminator, front, is_ignored}
-use Rattle.sixel_base.specs.Bytes.{is_parameter}
+use Rattle.sixel_base.specs.Bytes.{carrying, first_terminator, front, is_ignored, is_parameter}
 use Rattle.sixel_base.specs.Dcs.{Entered, Reading, after_terminator, end_count, end_status}
 use Rattle.sixel_base.specs.Dcs.{payload_count, payload_count_by, payload_status, payload_status_by}
 use Rattle.sixel_base.specs.Dcs.{stage, stage_after, stage_by, stage_count, stage_fault}

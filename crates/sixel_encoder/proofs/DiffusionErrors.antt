@@ -7,10 +7,9 @@ use Rattle.std.specs.Prelude.{slice_index, slice_index_or}
 use Rattle.std.proofs.lemmas.Bool.{cases_lt}
 use Rattle.std.proofs.lemmas.List.{get_or-replicate, get_or-set_other, get_or-set_same}
 use Rattle.std.proofs.lemmas.List.{length-replicate, length-set}
-use Rattle.sixel_encoder.specs.Dithering.{Mapped, HasTarget}
-use Rattle.sixel_encoder.specs.Dithering.{column_of_step, error_back}
-use Rattle.sixel_encoder.specs.Dithering.{errors_of, no_error, opaque_error, serpentine}
-use Rattle.sixel_encoder.specs.Dithering.{target_of_visit, visit_error}
+use Rattle.sixel_encoder.specs.Dithering.{Mapped, HasTarget, column_of_step, error_back, errors_of}
+use Rattle.sixel_encoder.specs.Dithering.{no_error, opaque_error, serpentine, target_of_visit}
+use Rattle.sixel_encoder.specs.Dithering.{visit_error}
 use Rattle.sixel_encoder.specs.inside.Diffusion.{AreVisited, IsLine, IsVisit}
 use Rattle.sixel_encoder.proofs.DitheredIndices.{HasTarget-same}
 use Rattle.sixel_encoder.proofs.Serpentine.{column-apart, column-lt, column-next_row}

@@ -1,7 +1,6 @@
 -- One visit of error diffusion: its target, its error, and what its pixel receives.
-use Rattle.std.proofs.Common.{◌≡◌, ℕ, suc, ◌+◌, ◌-◌, ◌*◌, ◌<◌, List, [], ◌∷◌}
-use Rattle.std.proofs.Common.{true, false, cond, length, set, refl, ap, sym, ◌∙◌, arith}
-use Rattle.std.proofs.Common.{inl, inr, nat_le}
+use Rattle.std.proofs.Common.{◌≡◌, ℕ, suc, ◌+◌, ◌-◌, ◌*◌, ◌<◌, List, [], ◌∷◌, true, false, cond}
+use Rattle.std.proofs.Common.{length, set, refl, ap, sym, ◌∙◌, arith, inl, inr, nat_le}
 use Rattle.std.specs.Prelude.{slice_index, slice_index_or, ◌%◌, ◌==◌}
 use Rattle.std.proofs.lemmas.Bool.{cases_eq, cases_lt}
 use Rattle.std.proofs.lemmas.Bool.Decides.{nat_tests}

@@ -1,7 +1,6 @@
 -- Palette indices that are stored one after the other, and those of whole rows.
-use Rattle.std.proofs.Common.{◌≡◌, ℕ, ◌+◌, ◌*◌, ◌<◌, ◌≤◌, List, length, replicate, set, sym}
-use Rattle.std.proofs.Common.{subst, ap, refl}
-use Rattle.std.proofs.Common.{◌∙◌, arith, inl, inr}
+use Rattle.std.proofs.Common.{◌≡◌, ℕ, ◌+◌, ◌*◌, ◌<◌, ◌≤◌, List, length, replicate, set, sym, subst}
+use Rattle.std.proofs.Common.{ap, refl, ◌∙◌, arith, inl, inr}
 use Rattle.std.specs.Prelude.{◌/◌, ◌%◌, None, slice_index}
 use Rattle.std.proofs.Math.Nat.{div-mul-le_self, mul_comm}
 use Rattle.std.proofs.lemmas.Bool.{cases_eq, cases_lt}

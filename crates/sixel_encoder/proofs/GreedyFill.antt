@@ -2,9 +2,8 @@
 use Rattle.std.specs.Int.{bit_at}
 use Rattle.std.specs.Int.Bits.{bit_and, bit_or}
 use Rattle.std.specs.Prelude.{slice_index, ◌==◌}
-use Rattle.std.proofs.Common.{Bool, List, [], ap, arith, cond, false, length, refl}
-use Rattle.std.proofs.Common.{replicate, suc, sym, true, zero, ℕ, ◌+◌, ◌<◌, ◌∙◌, ◌∷◌, ◌++◌}
-use Rattle.std.proofs.Common.{◌≡◌, ◌≤◌, length-append}
+use Rattle.std.proofs.Common.{Bool, List, [], ap, arith, cond, false, length, refl, replicate, suc}
+use Rattle.std.proofs.Common.{sym, true, zero, ℕ, ◌+◌, ◌<◌, ◌∙◌, ◌∷◌, ◌++◌, ◌≡◌, ◌≤◌, length-append}
 use Rattle.std.proofs.lemmas.Bool.Decides.{nat_tests}
 use Rattle.std.proofs.lemmas.List.{get_or-append-add, get_or-replicate, get_or_append_left}
 use Rattle.std.proofs.lemmas.List.{length-replicate}

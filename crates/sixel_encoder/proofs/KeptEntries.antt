@@ -10,11 +10,9 @@ use Rattle.sixel_palette.proofs.PaletteLaw.{index_same}
 use Rattle.sixel_palette.proofs.PaletteNearest.{nearest-le, nearest-reached}
 use Rattle.sixel_encoder.specs.declared.indices.mapped.Kept.{Kept}
 use Rattle.sixel_encoder.specs.Dithering.{IsIndex, Mapped, column_of_step, entry_above}
-use Rattle.sixel_encoder.specs.Dithering.{entry_before}
-use Rattle.sixel_encoder.specs.Dithering.{entry_distance, entry_of, nearer_entry, neighbor_of}
-use Rattle.sixel_encoder.specs.Dithering.{serpentine}
-use Rattle.sixel_encoder.specs.inside.Mapped.{AreEntries, IsInside, IsKept, kept_value}
-use Rattle.sixel_encoder.specs.inside.Mapped.{no_distance}
+use Rattle.sixel_encoder.specs.Dithering.{entry_before, entry_distance, entry_of, nearer_entry}
+use Rattle.sixel_encoder.specs.Dithering.{neighbor_of, serpentine}
+use Rattle.sixel_encoder.specs.inside.Mapped.{AreEntries, IsInside, IsKept, kept_value, no_distance}
 use Rattle.sixel_encoder.proofs.Serpentine.{column-lt, serpentine-lt, serpentine-serpentine}
 use Rattle.sixel_encoder.proofs.Serpentine.{serpentine-step}
 

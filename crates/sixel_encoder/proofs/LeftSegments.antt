@@ -63,7 +63,8 @@ pub record IsSegment (drawing : Drawing) (segment : Segment) : Type 0 where
   pub wide : segment.end ≤ drawing.width
 
 -- a segment that passes the test is one
-pub segment-is : (drawing : Drawing) (s : Segment) → is_segment drawing s ≡ true → IsSegment drawing s
+pub segment-is : (drawing : Drawing) (s : Segment) → is_segment drawing s ≡ true
+    → IsSegment drawing s
 segment-is drawing s h = record {
   known = grind (arith, nat_tests);
   some = grind (arith, nat_tests);

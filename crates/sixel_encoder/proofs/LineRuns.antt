@@ -1,7 +1,6 @@
 -- Some columns of a line: one pixel, sixteen of one entry at once, and one part after another.
 use Rattle.std.proofs.Common.{◌≡◌, ◌≢◌, ℕ, ◌+◌, ◌-◌, ◌*◌, ◌%◌, ◌<◌, ◌≤◌, Bool, true, false, List}
-use Rattle.std.proofs.Common.{length, replicate}
-use Rattle.std.proofs.Common.{get_or, set, ap, sym, ◌∙◌, inl, inr, arith}
+use Rattle.std.proofs.Common.{length, replicate, get_or, set, ap, sym, ◌∙◌, inl, inr, arith}
 use Rattle.std.proofs.lemmas.Bool.{cases_eq, cases_lt}
 use Rattle.std.proofs.lemmas.Bool.Decides.{nat_tests}
 use Rattle.std.proofs.lemmas.Nat.{same_from_place}

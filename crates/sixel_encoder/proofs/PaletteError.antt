@@ -1,14 +1,12 @@
 -- The error of a palette: sums over the opaque pixels, and what follows where it is none.
-use Rattle.std.proofs.Common.{◌≡◌, ℕ, zero, suc, ◌+◌, ◌*◌, ◌<◌, ◌≤◌, List, [], true, false}
-use Rattle.std.proofs.Common.{cond, length, nat_le, nat_lt, refl, ap, sym, subst, ◌∙◌, arith, inl}
-use Rattle.std.proofs.Common.{inr}
+use Rattle.std.proofs.Common.{◌≡◌, ℕ, zero, suc, ◌+◌, ◌*◌, ◌<◌, ◌≤◌, List, [], true, false, cond}
+use Rattle.std.proofs.Common.{length, nat_le, nat_lt, refl, ap, sym, subst, ◌∙◌, arith, inl, inr}
 use Rattle.std.specs.Prelude.{◌/◌, ◌==◌, ◌≢◌, ◌⊎◌, max, Contains, All, None, Option, Some}
 use Rattle.std.specs.Prelude.{slice_index, slice_index_or}
 use Rattle.std.proofs.lemmas.Bool.{cases_eq, cases_lt}
 use Rattle.std.proofs.lemmas.Bool.Decides.{nat_tests}
 use Rattle.std.proofs.lemmas.List.{get_or_default}
-use Rattle.sixel_palette.specs.Palette.{IsOpaque, color_at, distance, nearest}
-use Rattle.sixel_palette.specs.Palette.{no_entry}
+use Rattle.sixel_palette.specs.Palette.{IsOpaque, color_at, distance, nearest, no_entry}
 use Rattle.sixel_palette.specs.Refined.{opaque_number, opaque_pixels, sum_to, summed_error}
 use Rattle.sixel_palette.proofs.PaletteColors.{Contains-nearest, IsColor, distance-lt}
 use Rattle.sixel_palette.proofs.PaletteDistance.{distance_self}

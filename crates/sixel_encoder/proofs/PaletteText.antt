@@ -4,8 +4,7 @@ use Rattle.std.proofs.Common.{◌≡◌, ℕ, List, length, refl, ap, sym, ◌�
 use Rattle.std.specs.Prelude.{Option, Some, None, Result, Ok, Err, IfOk, OnOk}
 use Rattle.std.specs.Option.{option_or}
 use Rattle.std.proofs.Math.Nat.{mul_comm}
-use Rattle.sixel_base.specs.CallFault.{CallFault, FailsBy, color_count_fault}
-use Rattle.sixel_base.specs.CallFault.{size_call_fault}
+use Rattle.sixel_base.specs.CallFault.{CallFault, FailsBy, color_count_fault, size_call_fault}
 use Rattle.sixel_base.specs.Decoder.{new_decoder}
 use Rattle.sixel_base.specs.Payload.{Image}
 use Rattle.sixel_base.specs.declared.error.SixelError.{SixelError}

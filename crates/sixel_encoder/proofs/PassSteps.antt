@@ -1,10 +1,8 @@
 -- One pixel more of a band, and one segment more of a pass.
-use Rattle.std.specs.Prelude.{None, Option, Some, slice_index_or, ◌/◌}
-use Rattle.std.specs.Prelude.{◌%◌}
-use Rattle.std.proofs.Common.{Bool, List, [], ap, append_assoc, arith, cond, false}
-use Rattle.std.proofs.Common.{length, refl, replicate, suc, sym, true, zero, ℕ, ◌*◌}
-use Rattle.std.proofs.Common.{◌++◌, ◌+◌, ◌<◌}
-use Rattle.std.proofs.Common.{◌-◌, ◌∙◌, ◌∷◌, ◌≡◌}
+use Rattle.std.specs.Prelude.{None, Option, Some, slice_index_or, ◌/◌, ◌%◌}
+use Rattle.std.proofs.Common.{Bool, List, [], ap, append_assoc, arith, cond, false, length, refl}
+use Rattle.std.proofs.Common.{replicate, suc, sym, true, zero, ℕ, ◌*◌, ◌++◌, ◌+◌, ◌<◌, ◌-◌, ◌∙◌}
+use Rattle.std.proofs.Common.{◌∷◌, ◌≡◌}
 use Rattle.std.proofs.lemmas.Bool.Decides.{nat_tests}
 use Rattle.std.proofs.lemmas.List.{append-nil}
 use Rattle.sixel_encoder.specs.declared.segments.Segment.{Segment}

@@ -1,8 +1,7 @@
 -- Sixels that change bound the bytes of a band of the plain text from below.
-use Rattle.std.proofs.Common.{◌≡◌, ◌≢◌, ℕ, zero, suc, ◌+◌, ◌-◌, ◌<◌, ◌≤◌, Bool}
-use Rattle.std.proofs.Common.{List, [], ◌++◌, length, length-append, ap, arith}
-use Rattle.std.proofs.Common.{cond, inl, inr, refl}
-use Rattle.std.proofs.Common.{replicate, ◌∙◌}
+use Rattle.std.proofs.Common.{◌≡◌, ◌≢◌, ℕ, zero, suc, ◌+◌, ◌-◌, ◌<◌, ◌≤◌, Bool, List, [], ◌++◌}
+use Rattle.std.proofs.Common.{length, length-append, ap, arith, cond, inl, inr, refl, replicate}
+use Rattle.std.proofs.Common.{◌∙◌}
 use Rattle.std.specs.Prelude.{codes, decimal, if◌then◌else◌, slice_index, ◌==◌, ◌^◌}
 use Rattle.std.proofs.lemmas.Bool.{cases_eq}
 use Rattle.std.proofs.lemmas.Bool.Decides.{nat_tests}

@@ -15,8 +15,7 @@ use Rattle.sixel_encoder.specs.Marks.{IsDrawnText}
 use Rattle.sixel_encoder.specs.Text.{Drawing, bands_text, palette_text, parameters_text}
 use Rattle.sixel_encoder.specs.Text.{raster_text, text_of}
 use Rattle.sixel_encoder.specs.Trip.{CanRead, CanShow, IsOneString, IsReadAs, IsWritable}
-use Rattle.sixel_encoder.specs.Trip.{drawing_settings}
-use Rattle.sixel_encoder.specs.Trip.{payload_text, trip}
+use Rattle.sixel_encoder.specs.Trip.{drawing_settings, payload_text, trip}
 use Rattle.sixel_encoder.proofs.DcsText.{IsOneString-drawn, IsReadAs-drawn, found-sequence}
 use Rattle.sixel_encoder.proofs.DcsText.{stage-sequence}
 use Rattle.sixel_encoder.proofs.PlainMarks.{Draws-plain}

@@ -7,9 +7,8 @@ use Rattle.std.proofs.lemmas.Bool.{cases_lt}
 use Rattle.sixel_base.specs.CallFault.{CallFault, FailsBy, size_call_fault}
 use Rattle.sixel_base.specs.Payload.{Image}
 use Rattle.sixel_base.specs.declared.error.SixelError.{SixelError}
-use Rattle.sixel_palette.specs.Palette.{AreIndices, IsNearest, IsShown, color_at, nearest}
-use Rattle.sixel_palette.specs.Refined.{IsRefined, base_entries, cut_entries, opaque_number}
-use Rattle.sixel_palette.specs.Refined.{opaque_bins, opaque_pixels, sum_to}
+use Rattle.sixel_palette.specs.Palette.{AreIndices, IsNearest, IsShown, nearest}
+use Rattle.sixel_palette.specs.Refined.{IsRefined, base_entries, cut_entries, opaque_bins}
 use Rattle.sixel_palette.specs.GainCut.{bin_step}
 use Rattle.sixel_palette.specs.declared.palette.refined.RefinedPalette.{RefinedPalette}
 use Rattle.sixel_palette.proofs.PaletteOne.{refined_same}

@@ -2,8 +2,7 @@
 -- without a fault.
 use Rattle.std.specs.Prelude.{None, Option, Some, slice_index_or}
 use Rattle.std.proofs.Common.{Bool, List, [], ap, arith, inl, inr, length, refl, sym, ℕ, ◌*◌, ◌++◌}
-use Rattle.std.proofs.Common.{false, true}
-use Rattle.std.proofs.Common.{◌+◌, ◌<◌, ◌∙◌, ◌∷◌, ◌≡◌, ◌≤◌}
+use Rattle.std.proofs.Common.{false, true, ◌+◌, ◌<◌, ◌∙◌, ◌∷◌, ◌≡◌, ◌≤◌}
 use Rattle.std.proofs.lemmas.Bool.{cases_lt}
 use Rattle.std.proofs.lemmas.List.{get_or_past}
 use Rattle.std.proofs.lemmas.List.FromFn.{get_or-map-range_with_len, length-map-range_with_len}
@@ -16,8 +15,7 @@ use Rattle.sixel_base.specs.Lenient.{fault}
 use Rattle.sixel_base.proofs.ToleratedTokens.{effective-off, fault-sound}
 use Rattle.sixel_base.specs.Clip.{clipped_width}
 use Rattle.sixel_base.specs.Limits.{Limit, whole_limit}
-use Rattle.sixel_base.specs.Payload.{Image, image_height, image_of}
-use Rattle.sixel_base.specs.Payload.{payload_fault, payload_image}
+use Rattle.sixel_base.specs.Payload.{Image, image_height, image_of, payload_fault, payload_image}
 use Rattle.sixel_base.specs.Picture.{joined, picture}
 use Rattle.sixel_base.specs.Place.{height, width}
 use Rattle.sixel_base.specs.Settings.{mode_of, mode_of_p2, p2_of, ratio_of}
@@ -27,12 +25,10 @@ use Rattle.sixel_base.specs.declared.settings.BackgroundMode.{BackgroundMode}
 use Rattle.sixel_base.specs.declared.settings.BackgroundMode.TheVariants.{Opaque, Transparent}
 use Rattle.sixel_base.specs.declared.settings.PixelAspectRatio.{PixelAspectRatio}
 use Rattle.sixel_base.specs.declared.state.DecoderState.{DecoderState}
-use Rattle.sixel_encoder.specs.Marks.{Definition, Draws, Mark, first_pen, marks_payload}
-use Rattle.sixel_encoder.specs.Marks.{painted}
+use Rattle.sixel_encoder.specs.Marks.{Definition, Draws, Mark, first_pen, marks_payload, painted}
 use Rattle.sixel_encoder.specs.Text.{Drawing, bands, entry_at}
 use Rattle.sixel_encoder.specs.Trip.{CanShow, IsWritable, blank, drawing_settings, trip}
-use Rattle.sixel_encoder.specs.Trip.{trip_height}
-use Rattle.sixel_encoder.specs.Trip.{trip_pixel}
+use Rattle.sixel_encoder.specs.Trip.{trip_height, trip_pixel}
 use Rattle.sixel_encoder.proofs.DrawnHeight.{cropped_height-tokens}
 use Rattle.sixel_encoder.proofs.Extent.{first_fault-other}
 use Rattle.sixel_encoder.proofs.RasterAttributes.{height-covered}

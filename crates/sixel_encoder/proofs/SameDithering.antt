@@ -1,7 +1,6 @@
 -- Images that show the same have the same indices at their opaque pixels, so one drawing.
-use Rattle.std.proofs.Common.{◌≡◌, ℕ, zero, suc, ◌+◌, ◌*◌, ◌<◌, ◌≤◌, List, [], ◌∷◌}
-use Rattle.std.proofs.Common.{length, refl, ap, sym, subst, ◌∙◌, arith, inl}
-use Rattle.std.proofs.Common.{inr}
+use Rattle.std.proofs.Common.{◌≡◌, ℕ, zero, suc, ◌+◌, ◌*◌, ◌<◌, ◌≤◌, List, [], ◌∷◌, length, refl}
+use Rattle.std.proofs.Common.{ap, sym, subst, ◌∙◌, arith, inl, inr}
 use Rattle.std.specs.Prelude.{◌/◌, ◌%◌, None, Option, slice_index}
 use Rattle.std.proofs.lemmas.Bool.{cases_lt}
 use Rattle.std.proofs.lemmas.List.{ext_get_or}
@@ -17,11 +16,9 @@ use Rattle.sixel_encoder.specs.declared.mapping.Mapping.{Mapping}
 use Rattle.sixel_encoder.specs.declared.mapping.Tolerance.{Tolerance}
 use Rattle.sixel_encoder.specs.declared.mapping.Tolerance.TheVariants.{Auto, Squared}
 use Rattle.sixel_encoder.specs.Dithering.{AreDithered, AreMapped, HasTarget, IsIndex, Mapped}
-use Rattle.sixel_encoder.specs.Dithering.{amplitude_of, entry_of}
-use Rattle.sixel_encoder.specs.Dithering.{errors_of, mapped_of, moved_channel}
-use Rattle.sixel_encoder.specs.Dithering.{neighbor_of, pattern_of}
-use Rattle.sixel_encoder.specs.Dithering.{serpentine, target_of}
-use Rattle.sixel_encoder.specs.Dithering.{target_of_visit, threshold, tolerance_of}
+use Rattle.sixel_encoder.specs.Dithering.{amplitude_of, entry_of, errors_of, mapped_of}
+use Rattle.sixel_encoder.specs.Dithering.{moved_channel, neighbor_of, pattern_of, serpentine}
+use Rattle.sixel_encoder.specs.Dithering.{target_of, target_of_visit, threshold, tolerance_of}
 use Rattle.sixel_encoder.specs.Encoding.{shown_image}
 use Rattle.sixel_encoder.specs.IndexedDrawing.{entries_of, indexed_drawing}
 use Rattle.sixel_encoder.proofs.DitheredIndices.{AreRowsOf, visit-inside}
@@ -29,8 +26,7 @@ use Rattle.sixel_encoder.proofs.IndexedDrawing.{get_or-entries}
 use Rattle.sixel_encoder.proofs.KeptEntries.{IsIndex-same}
 use Rattle.sixel_encoder.proofs.PaletteError.{number-dark, number-light, sum_to-same}
 use Rattle.sixel_encoder.proofs.SameDrawing.{drawing-fields}
-use Rattle.sixel_encoder.proofs.SameVisits.{AreAlike, AreAlike-images, AreSameOpaque}
-use Rattle.sixel_encoder.proofs.SameVisits.{channel-alike}
+use Rattle.sixel_encoder.proofs.SameVisits.{AreAlike, AreAlike-images, AreSameOpaque, channel-alike}
 use Rattle.sixel_encoder.proofs.SameVisits.{entry-before, errors-alike, neighbor-alike}
 use Rattle.sixel_encoder.proofs.SameVisits.{target-alike, with_pixels}
 

@@ -1,27 +1,22 @@
 -- Images that show the same: the neighbors, targets and errors of their visits are the same.
 use Rattle.std.proofs.Common.{◌≡◌, ℕ, zero, suc, ◌+◌, ◌-◌, ◌*◌, ◌<◌, ◌≤◌, List, [], ◌∷◌, cond}
-use Rattle.std.proofs.Common.{length, true, get_or, refl, ap, sym, subst, ◌∙◌, arith, inl}
-use Rattle.std.proofs.Common.{inr}
+use Rattle.std.proofs.Common.{length, true, get_or, refl, ap, sym, subst, ◌∙◌, arith, inl, inr}
 use Rattle.std.specs.Prelude.{◌/◌, ◌%◌, ◌==◌, None, Some, slice_index, slice_index_or}
 use Rattle.std.proofs.lemmas.Bool.{cases_eq, cases_lt}
 use Rattle.std.proofs.lemmas.Bool.Decides.{nat_tests}
 use Rattle.sixel_palette.specs.Palette.{IsOpaque, color_at}
 use Rattle.sixel_palette.proofs.PaletteDistance.{below_three}
 use Rattle.sixel_base.specs.Payload.{Image}
-use Rattle.sixel_encoder.specs.Dithering.{Mapped}
-use Rattle.sixel_encoder.specs.Dithering.{entry_above, entry_before, entry_of}
-use Rattle.sixel_encoder.specs.Dithering.{errors_of, nearer_entry}
-use Rattle.sixel_encoder.specs.Dithering.{neighbor_of, opaque_error, passed_on, received}
-use Rattle.sixel_encoder.specs.Dithering.{rounded_sixteenths, serpentine, sixteenths}
-use Rattle.sixel_encoder.specs.Dithering.{target_of_visit, visit_error}
-use Rattle.sixel_encoder.specs.Dithering.{with_received}
+use Rattle.sixel_encoder.specs.Dithering.{Mapped, entry_above, entry_before, entry_of, errors_of}
+use Rattle.sixel_encoder.specs.Dithering.{nearer_entry, neighbor_of, opaque_error, passed_on}
+use Rattle.sixel_encoder.specs.Dithering.{received, rounded_sixteenths, serpentine, sixteenths}
+use Rattle.sixel_encoder.specs.Dithering.{target_of_visit, visit_error, with_received}
 use Rattle.sixel_encoder.specs.Encoding.{shown_image}
 use Rattle.sixel_encoder.proofs.DiffusionVisit.{visit_error-opaque, visit_error-transparent}
 use Rattle.sixel_encoder.proofs.DitheredIndices.{AreRowsOf, visit-inside}
 use Rattle.sixel_encoder.proofs.IndexedDrawing.{entry_of-opaque, entry_of-transparent}
 use Rattle.sixel_encoder.proofs.KeptEntries.{above-lt}
-use Rattle.sixel_encoder.proofs.SameDrawing.{count-same, opaque-other}
-use Rattle.sixel_encoder.proofs.SameDrawing.{transparent-other}
+use Rattle.sixel_encoder.proofs.SameDrawing.{count-same, opaque-other, transparent-other}
 use Rattle.sixel_encoder.proofs.Serpentine.{serpentine-serpentine}
 
 -- pixels that show the same

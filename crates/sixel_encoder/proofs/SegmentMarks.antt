@@ -11,7 +11,7 @@ use Rattle.sixel_encoder.specs.Compact.{Drawn, blocked_after, drawn_after, drawn
 use Rattle.sixel_encoder.specs.Compact.{segment_marks, segment_row, segments_marks, start_column}
 use Rattle.sixel_encoder.specs.Compact.{to_register, to_segment}
 use Rattle.sixel_encoder.specs.Marks.{Back, Draw, Mark, Pen, Pick, is_lit, moved, moved_by}
-use Rattle.sixel_encoder.specs.Numbers.{number_of}
+use Rattle.sixel_encoder.specs.RegisterOrder.{number_of}
 use Rattle.sixel_encoder.specs.Text.{Drawing, bands, entry_at}
 use Rattle.sixel_encoder.specs.Trip.{is_used}
 use Rattle.sixel_encoder.proofs.EntryRows.{IsInBand}
@@ -196,7 +196,8 @@ Leads-row drawing band drawn segment segments pen place are lower used left at =
         (at.transparent column line lc e);
     above = λ column line entry lc over e.
         keep column line (is_lit row pen.column (6 * pen.band) column line) refl
-        (λ lit. let it = (lit-here column line lit).inside in absurd (omega (arith, it.since, over)))
+        (λ lit. let it = (lit-here column line lit).inside in absurd
+            (omega (arith, it.since, over)))
         (at.above column line entry lc over e);
     here = λ column line entry lc inside e bit.
         draws column line entry lc inside e bit

@@ -1,9 +1,8 @@
 -- The segments that a compact text draws have each pixel of the drawing once.
 use Rattle.std.specs.Int.{bit_at}
 use Rattle.std.specs.Prelude.{None, Option, Some, is_some, slice_index, slice_index_or, ◌%◌, ◌/◌}
-use Rattle.std.proofs.Common.{Bool, List, [], ap, arith, false, inl, inr, length, not, refl}
-use Rattle.std.proofs.Common.{subst, suc, sym, true, zero, ℕ, ◌*◌, ◌+◌, ◌<◌, ◌∙◌, ◌∷◌}
-use Rattle.std.proofs.Common.{◌≡◌, ◌≤◌}
+use Rattle.std.proofs.Common.{Bool, List, [], ap, arith, false, inl, inr, length, not, refl, subst}
+use Rattle.std.proofs.Common.{suc, sym, true, zero, ℕ, ◌*◌, ◌+◌, ◌<◌, ◌∙◌, ◌∷◌, ◌≡◌, ◌≤◌}
 use Rattle.std.proofs.lemmas.Bool.{both_ways, cases_Bool, cases_eq}
 use Rattle.std.proofs.lemmas.Bool.Decides.{nat_tests}
 use Rattle.std.proofs.lemmas.List.FromFn.{get_or-map-range_with_len, length-map-range_with_len}

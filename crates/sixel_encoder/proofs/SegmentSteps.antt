@@ -1,16 +1,13 @@
 -- One pixel more in the segments of a band, and the last segment of each entry.
 use Rattle.std.specs.Prelude.{None, Option, Some, nat_lt, slice_index_or, ◌&&◌, ◌==◌}
-use Rattle.std.proofs.Common.{Bool, List, [], ap, arith, false, inl, inr}
-use Rattle.std.proofs.Common.{length, refl, set, sym, true, ℕ}
-use Rattle.std.proofs.Common.{◌++◌, ◌+◌, ◌<◌}
-use Rattle.std.proofs.Common.{◌∙◌, ◌∷◌, ◌≡◌, ◌≢◌, ◌≤◌, length-append}
+use Rattle.std.proofs.Common.{Bool, List, [], ap, arith, false, inl, inr, length, refl, set, sym}
+use Rattle.std.proofs.Common.{true, ℕ, ◌++◌, ◌+◌, ◌<◌, ◌∙◌, ◌∷◌, ◌≡◌, ◌≢◌, ◌≤◌, length-append}
 use Rattle.std.proofs.lemmas.Bool.{cases_eq, cases_lt}
 use Rattle.std.proofs.lemmas.Bool.Decides.{nat_tests}
 use Rattle.std.proofs.lemmas.Grind.{get_or-set_at}
 use Rattle.std.proofs.lemmas.List.{get_or-set_other, get_or_append_left, get_or_push, length-set}
 use Rattle.sixel_encoder.specs.declared.segments.Segment.{Segment}
-use Rattle.sixel_encoder.specs.inside.Compact.{nth}
-use Rattle.sixel_encoder.specs.inside.Compact.{AreLast}
+use Rattle.sixel_encoder.specs.inside.Compact.{nth, AreLast}
 
 -- ---- the segment that a pixel joins
 

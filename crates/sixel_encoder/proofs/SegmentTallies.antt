@@ -4,8 +4,7 @@ use Rattle.std.proofs.Common.{Bool, List, [], arith, cond, false, length, not, r
 use Rattle.std.proofs.Common.{suc, true, zero, ℕ, ◌++◌, ◌+◌, ◌<◌, ◌∷◌, ◌≡◌}
 use Rattle.sixel_encoder.specs.declared.segments.Segment.{Segment}
 use Rattle.sixel_encoder.specs.inside.Compact.{nth}
-use Rattle.sixel_encoder.specs.Segments.{after_pass, band_segments, drawn_segments, in_pass}
-use Rattle.sixel_encoder.specs.Segments.{passes}
+use Rattle.sixel_encoder.specs.Segments.{after_pass, band_segments, drawn_segments, in_pass, passes}
 use Rattle.sixel_encoder.specs.Text.{Drawing, is_entry}
 
 -- whether a pixel in this column with this entry is one of the segment's

@@ -19,11 +19,12 @@ use Rattle.sixel_base.specs.declared.settings.PixelAspectRatio.{PixelAspectRatio
 use Rattle.sixel_base.specs.declared.settings.PixelAspectRatio.TheVariants.{Ratio2To1, Ratio3To1}
 use Rattle.sixel_base.specs.declared.settings.PixelAspectRatio.TheVariants.{Ratio5To1, Square}
 use Rattle.sixel_base.proofs.Histories.{carries, history_unique}
+use Rattle.sixel_palette.specs.Refined.{percentage}
 use Rattle.sixel_encoder.specs.Marks.{AreAllowed, AreDefinitions, Back, Definition, Draw, Draws}
 use Rattle.sixel_encoder.specs.Marks.{IsAllowed, Mark, Next, Pen, Pick, first_pen, marks_payload}
 use Rattle.sixel_encoder.specs.Marks.{moved}
 use Rattle.sixel_encoder.specs.RunTokens.{IsRunToken, Many, One, RunToken, row_tokens, sixels}
-use Rattle.sixel_encoder.specs.Text.{Drawing, percent}
+use Rattle.sixel_encoder.specs.Text.{Drawing}
 use Rattle.sixel_encoder.specs.Trip.{IsColor, IsWritable}
 use Rattle.sixel_encoder.proofs.Digits.{AreFields, all_digits-decimal, all_parameters-numbers}
 use Rattle.sixel_encoder.proofs.Digits.{numbers}
@@ -115,7 +116,7 @@ AreTokens-marks drawing pen (mark ∷ marks) h is are =
     (AreTokens-mark drawing pen mark h is.0 are)
 
 -- a byte is at most 100 percent
-percent-byte : (c : ℕ) → c < 256 → percent c ≤ 100
+percent-byte : (c : ℕ) → c < 256 → percentage c ≤ 100
 percent-byte c h = omega arith
 
 -- a channel of a color is a byte

@@ -13,9 +13,10 @@ use Rattle.sixel_base.specs.History.{History}
 use Rattle.sixel_base.specs.Limits.{whole_limit}
 use Rattle.sixel_base.specs.Place.{across, down, height, raster_height, span}
 use Rattle.sixel_base.specs.Stroke.{Origin, background, pixel, ratio, registers}
+use Rattle.sixel_palette.specs.Refined.{percentage}
 use Rattle.sixel_encoder.specs.Marks.{AreDefinitions, Definition, IsDefinition, first_pen}
 use Rattle.sixel_encoder.specs.Marks.{register_entry}
-use Rattle.sixel_encoder.specs.Text.{Drawing, bands, percent}
+use Rattle.sixel_encoder.specs.Text.{Drawing, bands}
 use Rattle.sixel_encoder.specs.Trip.{IsColor, IsWritable, rounded}
 use Rattle.sixel_encoder.proofs.Digits.{fields-numbers, numbers}
 use Rattle.sixel_encoder.proofs.Extent.{Fits, Fits-color}
@@ -34,8 +35,8 @@ defines entry color small is =
 
 -- three channels, rounded
 rgb-rounded : (color : List ℕ) → length color ≡ 3
-    → rgb (percent (slice_index color 0)) (percent (slice_index color 1))
-    (percent (slice_index color 2)) ≡ map rounded color
+    → rgb (percentage (slice_index color 0)) (percentage (slice_index color 1))
+    (percentage (slice_index color 2)) ≡ map rounded color
 rgb-rounded [] three = absurd (omega arith)
 rgb-rounded (a ∷ []) three = absurd (omega arith)
 rgb-rounded (a ∷ b ∷ []) three = absurd (omega arith)
@@ -67,8 +68,8 @@ registers-definition start drawing definition h is known =
     (defines definition.register color small right)
     ∙ (ap
     (λ n.
-    slice_set (registers start h) n (rgb (percent (slice_index color 0))
-    (percent (slice_index color 1)) (percent (slice_index color 2))))
+    slice_set (registers start h) n (rgb (percentage (slice_index color 0))
+    (percentage (slice_index color 1)) (percentage (slice_index color 2))))
     (omega arith)
     ∙ ap (slice_set (registers start h) definition.register) (rgb-rounded color right.channels))
 

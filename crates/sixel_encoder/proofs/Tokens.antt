@@ -9,11 +9,12 @@ use Rattle.sixel_base.specs.Bytes.{count, is_parameter}
 use Rattle.sixel_base.specs.History.{AreTokens, Color, History, IsToken, Newline, Raster, Repeat}
 use Rattle.sixel_base.specs.History.{Return, Sixel, Skip, Token, goes_on, spellings, start}
 use Rattle.sixel_base.specs.Settings.{pad_of}
+use Rattle.sixel_palette.specs.Refined.{percentage}
 use Rattle.sixel_encoder.specs.Marks.{Back, Definition, Draw, Mark, Next, Pick, definitions_text}
 use Rattle.sixel_encoder.specs.Marks.{mark_text, marks_payload, marks_text, register_definition}
 use Rattle.sixel_encoder.specs.RunTokens.{Many, One, RunToken, row_tokens}
 use Rattle.sixel_encoder.specs.RunTokens.{spelling as run_token_spelling, written}
-use Rattle.sixel_encoder.specs.Text.{Drawing, color_definition, percent, raster_text}
+use Rattle.sixel_encoder.specs.Text.{Drawing, color_definition, raster_text}
 use Rattle.sixel_encoder.proofs.Digits.{numbers}
 
 -- a byte that no text takes begins a token after any
@@ -66,8 +67,8 @@ with_marks (mark ∷ marks) h = with_marks marks (with_mark mark h)
 -- the numbers of a color's definition after its entry
 abbrev pub percentages : List ℕ → List ℕ
 percentages color =
-    2 ∷ percent (slice_index color 0) ∷ percent (slice_index color 1)
-    ∷ percent (slice_index color 2) ∷ []
+    2 ∷ percentage (slice_index color 0) ∷ percentage (slice_index color 1)
+    ∷ percentage (slice_index color 2) ∷ []
 
 -- a definition of a register
 abbrev pub with_definition : Drawing → Definition → History → History
@@ -147,11 +148,11 @@ spelling-definition entry color =
     35
     ∷ (decimal entry ++ 59
     ∷ (two ++ 59
-    ∷ numbers (percent (slice_index color 0))
-    (percent (slice_index color 1) ∷ percent (slice_index color 2) ∷ []))))
+    ∷ numbers (percentage (slice_index color 0))
+    (percentage (slice_index color 1) ∷ percentage (slice_index color 2) ∷ []))))
     (decimal_digit 2 (omega arith))
-    ∙ definition-joined (decimal entry) (decimal (percent (slice_index color 0)))
-    (decimal (percent (slice_index color 1))) (decimal (percent (slice_index color 2)))
+    ∙ definition-joined (decimal entry) (decimal (percentage (slice_index color 0)))
+    (decimal (percentage (slice_index color 1))) (decimal (percentage (slice_index color 2)))
 
 -- definitions append their text
 spellings-definitions : (drawing : Drawing) (definitions : List Definition) (h : History)

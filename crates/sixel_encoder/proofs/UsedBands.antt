@@ -3,8 +3,7 @@ use Rattle.std.specs.List.{list_any}
 use Rattle.std.specs.Prelude.{None, Option, Some, is_some, ◌/◌, ◌==◌}
 use Rattle.std.proofs.Common.{Bool, List, ap, arith, cond, drop, false, get_or, inl, inr, length}
 use Rattle.std.proofs.Common.{not, refl, suc, sym, take, true, zero, ℕ, ◌%◌, ◌*◌, ◌+◌, ◌-◌, ◌<◌}
-use Rattle.std.proofs.Common.{◌^◌}
-use Rattle.std.proofs.Common.{◌∙◌, ◌≡◌, ◌≤◌}
+use Rattle.std.proofs.Common.{◌^◌, ◌∙◌, ◌≡◌, ◌≤◌}
 use Rattle.std.proofs.lemmas.Bool.{both_ways, cases_Bool, cases_lt}
 use Rattle.std.proofs.lemmas.List.{get_or-drop, get_or-take, get_or_default, get_or_past}
 use Rattle.std.proofs.lemmas.List.{length-drop, length-take}

@@ -12,7 +12,7 @@ use Rattle.sixel_base.specs.Picture.{joined}
 use Rattle.sixel_encoder.specs.declared.segments.Segment.{Segment}
 use Rattle.sixel_encoder.specs.Encoding.{IsDrawing}
 use Rattle.sixel_encoder.specs.Marks.{Mark, Pick, Draw, Back, Next, marks_payload}
-use Rattle.sixel_encoder.specs.Numbers.{number_of, numbered_definitions}
+use Rattle.sixel_encoder.specs.RegisterOrder.{number_of, numbered_definitions}
 use Rattle.sixel_encoder.specs.Segments.{drawn_segments}
 use Rattle.sixel_encoder.specs.Text.{Drawing, entry_at, mask, sixel_of, bands, parameters_text}
 use Rattle.sixel_encoder.specs.Text.{text_of}
@@ -141,7 +141,8 @@ band_marks drawing band register =
 -- the register that is selected after the band
 abbrev pub band_register : Drawing → ℕ → Option ℕ → Option ℕ
 band_register drawing band register =
-    (drawn_by drawing band (nothing_of drawing band register) (drawn_segments drawing band)).register
+    (drawn_by drawing band (nothing_of drawing band register)
+        (drawn_segments drawing band)).register
 
 -- the register that is selected after n bands
 unfoldable pub register_after : Drawing → ℕ → Option ℕ

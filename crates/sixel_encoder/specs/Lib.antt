@@ -5,7 +5,7 @@ pub mod Encoding
 pub mod Trip
 pub mod Marks
 pub mod Segments
-pub mod Numbers
+pub mod RegisterOrder
 pub mod Compact
 pub mod Form
 pub mod Dithering

@@ -9,6 +9,7 @@ use Rattle.sixel_base.specs.declared.settings.BackgroundMode.{BackgroundMode}
 use Rattle.sixel_base.specs.declared.settings.PixelAspectRatio.{PixelAspectRatio}
 use Rattle.sixel_base.specs.Settings.{p1_of, p2_of, pad_of}
 use Rattle.sixel_base.specs.Picture.{joined}
+use Rattle.sixel_palette.specs.Refined.{percentage}
 use Rattle.sixel_encoder.specs.RunTokens.{written, row_tokens}
 
 -- sizes, shape and background of an image, the colors of its palette in order, and the entry of
@@ -53,8 +54,8 @@ abbrev pub bands : ℕ → ℕ
 bands height = (height + 5) / 6
 
 -- a byte as a percentage
-abbrev pub percent : ℕ → ℕ
-percent channel = (channel * 100 + 127) / 255
+abbrev pub percentage : ℕ → ℕ
+percentage channel = (channel * 100 + 127) / 255
 
 -- the introducer and the parameters, the third of which is always 0
 abbrev pub parameters_text : Drawing → List ℕ
@@ -71,10 +72,10 @@ raster_text drawing =
 -- the definition of an entry as a color, in percent
 abbrev pub color_definition : ℕ → List ℕ → List ℕ
 color_definition entry color =
-    codes "#" ++ decimal entry ++ codes ";2;" ++ decimal (percent (slice_index color 0))
+    codes "#" ++ decimal entry ++ codes ";2;" ++ decimal (percentage (slice_index color 0))
     ++ codes ";"
-    ++ decimal (percent (slice_index color 1)) ++ codes ";"
-    ++ decimal (percent (slice_index color 2))
+    ++ decimal (percentage (slice_index color 1)) ++ codes ";"
+    ++ decimal (percentage (slice_index color 2))
 
 -- the definition of a palette entry
 abbrev pub definition_text : Drawing → ℕ → List ℕ

@@ -8,12 +8,11 @@ ghost use Rattle.sixel_encoder.specs.Text.{sixel_of, row_text, band_text};
 ghost use Rattle.sixel_encoder.specs.inside.Indexed.{IsIndexed, drawing_of, entry_of};
 ghost use Rattle.sixel_encoder.specs.inside.Grid.{cell, pixel_bit, grid_row, grid_text, AreRows};
 ghost use Rattle.sixel_encoder.specs.inside.Grid.{AreBelow, AreMarks, AreClear, IsPart};
-ghost use Rattle.sixel_encoder.specs.inside.Grid.{AreEmptyRows, IsSameShape};
-ghost use Rattle.sixel_encoder.specs.inside.Grid.{HasColumns, between};
+ghost use Rattle.sixel_encoder.specs.inside.Grid.{AreEmptyRows, IsSameShape, HasColumns, between};
 
 use crate::decimal::push_number;
 use crate::entries::others_from;
-use crate::numbers::{BLOCK, are_opaque};
+use crate::register_order::{RUN_LANES, are_opaque};
 use crate::run_tokens::push_row;
 use crate::runs::equal_from;
 use crate::text::IndexedImage;
@@ -216,11 +215,11 @@ fn add_whole_line(rows: &mut [u8], used: &mut [bool], image: &IndexedImage<'_>, 
 {
     // A copy of its own stays in registers while rows change.
     let own = *image;
-    let blocks = own.width / BLOCK;
+    let blocks = own.width / RUN_LANES;
     for block in 0..blocks {
-        add_sixteen(rows, used, &own, line, BLOCK * block);
+        add_sixteen(rows, used, &own, line, RUN_LANES * block);
     }
-    for column in BLOCK * blocks..own.width {
+    for column in RUN_LANES * blocks..own.width {
         add_pixel(rows, used, &own, line, column);
     }
 }
@@ -255,7 +254,7 @@ fn add_sixteen(
         used[row] = true;
         return;
     }
-    for one in column..column + BLOCK {
+    for one in column..column + RUN_LANES {
         add_pixel(rows, used, image, line, one);
     }
 }
@@ -311,7 +310,7 @@ fn is_run(image: &IndexedImage<'_>, pixel: usize) -> bool
         → (slice_index image.now.indices.now pixel ≡ slice_index image.now.indices.now k)
         × (128 ≤ slice_index image.now.pixels.now (4 * k + 3)) }
 {
-    if equal_from(image.indices, pixel, image.indices[pixel]) < BLOCK {
+    if equal_from(image.indices, pixel, image.indices[pixel]) < RUN_LANES {
         return false;
     }
     are_opaque(image.pixels, pixel)

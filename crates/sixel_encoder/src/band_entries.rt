@@ -1,7 +1,6 @@
 //! The palette entries of a band's pixels, column by column.
 
-ghost use Rattle.std.specs.Prelude.{◌≡◌, ◌≢◌, ℕ, ◌+◌, ◌-◌, ◌*◌, ◌^◌};
-ghost use Rattle.std.specs.Prelude.{◌<◌, ◌≤◌, ◌==◌, IfOk, length};
+ghost use Rattle.std.specs.Prelude.{◌≡◌, ◌≢◌, ℕ, ◌+◌, ◌-◌, ◌*◌, ◌^◌, ◌<◌, ◌≤◌, ◌==◌, IfOk, length};
 ghost use Rattle.std.specs.Prelude.{slice_index, true};
 ghost use Rattle.sixel_encoder.specs.Compact.{transparent_sixel};
 ghost use Rattle.sixel_encoder.specs.Text.{entry_at, mask, sixel_of};
@@ -80,7 +79,7 @@ impl<'a> BandEntries<'a> {
             ≡ entry_at (drawing_of self.now.image.now) column (6 * self.now.band + 0) }
     {
         let first = self.lane(column, 0);
-        equal_lanes(&self.lanes, 8 * column, first) % 64 == 63
+        lanes_with(&self.lanes, 8 * column, first) % 64 == 63
     }
 
     /// Returns whether the pixels of a column have the same entries as those of the one before.
@@ -125,7 +124,7 @@ impl<'a> BandEntries<'a> {
         requires entry { entry < 256 }
         ensures { result ≡ sixel_of (drawing_of self.now.image.now) self.now.band entry column }
     {
-        equal_lanes(&self.lanes, 8 * column, entry as u16)
+        lanes_with(&self.lanes, 8 * column, entry as u16)
     }
 
     /// Returns the transparent pixels of a column.
@@ -136,7 +135,7 @@ impl<'a> BandEntries<'a> {
         ensures { result
             ≡ transparent_sixel (drawing_of self.now.image.now) self.now.band column }
     {
-        equal_lanes(&self.lanes, 8 * column, TRANSPARENT) - 192
+        lanes_with(&self.lanes, 8 * column, TRANSPARENT) - 192
     }
 }
 
@@ -183,7 +182,7 @@ fn lane_at(image: &IndexedImage<'_>, column: usize, row: usize) -> u16
 
 /// Returns which of eight lanes have a value, the first one in the lowest bit.
 #[inline(always)]
-fn equal_lanes(lanes: &[u16], at: usize, value: u16) -> u8
+fn lanes_with(lanes: &[u16], at: usize, value: u16) -> u8
     requires { at + 8 ≤ length lanes.now }
     ensures { result ≡ mask (λ bit. slice_index lanes.now (at + bit) == value) 8 }
 {

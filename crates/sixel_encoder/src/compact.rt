@@ -6,7 +6,7 @@ ghost use Rattle.sixel_encoder.specs.Compact.{band_marks, band_register, compact
 ghost use Rattle.sixel_encoder.specs.Compact.{compact_text, drawn_after, marked_text};
 ghost use Rattle.sixel_encoder.specs.Compact.{segment_marks};
 ghost use Rattle.sixel_encoder.specs.Marks.{definitions_text, marks_text};
-ghost use Rattle.sixel_encoder.specs.Numbers.{numbered_definitions};
+ghost use Rattle.sixel_encoder.specs.RegisterOrder.{numbered_definitions};
 ghost use Rattle.sixel_encoder.specs.Text.{parameters_text, raster_text, text_of};
 ghost use Rattle.sixel_encoder.specs.inside.Compact.{AreLanes, AreNumbersOf, AreRanks, AreRuns};
 ghost use Rattle.sixel_encoder.specs.inside.Compact.{IsWithin, IsWriter, drawn_so_far};
@@ -14,7 +14,7 @@ ghost use Rattle.sixel_encoder.specs.inside.Indexed.{IsIndexed, drawing_of};
 
 use crate::band_entries::BandEntries;
 use crate::bound::least_bytes;
-use crate::numbers::{count_runs, number_entries, push_numbered};
+use crate::register_order::{count_runs, number_entries, push_numbered};
 use crate::pen::Pen;
 use crate::pixels::used_bands;
 use crate::segment_rows::SegmentRows;

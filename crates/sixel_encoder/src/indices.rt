@@ -7,10 +7,9 @@ ghost use Rattle.sixel_base.specs.Size.{verdict};
 ghost use Rattle.sixel_palette.specs.Palette.{AreIndices, IsOpaque, color_at};
 ghost use Rattle.sixel_palette.specs.Refined.{opaque_pixels, summed_error};
 ghost use Rattle.sixel_encoder.specs.Dithering.{AreDithered, index_error, indices_fault};
-ghost use Rattle.sixel_encoder.specs.Dithering.{rows_fault, tolerance_of};
-ghost use Rattle.sixel_encoder.specs.Dithering.{Mapped, before_share, below_share, next_share};
-ghost use Rattle.sixel_encoder.specs.Dithering.{no_error, passed_on, rest_share, serpentine};
-ghost use Rattle.sixel_encoder.specs.Dithering.{visit_error, whole_rows};
+ghost use Rattle.sixel_encoder.specs.Dithering.{rows_fault, tolerance_of, Mapped, before_share};
+ghost use Rattle.sixel_encoder.specs.Dithering.{below_share, next_share, no_error, passed_on};
+ghost use Rattle.sixel_encoder.specs.Dithering.{rest_share, serpentine, visit_error, whole_rows};
 ghost use Rattle.sixel_encoder.specs.inside.Mapped.{IsMappable, IsPlain};
 
 mod diffusion;

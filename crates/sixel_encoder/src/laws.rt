@@ -1,8 +1,7 @@
 //! Laws of the SIXEL output and its meaning, stated by functions with empty bodies.
 
 ghost use Rattle.std.specs.Prelude.{◌≡◌, ℕ, ◌≤◌, ◌<◌, ◌*◌, Bool, List, ◌∷◌, ◌++◌, length, codes};
-ghost use Rattle.std.specs.Prelude.{Some, None};
-ghost use Rattle.std.specs.Prelude.{All};
+ghost use Rattle.std.specs.Prelude.{Some, None, All};
 ghost use Rattle.sixel_base.specs.declared.settings.BackgroundMode.TheVariants.{Transparent};
 ghost use Rattle.sixel_base.specs.Bytes.{before_terminator, front, first_terminator, count};
 ghost use Rattle.sixel_base.specs.Color.{byte_of};
@@ -10,7 +9,8 @@ ghost use Rattle.sixel_base.specs.Decoder.{new_decoder, origin_of};
 ghost use Rattle.sixel_base.specs.declared.state.DecoderState.{DecoderState};
 ghost use Rattle.sixel_base.specs.Size.{banded};
 ghost use Rattle.sixel_base.specs.Payload.{Image, payload_fault, payload_image};
-ghost use Rattle.sixel_encoder.specs.Text.{Drawing, percent, parameters_text, text_of};
+ghost use Rattle.sixel_palette.specs.Refined.{percentage};
+ghost use Rattle.sixel_encoder.specs.Text.{Drawing, parameters_text, text_of};
 ghost use Rattle.sixel_encoder.specs.Encoding.{image_fault, IsDrawing, IsText, shown_image};
 ghost use Rattle.sixel_base.specs.Dcs.{Reading, stage};
 ghost use Rattle.sixel_base.specs.Limits.{Limit};
@@ -20,9 +20,8 @@ ghost use Rattle.sixel_encoder.specs.declared.mapping.Mapping.{Mapping};
 ghost use Rattle.sixel_encoder.specs.declared.form.TextForm.{TextForm};
 ghost use Rattle.sixel_encoder.specs.Marks.{IsDrawnText};
 ghost use Rattle.sixel_encoder.specs.RefinedText.{IsRefinedText};
-ghost use Rattle.sixel_encoder.specs.Trip.{IsWritable, payload_text, drawing_settings};
-ghost use Rattle.sixel_encoder.specs.Trip.{rounded, trip, CanRead, CanShow, IsTrip};
-ghost use Rattle.sixel_encoder.specs.Trip.{IsReadAs, IsOneString};
+ghost use Rattle.sixel_encoder.specs.Trip.{IsWritable, payload_text, drawing_settings, rounded};
+ghost use Rattle.sixel_encoder.specs.Trip.{trip, CanRead, CanShow, IsTrip, IsReadAs, IsOneString};
 
 /// States that an output is its parameters, a payload and the string terminator.
 ///
@@ -105,7 +104,7 @@ pub fn compact_text()
 ///
 /// So a second round trip does not round a channel again.
 pub fn rounding()
-    ensures percentages { (p : ℕ) → p ≤ 100 → percent (byte_of p) ≡ p }
+    ensures percentages { (p : ℕ) → p ≤ 100 → percentage (byte_of p) ≡ p }
     ensures bytes { (channel : ℕ) → rounded (rounded channel) ≡ rounded channel }
 {}
 

@@ -24,7 +24,7 @@ mod given_palette;
 mod indices;
 pub mod laws;
 mod mapping;
-mod numbers;
+mod register_order;
 mod pen;
 mod pixels;
 mod refined;

@@ -10,7 +10,7 @@ use sixel_base::limits::MAX_REPEAT;
 use std::alloc::AllocError;
 
 /// The greatest count of a repeat introducer.
-const LONGEST: usize = MAX_REPEAT as usize;
+const LONGEST_REPEAT: usize = MAX_REPEAT as usize;
 
 /// Appends a row of sixels, each given by its six bits, in the fewest bytes.
 #[inline(never)]
@@ -46,7 +46,7 @@ fn push_run(text: &mut String, count: usize, bits: u8) -> Result<(), AllocError>
     ensures { OnOk result
         (string_bytes text.new ≡ string_bytes text.old ++ written (run_tokens count bits)) }
 {
-    if count < LONGEST {
+    if count < LONGEST_REPEAT {
         return push_rest(text, count, bits);
     }
     push_long(text, count, bits)
@@ -59,10 +59,10 @@ fn push_long(text: &mut String, count: usize, bits: u8) -> Result<(), AllocError
     ensures { OnOk result
         (string_bytes text.new ≡ string_bytes text.old ++ written (run_tokens count bits)) }
 {
-    for _ in 0..count / LONGEST {
-        push_many(text, LONGEST, bits)?;
+    for _ in 0..count / LONGEST_REPEAT {
+        push_many(text, LONGEST_REPEAT, bits)?;
     }
-    push_rest(text, count % LONGEST, bits)
+    push_rest(text, count % LONGEST_REPEAT, bits)
 }
 
 /// Appends the rest of a run: up to three sixels singly, more as one repeat.

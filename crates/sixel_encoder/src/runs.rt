@@ -1,7 +1,6 @@
 //! Runs of equal sixels in a row, counted sixteen or 64 at a time.
 
-ghost use Rattle.std.specs.Prelude.{◌≡◌, ◌≢◌, ◌+◌, ◌<◌, ◌≤◌, true, length};
-ghost use Rattle.std.specs.Prelude.{slice_index};
+ghost use Rattle.std.specs.Prelude.{◌≡◌, ◌≢◌, ◌+◌, ◌<◌, ◌≤◌, true, length, slice_index};
 ghost use Rattle.sixel_encoder.specs.inside.Runs.{IsRun};
 
 use std::simd::prelude::*;
@@ -10,7 +9,7 @@ use std::simd::prelude::*;
 const LANES: usize = 16;
 
 /// How many sixels a block of a long run has.
-const BLOCK: usize = 64;
+const LONG_LANES: usize = 64;
 
 /// Returns how many sixels from `at` on equal `bits`, up to sixteen.
 ///
@@ -41,15 +40,15 @@ pub fn run_from(row: &[u8], at: usize, bits: u8) -> usize
         return same;
     }
     let mut end = at + same;
-    'run: while row.len() - end >= BLOCK && is_block_of(row, end, bits) {
-        end += BLOCK;
+    'run: while row.len() - end >= LONG_LANES && is_long_run(row, end, bits) {
+        end += LONG_LANES;
     }
     end - at
 }
 
 /// Returns whether the 64 sixels of a block all equal `bits`.
 #[inline(always)]
-fn is_block_of(row: &[u8], at: usize, bits: u8) -> bool
+fn is_long_run(row: &[u8], at: usize, bits: u8) -> bool
     requires { at + 64 ≤ length row.now }
     ensures { result ≡ true → IsRun row.now at bits 64 }
 {

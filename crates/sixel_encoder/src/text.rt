@@ -2,12 +2,13 @@
 
 ghost use Rattle.std.specs.Prelude.{◌≡◌, ◌<◌, ◌≤◌, ◌++◌, IfOk, IfSome, MatchOption, OnOk, length};
 ghost use Rattle.std.specs.Prelude.{string_bytes};
-ghost use Rattle.sixel_encoder.specs.Text.{percent, color_definition, parameters_text, raster_text};
+ghost use Rattle.sixel_encoder.specs.Text.{color_definition, parameters_text, raster_text};
 ghost use Rattle.sixel_encoder.specs.Text.{palette_text, bands_text, text_of};
 ghost use Rattle.sixel_encoder.specs.inside.Indexed.{IsIndexed, drawing_of};
 
 use crate::band::BandRows;
 use sixel_base::settings::{BackgroundMode, PixelAspectRatio};
+use sixel_palette::palette::register_color::percentage;
 use std::alloc::{AllocError, Global};
 
 /// An image, and for each pixel its entry in a palette.
@@ -112,17 +113,10 @@ pub fn push_definition(text: &mut String, entry: usize, color: [u8; 3]) -> Resul
     ensures { OnOk result
         (string_bytes text.new ≡ string_bytes text.old ++ color_definition entry color) }
 {
-    let red = percent(color[0]);
-    let green = percent(color[1]);
-    let blue = percent(color[2]);
+    let red = percentage(color[0]);
+    let green = percentage(color[1]);
+    let blue = percentage(color[2]);
     write!(text, "#{entry};2;{red};{green};{blue}")
-}
-
-/// Returns a byte as a percentage.
-fn percent(channel: u8) -> u8
-    ensures { result ≡ percent channel }
-{
-    ((u32::from(channel) * 100 + 127) / 255) as u8
 }
 
 /// Appends the bands.

@@ -33,7 +33,7 @@ pub mod nearest_indices;
 mod positions;
 mod rank_bitmap;
 mod refined;
-mod register_color;
+pub mod register_color;
 mod relaxation;
 mod spread;
 

@@ -268,21 +268,21 @@ impl Handle {
         icysixel_begin_payload(&mut self.0, p1, p2);
     }
 
-    /// Reads a chunk of the open image.
-    pub(crate) fn feed(&mut self, chunk: &[u8]) -> Answer<Fed> {
+    /// Reads a chunk of the open image, and returns what it did, also with an error.
+    pub(crate) fn feed(&mut self, chunk: &[u8]) -> (Fed, Answer<()>) {
         let mut fed = Fed::default();
         // SAFETY: the pointer and the length are those of a slice, which is only read.
         let code = unsafe { icysixel_feed(&mut self.0, chunk.as_ptr(), chunk.len(), &mut fed) };
-        answer(code, fed)
+        (fed, answer(code, ()))
     }
 
     /// Reads a chunk of the open image up to its first graphics new line.
-    pub(crate) fn feed_band(&mut self, chunk: &[u8]) -> Answer<Fed> {
+    pub(crate) fn feed_band(&mut self, chunk: &[u8]) -> (Fed, Answer<()>) {
         let mut fed = Fed::default();
         let (start, length) = (chunk.as_ptr(), chunk.len());
         // SAFETY: the pointer and the length are those of a slice, which is only read.
         let code = unsafe { icysixel_feed_band(&mut self.0, start, length, &mut fed) };
-        answer(code, fed)
+        (fed, answer(code, ()))
     }
 
     /// Copies final rows of the open image.

@@ -26,7 +26,7 @@ pub use encoder::{
 pub use error::{Result, SixelError};
 pub use palette::{PaletteChoice, RefinedPalette, choose_palette, refine_palette, witnesses_hold};
 pub use receiver::{
-    BandStatus, ChannelOrder, Height, Received, ReceivedBand, ReceivedImage, RowLayout,
+    BandStatus, ChannelOrder, FailedFeed, Height, Received, ReceivedBand, ReceivedImage, RowLayout,
     SixelReceiver,
 };
 pub use script::Status;

@@ -6,11 +6,13 @@ mod rows;
 use crate::codes::error_of;
 use crate::decoder::{DcsSettings, SixelDecoder};
 use crate::decoder::{payload_status, string_status};
-use crate::error::Result;
+use crate::error::{Result, SixelError};
 use crate::ffi::Fed;
 use crate::script::Status;
 pub use received_image::{Height, ReceivedImage};
 pub use rows::{BandStatus, ChannelOrder, ReceivedBand, RowLayout};
+use std::error::Error;
+use std::fmt;
 
 /// The result of a feed of a receiver.
 #[derive(Clone, Copy, Debug, PartialEq, Eq)]
@@ -20,6 +22,31 @@ pub struct Received {
     pub consumed: usize,
     /// The status, as a session of that form returns it.
     pub status: Status,
+}
+
+/// Why a feed of a receiver failed, and what it did all the same.
+#[derive(Clone, Debug, PartialEq, Eq)]
+pub struct FailedFeed {
+    /// How many bytes of the chunk are the image's own.
+    pub consumed: usize,
+    /// Whether the image has ended.
+    pub status: Status,
+    /// The error.
+    pub error: SixelError,
+}
+
+impl fmt::Display for FailedFeed {
+    fn fmt(&self, f: &mut fmt::Formatter<'_>) -> fmt::Result {
+        self.error.fmt(f)
+    }
+}
+
+impl Error for FailedFeed {}
+
+impl From<FailedFeed> for SixelError {
+    fn from(failed: FailedFeed) -> Self {
+        failed.error
+    }
 }
 
 /// The open image, if one is.
@@ -115,11 +142,20 @@ impl SixelReceiver {
     /// Those of [`SixelStreamDecoder::feed`] and [`SixelDcsStreamDecoder::feed`]. If no image is
     /// open, it is `InvalidData` with `stream decoder has failed`.
     ///
+    /// Errors have no effect on which bytes belong to the image. A feed that fails reports how many
+    /// bytes of the chunk are the image's own, and whether the image has ended. So a host drops
+    /// these bytes, and goes on with those after the image. A DCS sequence with a wrong header, or
+    /// without an introducer, goes on up to its first terminator.
+    ///
     /// [`SixelStreamDecoder::feed`]: crate::SixelStreamDecoder::feed
     /// [`SixelDcsStreamDecoder::feed`]: crate::SixelDcsStreamDecoder::feed
-    pub fn feed(&mut self, chunk: &[u8]) -> Result<Received> {
-        let fed = self.decoder.handle().feed(chunk).map_err(error_of)?;
-        Ok(self.received(fed))
+    pub fn feed(&mut self, chunk: &[u8]) -> std::result::Result<Received, FailedFeed> {
+        let (fed, answer) = self.decoder.handle().feed(chunk);
+        let Received { consumed, status } = self.received(fed);
+        match answer {
+            Ok(()) => Ok(Received { consumed, status }),
+            Err(code) => Err(FailedFeed { consumed, status, error: error_of(code) }),
+        }
     }
 
     /// The result of a feed of the open image.

@@ -156,7 +156,7 @@ fn decoding() {
         SixelReceiver::new,
         |receiver| {
             receiver.begin_dcs();
-            feed_chunks(STRING, |chunk| receiver.feed(chunk))?;
+            feed_chunks(STRING, |chunk| Ok(receiver.feed(chunk)?))?;
             receiver.finish()?.into_image()
         },
         |receiver| is_unchanged(receiver.decoder()),

@@ -6,14 +6,22 @@ use common::*;
 use icy_sixel::receiver::{Received, SixelReceiver};
 use icy_sixel::script::Status;
 use icy_sixel::{
-    BackgroundMode, BandStatus, ChannelOrder, DcsSettings, Height, ReceivedImage, Result,
-    RowLayout, SixelDcsFeedStatus as Dcs, SixelDecoder, SixelError, SixelFeedStatus as Payload,
-    SixelImage,
+    BackgroundMode, BandStatus, ChannelOrder, DcsSettings, FailedFeed, Height, ReceivedImage,
+    Result, RowLayout, SixelDcsFeedStatus as Dcs, SixelDecoder, SixelError,
+    SixelFeedStatus as Payload, SixelImage,
 };
 use std::sync::{Arc, Mutex, RwLock, mpsc};
 use std::thread;
 
 const STRING: &[u8] = b"\x1bP9;1q#1;2;100;0;0!12~\x1b\\";
+
+const PAYLOAD_MORE: Status = Status::Payload(Payload::NeedMoreData);
+const DCS_MORE: Status = Status::Dcs(Dcs::NeedMoreData);
+
+/// What a feed that failed reports.
+fn failed(error: SixelError, consumed: usize, status: Status) -> FailedFeed {
+    FailedFeed { consumed, status, error }
+}
 
 /// A host that gets bytes when they come.
 #[derive(Default)]
@@ -102,7 +110,7 @@ fn rows_above_the_band_are_final() {
         assert!(receiver.feed(chunk.as_bytes()).is_ok());
         assert_eq!(receiver.rows_so_far(), rows, "{chunk}");
     }
-    assert_eq!(receiver.feed(b"!65536~"), Err(invalid(MALFORMED)));
+    assert_eq!(receiver.feed(b"!65536~"), Err(failed(invalid(MALFORMED), 7, PAYLOAD_MORE)));
     assert_eq!(receiver.rows_so_far(), 0);
 }
 
@@ -196,7 +204,7 @@ fn rows_are_not_copied() {
 #[test]
 fn nothing_is_open() {
     let mut receiver = SixelReceiver::new();
-    assert_eq!(receiver.feed(b"~"), Err(invalid(STREAM_FAILED)));
+    assert_eq!(receiver.feed(b"~"), Err(failed(invalid(STREAM_FAILED), 0, PAYLOAD_MORE)));
     assert_eq!(receiver.finish(), Err(invalid(STREAM_FAILED)));
     assert_eq!(receiver.size_so_far(), None);
     assert_eq!((receiver.canvas_paints(), receiver.rows_so_far()), (0, 0));
@@ -210,13 +218,16 @@ fn errors_close_the_image() {
     let mut receiver = SixelReceiver::new();
     receiver.set_pixel_limit(10);
     receiver.begin_dcs();
-    assert_eq!(receiver.feed(b"x"), Err(SixelError::NoSixelData));
+    assert_eq!(receiver.feed(b"x"), Err(failed(SixelError::NoSixelData, 1, DCS_MORE)));
     assert!(receiver.is_receiving());
-    assert_eq!(receiver.feed(b"x"), Err(invalid(DCS_STREAM_FAILED)));
+    let ended = failed(invalid(DCS_STREAM_FAILED), 1, Status::Dcs(Dcs::Complete));
+    assert_eq!(receiver.feed(b"\x9cx"), Err(ended));
     assert_eq!(receiver.finish(), Err(invalid(DCS_STREAM_FAILED)));
     assert!(!receiver.is_receiving());
     receiver.begin_dcs();
-    assert_eq!(receiver.feed(b"\x1bPq!2~"), Err(invalid(TOO_LARGE)));
+    assert_eq!(receiver.feed(b"\x1bPq!2~"), Err(failed(invalid(TOO_LARGE), 6, DCS_MORE)));
+    let ended = failed(invalid(DCS_STREAM_FAILED), 1, Status::Dcs(Dcs::Cancelled(0x18)));
+    assert_eq!(receiver.feed_band(b"\x18-"), Err(ended));
     receiver.begin_dcs();
     assert!(receiver.feed(b"\x1bPq~").is_ok());
     assert_eq!(receiver.finish(), Err(invalid(INCOMPLETE)));
@@ -254,7 +265,7 @@ fn lenient_images_ignore_commands() {
     assert_eq!(decoder.decode(b"~!65536~~").unwrap().dimensions(), (3, 6));
     let mut strict = SixelReceiver::new();
     strict.begin_dcs();
-    assert_eq!(strict.feed(b"\x1bPq~!65536~~"), Err(invalid(MALFORMED)));
+    assert_eq!(strict.feed(b"\x1bPq~!65536~~"), Err(failed(invalid(MALFORMED), 12, DCS_MORE)));
 }
 
 #[test]
@@ -263,7 +274,7 @@ fn a_receiver_owns_its_decoder() {
     decoder.set_register(3, [3, 3, 3]);
     std::mem::forget(decoder.begin_dcs());
     let mut receiver = SixelReceiver::with_decoder(decoder);
-    assert_eq!(receiver.feed(b"\x1b"), Err(invalid(STREAM_FAILED)));
+    assert_eq!(receiver.feed(b"\x1b"), Err(failed(invalid(STREAM_FAILED), 0, PAYLOAD_MORE)));
     receiver.begin_dcs();
     assert!(receiver.feed(b"\x1bPq#3;2;100;0;0!500~").is_ok());
     assert!((500..=500 + 1151).contains(&receiver.canvas_paints()));

@@ -141,11 +141,11 @@ fn names_of_our_own() {
     let _: fn(&Image, Colors<'_>, Mapping, Form) -> Answer<String> = Image::encode_with_palette;
     let _: fn(&Image, Colors<'_>, &[u8], Form) -> Answer<String> = Image::encode_indexed;
     let _: fn() -> icy_sixel::SixelReceiver = receiver::SixelReceiver::new;
-    let _: fn(&mut receiver::SixelReceiver, &[u8]) -> Answer<icy_sixel::Received> =
-        receiver::SixelReceiver::feed;
     type Receiver = receiver::SixelReceiver;
+    type Fed<T> = std::result::Result<T, icy_sixel::FailedFeed>;
+    let _: fn(&mut Receiver, &[u8]) -> Fed<icy_sixel::Received> = Receiver::feed;
     type Layout = icy_sixel::RowLayout;
-    let _: fn(&mut Receiver, &[u8]) -> Answer<receiver::ReceivedBand> = Receiver::feed_band;
+    let _: fn(&mut Receiver, &[u8]) -> Fed<receiver::ReceivedBand> = Receiver::feed_band;
     let _: fn(icy_sixel::Status) -> bool = icy_sixel::Status::has_ended;
     let _: fn(&Receiver, usize, usize, Layout, &mut [u8]) -> Answer<()> = Receiver::copy_rows;
     let _: fn(&mut Receiver, usize) -> Answer<()> = Receiver::release_rows;

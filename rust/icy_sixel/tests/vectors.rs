@@ -206,8 +206,9 @@ impl Input {
             Some(settings) => receiver.begin_frame(settings),
             None => receiver.begin_dcs(),
         }
-        let received =
-            feed_all(cut, |chunk| receiver.feed(chunk).map(|fed| (fed.consumed, fed.status)));
+        let received = feed_all(cut, |chunk| {
+            Ok(receiver.feed(chunk).map(|fed| (fed.consumed, fed.status))?)
+        });
         assert_eq!(received, fed);
         assert_eq!(receiver.finish().and_then(ReceivedImage::into_image), outcome);
         assert_eq!(registers(receiver.decoder()), registers(&decoder));

@@ -4,9 +4,9 @@ ghost use Rattle.std.specs.Prelude.{◌≡◌, ◌≤◌, length, take};
 ghost use Rattle.icy_sixel.specs.Bands.{band_of, received_band, IsBandFed};
 ghost use Rattle.icy_sixel.specs.FinalRows.{rows_so_far};
 
-use crate::receiver::{Received, SixelReceiver};
+use crate::receiver::{FailedFeed, Received, SixelReceiver};
 use crate::script::Status;
-use sixel_base::Result;
+use std::result::Result;
 
 /// What a feed of a band did.
 #[derive(Clone, Copy, Debug, PartialEq, Eq)]
@@ -33,13 +33,13 @@ impl SixelReceiver {
     /// all bytes if there is none. So a host can draw each band at once, however long the chunk is.
     /// The status is [`BandStatus::Rows`] if [`rows_so_far`](Self::rows_so_far) has become greater
     /// and the image goes on. The caller feeds the rest of the chunk after the bytes consumed.
-    pub fn feed_band(&mut self, chunk: &[u8]) -> Result<ReceivedBand>
+    pub fn feed_band(&mut self, chunk: &[u8]) -> Result<ReceivedBand, FailedFeed>
         ensures { IsBandFed self.old self.new chunk.now result }
     {
         let before = self.rows_so_far();
         match self.feed(&chunk[..band_len(chunk)]) {
             Ok(received) => Ok(self.received_band(before, received)),
-            Err(error) => Err(error),
+            Err(failed) => Err(failed),
         }
     }
 

@@ -1,6 +1,5 @@
 -- What the header of an image says, by netpbm's pages pam(5), ppm(5) and pgm(5).
-use Rattle.std.specs.Prelude.{ℕ, nat_eq, if◌then◌else◌, List, codes, drop}
-use Rattle.std.specs.Prelude.{Some, Err}
+use Rattle.std.specs.Prelude.{ℕ, nat_eq, if◌then◌else◌, List, codes, drop, Some, Err}
 use Rattle.std.specs.List.{starts_with}
 use Rattle.sixel.specs.declared.netpbm.error.NetpbmError.TheVariants.{Magic}
 use Rattle.sixel.specs.netpbm.Fields.{Read, checked, with_rest}

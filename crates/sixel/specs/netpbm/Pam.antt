@@ -11,7 +11,8 @@ use Rattle.sixel.specs.declared.netpbm.error.NetpbmError.TheVariants.{TupleType 
 use Rattle.sixel.specs.declared.netpbm.error.NetpbmError.TheVariants.{Header as Malformed}
 use Rattle.sixel.specs.declared.netpbm.header.Header.{Header}
 use Rattle.sixel.specs.declared.netpbm.pam.Field.{Field}
-use Rattle.sixel.specs.declared.netpbm.pam.Field.TheVariants.{Width, Height, Depth, Maxval, TupleType}
+use Rattle.sixel.specs.declared.netpbm.pam.Field.TheVariants.{Width, Height, Depth, Maxval}
+use Rattle.sixel.specs.declared.netpbm.pam.Field.TheVariants.{TupleType}
 use Rattle.sixel.specs.declared.netpbm.pam.Fields.{Fields}
 use Rattle.sixel.specs.netpbm.Fields.{Read, checked, with_rest}
 use Rattle.sixel.specs.netpbm.Words.{after_blanks, after_word, number_of, word_of}

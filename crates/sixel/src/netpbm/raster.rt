@@ -2,7 +2,8 @@
 
 ghost use Rattle.std.specs.Prelude.{◌≡◌, ◌≤◌, ◌<◌, ◌*◌, ◌^◌, length, MatchOption, IfErr, IfOk};
 ghost use Rattle.sixel.specs.netpbm.Fields.{IsHeader};
-ghost use Rattle.sixel.specs.netpbm.Raster.{level, pixel_at, pixel_len, pixels_of, raster_len, rgba};
+ghost use Rattle.sixel.specs.netpbm.Raster.{level, pixel_at, pixel_len, pixels_of, raster_len};
+ghost use Rattle.sixel.specs.netpbm.Raster.{rgba};
 
 use crate::netpbm::header::Header;
 use std::alloc::{AllocError, Global};

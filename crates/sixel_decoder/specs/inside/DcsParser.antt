@@ -14,6 +14,7 @@ use Rattle.sixel_decoder.specs.declared.dcs_parser.DcsState.{DcsState}
 use Rattle.sixel_decoder.specs.declared.dcs_parser.DcsState.TheVariants as states
 use Rattle.sixel_decoder.specs.declared.header.Header as headers
 use Rattle.sixel_base.specs.Header.{header_rest, header_text}
+use Rattle.sixel_decoder.specs.ImageEnds.{IsEnd}
 use Rattle.sixel_decoder.specs.Session.{Session}
 use Rattle.sixel_base.specs.Dcs.{Entered, introduced, Stage, Heading, Failing, Reading, stage}
 use Rattle.sixel_base.specs.Dcs.{payload_status, payload_count, dcs_status, dcs_count, dcs_fault}
@@ -41,7 +42,8 @@ HasFollowed states.Start decoder ended bytes = (bytes ≡ []) × (ended ≡ None
 HasFollowed states.Escape decoder ended bytes = (bytes ≡ 27 ∷ []) × (ended ≡ None)
 HasFollowed (states.Header header) decoder ended bytes = IsInHeader header bytes × (ended ≡ None)
 HasFollowed (states.Payload reader) decoder ended bytes = IsInPayload reader decoder ended bytes
-HasFollowed states.Failed decoder ended bytes = Unit {0}
+HasFollowed states.Failed decoder ended bytes =
+    IsEnd (record { is_begun = true; ended = ended }) bytes
 
 -- the payload has not begun
 abbrev pub is_head : {C : Type 0} → DcsState C → Bool

@@ -47,10 +47,11 @@ session_of reader = record {
   released = released_of (parser_of reader.state);
 }
 
--- A parser without an error has read the bytes up to their first terminator.
+-- A parser without an error has read the bytes up to their first terminator, which is known after an
+-- error too.
 abbrev pub HasRead : {C : Type 0} {canvas : Ghosts C} → Option (PayloadParser C canvas) → Origin
     → Option ℕ → List ℕ → Type 0
-HasRead None origin terminator bytes = Unit {0}
+HasRead None origin terminator bytes = first_terminator bytes ≡ terminator
 HasRead (Some parser) origin terminator bytes =
     (first_terminator bytes ≡ terminator)
     × StandsAfter (is_some terminator) origin parser (history_of (front bytes))

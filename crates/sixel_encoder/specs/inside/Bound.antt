@@ -1,8 +1,7 @@
 -- A lower bound of the bytes of a band of the plain text, from the columns before one. It is
 -- internal to the encoder: the text of a drawing defines its output.
-use Rattle.std.specs.Prelude.{◌≡◌, ◌≢◌, ℕ, zero, suc, ◌+◌, ◌-◌, ◌<◌, ◌≤◌}
-use Rattle.std.specs.Prelude.{◌==◌, true, List, length, map}
-use Rattle.std.specs.Prelude.{if◌then◌else◌, slice_index}
+use Rattle.std.specs.Prelude.{◌≡◌, ◌≢◌, ℕ, zero, suc, ◌+◌, ◌-◌, ◌<◌, ◌≤◌, ◌==◌, true, List, length}
+use Rattle.std.specs.Prelude.{map, if◌then◌else◌, slice_index}
 use Rattle.std.specs.List.{range_with_len}
 use Rattle.sixel_encoder.specs.declared.bound.RowRuns.{RowRuns}
 use Rattle.sixel_encoder.specs.RunTokens.{cost, row_tokens, tokens_after}

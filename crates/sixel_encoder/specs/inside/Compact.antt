@@ -8,7 +8,7 @@ use Rattle.sixel_encoder.specs.declared.compact.BandWriter.{BandWriter}
 use Rattle.sixel_encoder.specs.declared.segments.Segment.{Segment}
 use Rattle.sixel_encoder.specs.declared.text.IndexedImage.{IndexedImage}
 use Rattle.sixel_encoder.specs.Compact.{Drawn}
-use Rattle.sixel_encoder.specs.Numbers.{number_of, rank, runs_of}
+use Rattle.sixel_encoder.specs.RegisterOrder.{number_of, rank, runs_of}
 use Rattle.sixel_encoder.specs.Text.{Drawing, entry_at}
 use Rattle.sixel_encoder.specs.inside.Indexed.{IsIndexed, drawing_of}
 

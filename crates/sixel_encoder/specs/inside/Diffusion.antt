@@ -7,9 +7,8 @@ use Rattle.sixel_encoder.specs.declared.indices.diffusion.Neighbors.{Neighbors}
 use Rattle.sixel_encoder.specs.Dithering.{Mapped, HasTarget, before_share, below_share}
 use Rattle.sixel_encoder.specs.Dithering.{column_of_step, error_back, errors_of, next_share}
 use Rattle.sixel_encoder.specs.Dithering.{no_error, passed_on, received, rest_share}
-use Rattle.sixel_encoder.specs.Dithering.{rounded_sixteenths, serpentine}
-use Rattle.sixel_encoder.specs.Dithering.{target_of_visit, visit_error}
-use Rattle.sixel_encoder.specs.Dithering.{with_received}
+use Rattle.sixel_encoder.specs.Dithering.{rounded_sixteenths, serpentine, target_of_visit}
+use Rattle.sixel_encoder.specs.Dithering.{visit_error, with_received}
 
 -- the pixels of the first n visits have their indices
 abbrev pub AreVisited : Mapped → List ℕ → ℕ → Type 0

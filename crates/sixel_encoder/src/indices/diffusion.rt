@@ -10,9 +10,8 @@ ghost use Rattle.sixel_encoder.specs.Dithering.{AreMapped, errors_of, no_error, 
 ghost use Rattle.sixel_encoder.specs.Dithering.{next_share, before_share, below_share, rest_share};
 ghost use Rattle.sixel_encoder.specs.Dithering.{target_of_visit, with_received};
 ghost use Rattle.sixel_encoder.specs.inside.Diffusion.{IsLine, AreReceived, AreVisited, IsVisit};
-ghost use Rattle.sixel_encoder.specs.inside.Diffusion.{AreSixteenths, received_of};
-ghost use Rattle.sixel_encoder.specs.inside.Diffusion.{IsBeyond, color_error, received_limit};
-ghost use Rattle.sixel_encoder.specs.inside.Diffusion.{rounded_color};
+ghost use Rattle.sixel_encoder.specs.inside.Diffusion.{AreSixteenths, received_of, IsBeyond};
+ghost use Rattle.sixel_encoder.specs.inside.Diffusion.{color_error, received_limit, rounded_color};
 ghost use Rattle.sixel_encoder.specs.inside.Mapped.{AreEntries, IsMappable, IsPlace, mapped_value};
 
 use crate::band::is_opaque;

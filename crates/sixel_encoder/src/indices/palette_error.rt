@@ -15,7 +15,7 @@ use sixel_palette::palette::distance::distance;
 #[derive(Clone, Copy)]
 struct PaletteError {
     sum: u128,
-    pixels: u128,
+    pixels: u64,
 }
 
 /// Returns the tolerance for the palette of an image.
@@ -65,11 +65,24 @@ fn palette_error(image: &MappedImage<'_>, nearest: &[u8]) -> PaletteError
 
 impl PaletteError {
     /// Returns the mean squared error of an opaque pixel, rounded down.
+    ///
+    /// It bisects, because a division of 128 bits would call a function that C libraries lack.
     fn mean(&self) -> u32
-        requires { self.now.sum ≤ no_entry * self.now.pixels }
+        requires small { self.now.sum ≤ no_entry * self.now.pixels }
         ensures { result ≡ self.now.sum / max 1 self.now.pixels }
     {
-        (self.sum / self.pixels.max(1)) as u32
+        let pixels = u128::from(self.pixels.max(1));
+        let mut mean = 0;
+        let mut above: u32 = 0x40000;
+        'halves: while above - mean > 1 {
+            let middle = mean + (above - mean) / 2;
+            if u128::from(middle) * pixels <= self.sum {
+                mean = middle;
+            } else {
+                above = middle;
+            }
+        }
+        mean
     }
 }
 

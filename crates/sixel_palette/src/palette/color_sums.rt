@@ -10,9 +10,6 @@ ghost use Rattle.sixel_palette.specs.inside.PaletteCodes.{code_count, color_of};
 
 use crate::palette::register_color::percent_color;
 
-/// The most pixels that an image has.
-pub const AREA_LIMIT: u64 = 67_108_864;
-
 /// The number of some pixels and the sums of their channels.
 #[derive(Clone, Copy)]
 pub struct ColorSums {

@@ -18,7 +18,6 @@ ghost use Rattle.sixel_palette.specs.inside.PaletteCodes.{color_of, IsListed, Ar
 use crate::palette::assignment::{Assignment, assign, summed};
 use crate::palette::bins::{Bin, bins_of};
 use crate::palette::color_counts::{Counts, counts_of};
-use crate::palette::color_sums::AREA_LIMIT;
 use crate::palette::colors::{color_of, shown_codes};
 use crate::palette::distance::distance;
 use crate::palette::farthest_on_top::add_farthest;
@@ -27,6 +26,7 @@ use crate::palette::lloyd::improve;
 use crate::palette::nearest_entry::squared_to_nearest;
 use crate::palette::positions::indices_by;
 use crate::palette::register_color::register_color;
+use sixel_base::limits::MAX_AREA;
 use sixel_base::size::validate_color_count;
 use sixel_base::{Result, SixelError};
 use std::alloc::{AllocError, Global};
@@ -96,7 +96,7 @@ pub fn refine_palette(alloc: Global, pixels: &[u8], max_colors: u16) -> Result<R
         });
     }
     validate_color_count(usize::from(max_colors))?;
-    if pixels.len() / 4 > AREA_LIMIT as usize {
+    if pixels.len() / 4 > MAX_AREA {
         return Err(SixelError::too_large());
     }
     Ok(palette_of(alloc, pixels, usize::from(max_colors))?)

@@ -26,8 +26,8 @@ pub fn percent_color(red: u64, green: u64, blue: u64) -> [u8; 3]
     [percent_byte(red), percent_byte(green), percent_byte(blue)]
 }
 
-/// A channel as a percentage, rounded.
-fn percentage(channel: u8) -> u64
+/// Returns a channel as a percentage, rounded.
+pub fn percentage(channel: u8) -> u64
     ensures value { result ≡ percentage channel }
     ensures small { result ≤ 100 }
 {

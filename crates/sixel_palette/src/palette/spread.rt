@@ -3,12 +3,14 @@
 ghost use Rattle.std.specs.Prelude.{◌≡◌, ◌/◌, ◌<◌, ◌≤◌, ℕ, map, length, IsOk, MatchResult};
 ghost use Rattle.sixel_base.specs.Fault.{IsFault, TooLarge};
 ghost use Rattle.sixel_base.specs.Limits.{area_limit};
-ghost use Rattle.sixel_palette.specs.Spread.{opaque_mean, opaque_sums, spread_channel, spread_color};
+ghost use Rattle.sixel_palette.specs.Spread.{opaque_mean, opaque_sums, spread_channel};
+ghost use Rattle.sixel_palette.specs.Spread.{spread_color};
 ghost use Rattle.sixel_palette.specs.inside.PaletteSums.{total};
 
-use crate::palette::color_sums::{AREA_LIMIT, ColorSums};
+use crate::palette::color_sums::ColorSums;
 use crate::palette::colors::{color_of, shown_code};
 use crate::palette::register_color::register_color;
+use sixel_base::limits::MAX_AREA;
 use sixel_base::{Result, SixelError};
 
 /// Moves the entries of a palette away from the mean color of an image.
@@ -29,7 +31,7 @@ pub fn spread_palette(colors: &mut [[u8; 3]], pixels: &[u8], amount: u8) -> Resu
     ensures spread { length pixels.now / 4 ≤ area_limit
         → colors.new ≡ map (spread_color amount (opaque_mean pixels.now)) colors.old }
 {
-    if pixels.len() / 4 > AREA_LIMIT as usize {
+    if pixels.len() / 4 > MAX_AREA {
         return Err(SixelError::too_large());
     }
     let mean = color_of(opaque_sums(pixels).mean_code());

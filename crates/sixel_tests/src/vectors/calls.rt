@@ -5,7 +5,7 @@ use crate::vectors::notation::{
     bytes, color, push_error, push_fed, push_hexadecimal, push_image, push_outcome,
 };
 use crate::vectors::session::{Owner, Session, begin, check_decoder, clip, settings};
-use icy_sixel::receiver::{Received, SixelReceiver};
+use icy_sixel::receiver::{FailedFeed, Received, SixelReceiver};
 use icy_sixel::{ChannelOrder, ReceivedImage, RowLayout, SixelDecoder, SixelError, SixelImage};
 use std::alloc::Global;
 
@@ -70,6 +70,17 @@ fn push_received(found: &mut String, fed: icy_sixel::Result<Received>) -> Result
     }
 }
 
+/// Writes the result of a feed of a receiver, also of one that failed.
+fn push_counted(found: &mut String, fed: std::result::Result<Received, FailedFeed>) -> Result<()> {
+    match fed {
+        Ok(received) => push_fed(found, received.consumed, received.status),
+        Err(failed) => {
+            push_fed(found, failed.consumed, failed.status)?;
+            Ok(write!(found, ", error: {}", failed.error)?)
+        }
+    }
+}
+
 /// Checks a vector of `receivers.tsv`.
 pub fn write_receiver(alloc: Global, found: &mut String, columns: &[&str]) -> Result<()> {
     let mut receiver = SixelReceiver::with_decoder(SixelReceiver::default().into_decoder());
@@ -95,7 +106,7 @@ fn make_all(
 fn make(alloc: Global, found: &mut String, receiver: &mut SixelReceiver, call: &str) -> Result<()> {
     let (word, argument) = call.split_once(' ').unwrap_or((call, ""));
     match word {
-        "feed" => return push_received(found, receiver.feed(&bytes(alloc, argument)?)),
+        "feed" => return push_counted(found, receiver.feed(&bytes(alloc, argument)?)),
         "try" => return push_tried(found, receiver, &bytes(alloc, argument)?),
         "writes" => return Ok(write!(found, "\t{}", receiver.canvas_writes())?),
         "finish" => return push_finished(alloc, found, receiver.finish()),
@@ -214,7 +225,10 @@ fn push_state(found: &mut String, receiver: &mut SixelReceiver) -> Result<()> {
             let failed = Some(SixelError::InvalidData("stream decoder has failed"));
             let paints = receiver.canvas_paints();
             ensure(size.is_none() && paints == 0, "size or work")?;
-            ensure(receiver.feed(b"~").err() == failed, "feed")?;
+            ensure(
+                receiver.feed(b"~").err().map(SixelError::from) == failed,
+                "feed",
+            )?;
             ensure(receiver.finish().err() == failed, "finish")?;
             found.push_str("\tidle")?;
         }

@@ -192,5 +192,5 @@ fn receive(receiver: &mut SixelReceiver, chunk: &[u8]) -> icy_sixel::Result<Rece
     {
         return Ok(received);
     }
-    receiver.feed(chunk)
+    Ok(receiver.feed(chunk)?)
 }

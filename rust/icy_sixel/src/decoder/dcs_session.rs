@@ -43,7 +43,8 @@ impl<'a> SixelDcsStreamDecoder<'a> {
     /// - those of [`decode_from_dcs`](SixelDecoder::decode_from_dcs) for the payload
     /// - after an error `InvalidData` with `DCS stream decoder has failed`
     pub fn feed(&mut self, chunk: &[u8]) -> Result<SixelDcsFeedResult> {
-        let fed = self.owner.handle().feed(chunk).map_err(error_of)?;
+        let (fed, answer) = self.owner.handle().feed(chunk);
+        answer.map_err(error_of)?;
         Ok(SixelDcsFeedResult { consumed: fed.consumed, status: string_status(fed) })
     }
 

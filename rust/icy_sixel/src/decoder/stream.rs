@@ -34,7 +34,8 @@ impl<'a> SixelStreamDecoder<'a> {
     /// invalid. After an error each later feed returns
     /// [`InvalidData`](crate::SixelError::InvalidData) with `stream decoder has failed`.
     pub fn feed(&mut self, chunk: &[u8]) -> Result<SixelFeedResult> {
-        let fed = self.owner.handle().feed(chunk).map_err(error_of)?;
+        let (fed, answer) = self.owner.handle().feed(chunk);
+        answer.map_err(error_of)?;
         Ok(SixelFeedResult { consumed: fed.consumed, status: payload_status(fed) })
     }
 

@@ -1,6 +1,6 @@
 //! Rows of an open image, copied to a caller's memory in its own layout.
 
-use super::SixelReceiver;
+use super::{FailedFeed, Received, SixelReceiver};
 use crate::codes::{BAD_STRIDE, BUFFER_TOO_SMALL, NO_SESSION, ROWS, ROWS_NOT_FINAL, error_of};
 use crate::error::{Result, SixelError};
 use crate::ffi::BufferLayout;
@@ -56,13 +56,14 @@ impl SixelReceiver {
     /// # Errors
     ///
     /// Those of `feed`.
-    pub fn feed_band(&mut self, chunk: &[u8]) -> Result<ReceivedBand> {
-        let fed = self.decoder.handle().feed_band(chunk).map_err(error_of)?;
-        let status = match fed.status {
-            ROWS => BandStatus::Rows,
-            _ => BandStatus::Image(self.received(fed).status),
-        };
-        Ok(ReceivedBand { consumed: fed.consumed, status })
+    pub fn feed_band(&mut self, chunk: &[u8]) -> std::result::Result<ReceivedBand, FailedFeed> {
+        let (fed, answer) = self.decoder.handle().feed_band(chunk);
+        let Received { consumed, status } = self.received(fed);
+        match answer {
+            Err(code) => Err(FailedFeed { consumed, status, error: error_of(code) }),
+            Ok(()) if fed.status == ROWS => Ok(ReceivedBand { consumed, status: BandStatus::Rows }),
+            Ok(()) => Ok(ReceivedBand { consumed, status: BandStatus::Image(status) }),
+        }
     }
 
     /// Copies final rows of the open image to the caller's memory.

@@ -18,6 +18,10 @@ returns-then-before-rows_so_far-clause-fed c =
         | then-code w ↦ grind arith
         | else-code w ↦ grind arith
       ];
+      failed = λ wrong. elim c.if-code.branch [
+        | then-code w ↦ grind arith
+        | else-code w ↦ grind arith
+      ];
     }
 
 pub returns-else-goes_on-clause-fed : goal.returns-else-goes_on-clause-fed
@@ -34,4 +38,5 @@ returns-else-goes_on-clause-fed c =
         ]
         | else-code w ↦ grind arith
       ];
+      failed = λ wrong. grind arith;
     }

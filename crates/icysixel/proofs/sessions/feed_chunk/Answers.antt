@@ -9,7 +9,7 @@ pub returns-in-Ok : goal.returns-in-Ok
 returns-in-Ok c = grind arith
 
 pub code_of-requires : goal.code_of-requires
-code_of-requires c = received_known c.in-Err.error _ _ _ _ c.in-Err.ensures.error
+code_of-requires c = received_known c.in-Err.field-0.error _ _ _ _ c.in-Err.ensures.error
 
 pub returns-in-Err-clause-fed : goal.returns-in-Err-clause-fed
 returns-in-Err-clause-fed c =
@@ -23,10 +23,13 @@ returns-in-Err-clause-fed c =
       form = grind arith;
       start = grind arith;
       bytes = grind arith;
+      counted = grind arith;
+      within = grind arith;
+      ends = grind arith;
+      ends_by = grind arith;
       accepted = grind arith;
       faultless = grind arith;
       consumed = grind arith;
-      within = grind arith;
       status = grind arith;
       byte = grind arith;
       over = grind arith;
@@ -35,9 +38,9 @@ returns-in-Err-clause-fed c =
       failed = grind arith;
       refused = grind arith;
       refused_for_good = λ settings more form accepted error.
-          told _ _ (read.refused_for_good settings c.in-Err.error more form c.in-Err.is accepted);
+          told _ _ (read.refused_for_good settings c.in-Err.field-0 more form c.in-Err.is accepted);
       string_refused_for_good = λ more form accepted error.
-          told _ _ (read.string_refused_for_good c.in-Err.error more form c.in-Err.is accepted);
+          told _ _ (read.string_refused_for_good c.in-Err.field-0 more form c.in-Err.is accepted);
       again = grind arith;
       released = grind arith;
     }

@@ -1,5 +1,4 @@
-use Rattle.std.proofs.Common.{◌≡◌, sym, subst, ap, refl, Ok, Err, string_bytes}
-use Rattle.std.proofs.Common.{String, length, ◌∙◌}
+use Rattle.std.proofs.Common.{◌≡◌, sym, subst, ap, refl, Ok, Err, string_bytes, String, length, ◌∙◌}
 use Rattle.std.specs.declared.alloc.Global.{Global}
 use Rattle.icy_sixel.specs.ImageView.{image_value}
 use Rattle.sixel.specs.netpbm.Image as files

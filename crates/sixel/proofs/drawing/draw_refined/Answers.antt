@@ -27,5 +27,6 @@ returns c =
     (rw limit at encoded.fault)) in
     let text =
     subst
-    (λ (i : Image). IsSpreadText i max_colors c.args.mapping (string_bytes c.in_ok-text.text)) same (rw limit at encoded.text) in
+    (λ (i : Image). IsSpreadText i max_colors c.args.mapping (string_bytes c.in_ok-text.text)) same
+        (rw limit at encoded.text) in
     (file, c.in_ok-file.ensures, fault, text)

@@ -1,6 +1,5 @@
 -- The path so far and the rest lead to the path of all options.
-use Rattle.std.proofs.Common.{length, None, Option, List, ℕ}
-use Rattle.std.proofs.Common.{option_map}
+use Rattle.std.proofs.Common.{length, None, Option, List, ℕ, option_map}
 use Rattle.sixel.specs.Options.{IsLastPath}
 use Rattle.sixel.specs.Words.{words_of}
 use Rattle.sixel.proofs.palette_file.last_path.Given as goal

@@ -42,7 +42,7 @@ total-fed-requires c =
     omega (
       arith,
       before.within,
-      fed.within,
+      fed.counted.within,
       ap length bytes,
       length-append c.chunks.receiver.image.bytes c.split_chunk.result.0.now,
       begins_fits c.feed.new.self.image.bytes c.args.bytes.now (cut_begins _ _ _ _ cut),
@@ -80,7 +80,7 @@ chunks-preserved c =
             arith,
             all.consumed,
             before.within,
-            s.within,
+            s.counted.within,
             ap length bytes,
             length-append c.chunks.receiver.image.bytes c.split_chunk.result.0.now,
           );

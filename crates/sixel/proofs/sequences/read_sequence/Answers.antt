@@ -44,7 +44,8 @@ same c =
     same_fed _ _ _ (rw c.begin_dcs.ensures.image at s.over) s.chunks.enough
 
 -- and with the rest that followed they make up all bytes
-joined : (c : goal.In_ok-image) (begins : Begins c.feed_chunks.new.receiver.image.bytes c.args.bytes.now)
+joined : (c : goal.In_ok-image) (begins : Begins c.feed_chunks.new.receiver.image.bytes
+    c.args.bytes.now)
     → (if has_ended (dcs_status c.feed_chunks.new.receiver.image.bytes)
     then c.feed_chunks.new.receiver.image.bytes ++ begins.rest
     else c.feed_chunks.new.receiver.image.bytes) ≡ c.args.bytes.now

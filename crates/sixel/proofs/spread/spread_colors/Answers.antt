@@ -12,7 +12,8 @@ returns-then-is_flat-clause-spread c =
       c.in_ok-palette.palette,
       c.in_ok-palette.ensures.refined,
       sym (cond-true _ _ _
-          (ap (λ (b : Bool). nat_eq c.args.amount 0 || b) (sym flat ∙ c.if-is_flat.true) ∙ or-true _)),
+          (ap (λ (b : Bool). nat_eq c.args.amount 0 || b) (sym flat ∙ c.if-is_flat.true)
+              ∙ or-true _)),
     )
 
 pub returns-clause-spread : goal.returns-clause-spread

@@ -1,5 +1,4 @@
-use Rattle.std.proofs.Common.{◌≡◌, ◌+◌, false, cond, length, refl, ap, sym, subst, ◌∙◌}
-use Rattle.std.proofs.Common.{arith}
+use Rattle.std.proofs.Common.{◌≡◌, ◌+◌, false, cond, length, refl, ap, sym, subst, ◌∙◌, arith}
 use Rattle.std.specs.Prelude.{All, Bool, Err, None, Ok, Some}
 use Rattle.std.specs.List.{range_with_len}
 use Rattle.std.proofs.lemmas.List.Folds.{list_any_none}

@@ -19,5 +19,5 @@ run-preserved c =
       run =
           run_join c.args.row.now c.args.at c.run.end (c.run.end + 64) c.args.bits
           (omega (arith, c.run.invariant.some)) (omega arith) c.run.invariant.run
-          (rw count (c.is_block_of.ensures c.if-is_block_of.true));
+          (rw count (c.is_long_run.ensures c.if-is_long_run.true));
     }

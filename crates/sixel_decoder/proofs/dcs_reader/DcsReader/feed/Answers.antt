@@ -1,4 +1,4 @@
-use Rattle.std.proofs.Common.{◌≡◌, ℕ, List, ◌++◌, Result, Err, false, refl, rules}
+use Rattle.std.proofs.Common.{◌≡◌, ◌∙◌, ℕ, List, ◌++◌, Result, Err, false, refl, rules}
 use Rattle.std.specs.Prelude.{Bool, nat_lt, None}
 use Rattle.std.proofs.lemmas.Bool.{false_from_ne_true}
 use Rattle.sixel_base.specs.declared.error.SixelError.{SixelError}
@@ -8,6 +8,7 @@ use Rattle.sixel_base.specs.Fault.{Faults, IsFault, DcsStreamFailed}
 use Rattle.sixel_base.specs.Limits.{Limit}
 use Rattle.sixel_decoder.specs.inside.DcsParser.{is_failed}
 use Rattle.sixel_decoder.specs.inside.DcsReader.{session_of}
+use Rattle.sixel_decoder.proofs.ImageEnds.{end_of, refused_begun}
 use Rattle.sixel_decoder.proofs.Feeds.{string_fed}
 use Rattle.sixel_decoder.proofs.Sessions.{MatchBool-from_each, followed_sound, string_over}
 use Rattle.sixel_decoder.proofs.Sessions.{string_refused_with}
@@ -53,7 +54,7 @@ returns-in-Err g c =
     followed_sound inside.parser.state inside.parser.decoder inside.parser.ended bytes
     c.self.invariant in
     record {
-      start = rw (← c.self.view_is) c.in-Err.ensures.decoder;
+      start = rw (← c.self.view_is) (c.fail.ensures.decoder ∙ c.in-Err.ensures.decoder);
       released = search rules;
       bytes = rw (← c.self.view_is) c.extend.ensures;
       ok = search rules;
@@ -74,4 +75,21 @@ returns-in-Err g c =
     }
 
 pub invariant_of-self-in-Err : goal.invariant_of-self-in-Err
-invariant_of-self-in-Err g c = rw c.fail.ensures tt
+invariant_of-self-in-Err g c =
+    let inside = c.self.inside in
+    let parser = inside.parser in
+    let bytes : List ℕ = inside.log.bytes in
+    let known =
+    end_of parser.state parser.decoder parser.ended bytes c.self.invariant in
+    let told : is_failed parser.state ≡ false → Faults c.in-Err.error
+    (nat_lt (dcs_growths bytes) (dcs_growths (bytes ++ c.args.chunk.now)))
+    (dcs_fault parser.decoder.pixel_limit (bytes ++ c.args.chunk.now)) =
+    λ fine. c.in-Err.ensures.follows bytes fine c.self.invariant in
+    rw (c.fail.ensures.state, c.extend.ensures) (record {
+      begun = refused_begun c.in-Err.error parser.state parser.decoder parser.ended bytes
+          c.args.chunk.now c.self.invariant told;
+      ended = c.fail.ensures.ended bytes (record {
+        begun = (rw (← c.self.view_is) at c.end-is_begun.ensures).begun;
+        ended = c.in-Err.ensures.ended ∙ known.ended;
+      });
+    })

@@ -64,7 +64,7 @@ invariant_of-self-in-Ok g c =
     open_goes_on (Ok c.in-Ok.fed) origin c.in-Reading.parser c.feed.new.self inside.terminator bytes
     c.args.chunk.now
     c.in-None.is read (c.in-Ok.ensures.feeds origin _) in
-    let terminator = c.terminator-self-inside in
+    let terminator = c.terminator-self-inside-in-Ok in
     let same = terminator_same terminator.result _ (sym terminator.ensures ∙ goes.1) in
     rw (c.extend.ensures, same) goes.2
 
@@ -128,4 +128,14 @@ returns-in-Err g c =
     }
 
 pub invariant_of-self-in-Err : goal.invariant_of-self-in-Err
-invariant_of-self-in-Err g c = rw c.fail.ensures tt
+invariant_of-self-in-Err g c =
+    let inside = c.self.inside in
+    let origin : Origin = (session_of inside).origin in
+    let bytes : List ℕ = inside.log.bytes in
+    let read : HasRead (Some c.in-Reading.parser) origin inside.terminator bytes =
+    subst (λ (w : PayloadState _ _). HasRead (parser_of w) origin inside.terminator bytes)
+    c.in-Reading.is c.self.invariant in
+    let passes = c.payload_end-in-Err.ensures.passes bytes (sym (read.0 ∙ c.in-None.is)) in
+    let terminator = c.terminator-self-inside-in-Err in
+    rw (c.fail.ensures, c.extend.ensures)
+    (sym (terminator_same terminator.result _ (sym terminator.ensures ∙ passes.1)))

@@ -1,9 +1,10 @@
-use Rattle.std.proofs.Common.{◌≡◌, ◌≤◌, ◌<◌, ◌+◌, ◌-◌, ◌*◌, length, refl, ap, ◌∙◌, take, drop, arith}
+use Rattle.std.proofs.Common.{◌≡◌, ◌≤◌, ◌<◌, ◌+◌, ◌-◌, ◌*◌, length, refl, ap, ◌∙◌, take, drop}
+use Rattle.std.proofs.Common.{arith}
 use borrow.Rule.Slice.PartMut.{put_mid}
 use Rattle.std.proofs.lemmas.List.{with_items_is}
 use Rattle.sixel_encoder.specs.inside.Grid.{cell, grid_row}
-use Rattle.sixel_encoder.proofs.RowParts.{part-row, All-grid_row, length-part, length-put, cell-put_own}
-use Rattle.sixel_encoder.proofs.RowParts.{cell-put_other}
+use Rattle.sixel_encoder.proofs.RowParts.{part-row, All-grid_row, length-part, length-put}
+use Rattle.sixel_encoder.proofs.RowParts.{cell-put_own, cell-put_other}
 use Rattle.sixel_encoder.proofs.band.BandRows.push_entry.Goals as goal
 
 pub push_sixels-requires-clause-below : goal.push_sixels-requires-clause-below

@@ -7,10 +7,10 @@ use Rattle.sixel_encoder.proofs.band_entries.BandEntries.is_uniform.Goals as goa
 
 pub returns : goal.returns
 returns c = λ all bit lb.
-    let all_set : c.equal_lanes.result % 64 ≡ 63 = grind (arith, nat_tests) in
-    uniform-lanes c.args.self.now c.args.column c.lane-first.result c.equal_lanes.result
+    let all_set : c.lanes_with.result % 64 ≡ 63 = grind (arith, nat_tests) in
+    uniform-lanes c.args.self.now c.args.column c.lane-first.result c.lanes_with.result
     c.requires.entries c.requires.column c.lane-first.ensures
-    (c.equal_lanes.ensures
+    (c.lanes_with.ensures
     ∙ ap
     (λ (lanes : List ℕ).
     mask (λ bit. slice_index lanes (8 * c.args.column + bit) == c.lane-first.result) 8)

@@ -6,7 +6,7 @@ use Rattle.sixel_encoder.proofs.band_entries.BandEntries.sixel.Goals as goal
 
 pub returns : goal.returns
 returns c =
-    c.equal_lanes.ensures
+    c.lanes_with.ensures
     ∙ (ap
     (λ (lanes : List ℕ).
     mask (λ bit. slice_index lanes (8 * c.args.column + bit) == c.args.entry) 8)

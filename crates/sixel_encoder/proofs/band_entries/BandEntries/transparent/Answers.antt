@@ -8,7 +8,7 @@ pub overflow_sub-result : goal.overflow_sub-result
 overflow_sub-result c =
     omega (
       arith,
-      c.equal_lanes.ensures,
+      c.lanes_with.ensures,
       ap (λ (lanes : List ℕ). mask (λ bit. slice_index lanes (8 * c.args.column + bit) == 256) 8)
           c.deref.ensures.value,
       transparent-lanes c.args.self.now c.args.column c.requires.entries c.requires.column,
@@ -18,7 +18,7 @@ pub returns : goal.returns
 returns c =
     omega (
       arith,
-      c.equal_lanes.ensures,
+      c.lanes_with.ensures,
       ap (λ (lanes : List ℕ). mask (λ bit. slice_index lanes (8 * c.args.column + bit) == 256) 8)
           c.deref.ensures.value,
       transparent-lanes c.args.self.now c.args.column c.requires.entries c.requires.column,

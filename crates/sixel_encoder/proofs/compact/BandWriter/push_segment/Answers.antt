@@ -5,7 +5,7 @@ use Rattle.sixel_encoder.specs.Compact.{blocked_sixel, segment_row, start_column
 use Rattle.sixel_encoder.specs.Compact.{to_segment}
 use Rattle.sixel_encoder.specs.Marks.{marks_text}
 use Rattle.sixel_encoder.specs.RunTokens.{row_tokens, written}
-use Rattle.sixel_encoder.specs.Numbers.{number_of}
+use Rattle.sixel_encoder.specs.RegisterOrder.{number_of}
 use Rattle.sixel_encoder.specs.inside.Indexed.{drawing_of}
 use Rattle.sixel_encoder.proofs.CompactSteps.{drawn-made, segment-text}
 use Rattle.sixel_encoder.proofs.compact.BandWriter.push_segment.Goals as goal
@@ -40,7 +40,8 @@ returns-clause-text c =
     (string_bytes c.select.new.text) (string_bytes c.push.new.text)
     c.in_ok-go_to.ensures.text
     (c.in_ok-select.ensures.text
-    ∙ (ap (λ r. string_bytes c.go_to.new.text ++ marks_text (to_register r c.go_to.new.self.register))
+    ∙ (ap (λ r. string_bytes c.go_to.new.text ++ marks_text
+        (to_register r c.go_to.new.self.register))
     each
     ∙ ap (λ r. string_bytes c.go_to.new.text
     ++ marks_text (to_register (number_of drawing segment.entry) r)) c.go_to.ensures.register))
@@ -54,4 +55,5 @@ pub returns-clause-drawn : goal.returns-clause-drawn
 returns-clause-drawn c =
     let segment = c.args.segment.now in
     let each = c.requires.writer.numbered.each segment.entry c.requires.within.known in
-    drawn-made _ _ refl (c.in_ok-select.ensures.register ∙ ap Some each) c.in_ok-push.ensures.blocked
+    drawn-made _ _ refl (c.in_ok-select.ensures.register ∙ ap Some each)
+        c.in_ok-push.ensures.blocked

@@ -1,14 +1,12 @@
 use Rattle.std.proofs.Common.{◌≡◌, ◌+◌, ◌*◌, ◌<◌, ℕ, length, ap, arith, refl, set, subst, sym, ◌∙◌}
-use Rattle.std.specs.Prelude.{◌/◌}
-use Rattle.std.specs.Prelude.{ℕ, length}
+use Rattle.std.specs.Prelude.{◌/◌, ℕ, length}
 use Rattle.std.proofs.lemmas.List.{length-set}
 use Rattle.sixel_palette.specs.Palette.{color_at}
 use Rattle.sixel_encoder.specs.Dithering.{HasTarget, serpentine}
 use Rattle.sixel_encoder.specs.inside.Mapped.{IsIndexAt, IsLater, mapped_value}
 use Rattle.sixel_encoder.proofs.DitheredIndices.{AreEntries-indices, AreEntries-set}
 use Rattle.sixel_encoder.proofs.DitheredIndices.{AreMapped-exact, AreRows-image, HasTarget-more}
-use Rattle.sixel_encoder.proofs.DitheredIndices.{IsLater-indices, IsLater-set}
-use Rattle.sixel_encoder.proofs.DitheredIndices.{row-inside}
+use Rattle.sixel_encoder.proofs.DitheredIndices.{IsLater-indices, IsLater-set, row-inside}
 use Rattle.sixel_encoder.proofs.indices.undithered.keep_entries.Goals as goal
 
 pub loop-row-init : goal.loop-row-init

@@ -8,13 +8,15 @@ use Rattle.sixel_base.specs.declared.error.SixelError.{SixelError}
 use Rattle.sixel_base.specs.Fault.{Faults}
 use Rattle.sixel_base.specs.Payload.{payload_fault, payload_wants}
 use Rattle.icy_sixel.specs.Receiver.{is_open}
+use Rattle.icy_sixel.specs.declared.receiver.FailedFeed.{FailedFeed}
 use Rattle.sixel_examples.proofs.host.Terminal.payload.Goals as goal
 
 pub returns-in_err-feed-clause-refused : goal.returns-in_err-feed-clause-refused
 returns-in_err-feed-clause-refused c =
     let now = c.chunks.invariant in
     let s = c.in_err-feed.ensures in
-    let told : SixelError = c.in_err-feed.field-0.0 in
+    let failed : FailedFeed = c.in_err-feed.field-0.0 in
+    let told : SixelError = failed.error in
     let before : List ℕ = c.chunks.self.receiver.image.bytes in
     let after : List ℕ = c.split_at.result.1.now in
     let fed : List ℕ = c.feed.new.self.image.bytes in
@@ -26,7 +28,7 @@ returns-in_err-feed-clause-refused c =
     let limit = c.args.self.now.receiver.decoder.pixel_limit in
     rw (p.1, p.2)
     (subst (λ (w : List ℕ). Faults told (payload_wants limit w) (payload_fault limit w)) whole
-    (rw now.start at (s.refused_for_good c.args.settings told after now.form refl now.accepted)))
+    (rw now.start at (s.refused_for_good c.args.settings failed after now.form refl now.accepted)))
 
 no_bytes : (bytes : List ℕ) → true ≡ (length bytes == 0) → bytes ≡ []
 no_bytes [] is = refl

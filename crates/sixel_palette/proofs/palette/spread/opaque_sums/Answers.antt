@@ -2,7 +2,8 @@ use Rattle.std.proofs.Common.{ℕ, ap, arith}
 use Rattle.sixel_palette.specs.ColorSums.{share}
 use Rattle.sixel_palette.specs.Refined.{opaque_number, sum_to}
 use Rattle.sixel_palette.specs.inside.PaletteCodes.{color_of}
-use Rattle.sixel_palette.proofs.PaletteCounts.{number-color, number_hidden, number_opaque, sum_to-more}
+use Rattle.sixel_palette.proofs.PaletteCounts.{number-color, number_hidden, number_opaque}
+use Rattle.sixel_palette.proofs.PaletteCounts.{sum_to-more}
 use Rattle.sixel_palette.proofs.palette.spread.opaque_sums.Goals as goal
 use Rattle.sixel_palette.proofs.palette.spread.opaque_sums.Goals.{in-Some, in_default}
 
