@@ -9,8 +9,7 @@ use Rattle.sixel_base.specs.Payload.{Image, image_height, tokens}
 use Rattle.sixel_base.specs.Picture.{picture}
 use Rattle.sixel_base.specs.Stroke.{Origin}
 use Rattle.sixel_base.specs.declared.state.DecoderState.{DecoderState}
-use Rattle.sixel_decoder.specs.FinalRows.{found_pixel}
-use Rattle.sixel_decoder.specs.FinalRows.{payload_final_rows, stage_final_rows}
+use Rattle.sixel_decoder.specs.FinalRows.{found_pixel, payload_final_rows, stage_final_rows}
 use Rattle.sixel_decoder.proofs.Clips.{clipped_picture}
 use Rattle.sixel_decoder.proofs.DcsPayloads.{found_reading}
 use Rattle.sixel_decoder.proofs.FinalRows.{final_rows_stay, final_pixels_stay}

@@ -9,8 +9,7 @@ ghost use Rattle.sixel_base.specs.Color.{default_registers};
 ghost use Rattle.sixel_base.specs.Decoder.{with_clip, with_pixel_limit};
 ghost use Rattle.sixel_base.specs.OneShot.{found, Payload};
 ghost use Rattle.icy_sixel.specs.Receiver.{has_ended};
-ghost use Rattle.icy_sixel.specs.Script.{AreOutcomes, IsOutcome};
-ghost use Rattle.icy_sixel.specs.Script.{IsDecoding, IsSessionOutcome};
+ghost use Rattle.icy_sixel.specs.Script.{AreOutcomes, IsOutcome, IsDecoding, IsSessionOutcome};
 ghost use Rattle.icy_sixel.specs.Script.{frame_meaning, string_meaning};
 
 mod session;

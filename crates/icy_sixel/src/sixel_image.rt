@@ -1,7 +1,6 @@
 //! An image: its pixels, sizes, pixel shape and background.
 
-ghost use Rattle.std.specs.Prelude.{◌≡◌, ℕ, ◌+◌, ◌*◌, ◌<◌, ◌≤◌, ◌↔◌, length};
-ghost use Rattle.std.specs.Prelude.{slice_index, IsTrue};
+ghost use Rattle.std.specs.Prelude.{◌≡◌, ℕ, ◌+◌, ◌*◌, ◌<◌, ◌≤◌, ◌↔◌, length, slice_index, IsTrue};
 ghost use Rattle.std.specs.Prelude.{MatchOption, MatchResult};
 ghost use Rattle.std.specs.Option.{option_or};
 ghost use Rattle.sixel_base.specs.Settings.{pad_of};

@@ -1,6 +1,5 @@
 -- Pixels in RGBA, which are not converted.
-use Rattle.std.proofs.Common.{◌≡◌, ℕ, ◌*◌, List, true, length, refl}
-use Rattle.std.proofs.Common.{sym, ◌∙◌, arith}
+use Rattle.std.proofs.Common.{◌≡◌, ℕ, ◌*◌, List, true, length, refl, sym, ◌∙◌, arith}
 use Rattle.std.proofs.lemmas.Bool.{false≢true}
 use Rattle.std.proofs.lemmas.List.{take_all}
 use Rattle.icysixel.specs.Formats.{is_rgba, pixel_len, rgba_pixels}

@@ -1,7 +1,6 @@
 -- Finishing an image finds no missing command: neither a payload nor a control string that was
 -- begun has this fault.
-use Rattle.std.proofs.Common.{◌≡◌, ◌≢◌, ℕ, ◌+◌, ◌*◌, Bool, true, false}
-use Rattle.std.proofs.Common.{List, [], ◌∷◌, Option, Some}
+use Rattle.std.proofs.Common.{◌≡◌, ◌≢◌, ℕ, ◌+◌, ◌*◌, Bool, true, false, List, [], ◌∷◌, Option, Some}
 use Rattle.std.proofs.Common.{None, refl, ◌∙◌, sym, arith, inl, inr}
 use Rattle.std.specs.Prelude.{IfSome, if◌then◌else◌, nat_lt, ◌||◌}
 use Rattle.std.specs.Option.{option_or}

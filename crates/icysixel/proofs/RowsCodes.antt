@@ -1,6 +1,6 @@
 -- The code of an error about rows and a buffer for them is that of the fault.
 use Rattle.std.proofs.Common.{◌≡◌, ℕ, ◌*◌, Bool, true, false, cond, Option, Some, None, Err}
-use Rattle.std.proofs.Common.{refl, subst, sym, max, arith}
+use Rattle.std.proofs.Common.{refl, subst, sym, max}
 use Rattle.std.specs.Prelude.{nat_lt}
 use Rattle.sixel_base.specs.CallFault.{CallFault, Exactly, IsCallFault, IsVerdict, RowsNotFinal}
 use Rattle.sixel_base.specs.CallFault.{RowsReleased, ShortStride}

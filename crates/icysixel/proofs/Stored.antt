@@ -3,8 +3,7 @@ use Rattle.std.proofs.Common.{◌≡◌, Option, Some, None, Result, Ok, Err, On
 use Rattle.sixel_base.specs.OneShot.{Found, IsFoundImage}
 use Rattle.sixel_base.specs.declared.error.SixelError.{SixelError}
 use Rattle.sixel_base.specs.declared.state.DecoderState.{DecoderState}
-use Rattle.icy_sixel.specs.ReceivedImages.{IsCropped, found_report, left_value}
-use Rattle.icy_sixel.specs.ReceivedImages.{received_report}
+use Rattle.icy_sixel.specs.ReceivedImages.{IsCropped, found_report, left_value, received_report}
 use Rattle.icy_sixel.specs.declared.receiver.received_image.Height.{Height}
 use Rattle.icy_sixel.specs.declared.receiver.received_image.ReceivedImage.{ReceivedImage}
 use Rattle.icysixel.specs.Heights.{IsDecodedWhole, IsEnded}

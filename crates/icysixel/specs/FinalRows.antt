@@ -1,9 +1,8 @@
 -- Rows of pixels in the caller's memory, as C sees them: the layout that C passes, and what the
 -- calls do. The numbers are this library's own, and include/icysixel.h names them. The words for
 -- final rows are those of the receiver.
-use Rattle.std.specs.Prelude.{ℕ, ◌≡◌, ◌≢◌, ◌*◌, ◌/◌, ◌%◌, ◌<◌, ◌==◌, min, if◌then◌else◌}
-use Rattle.std.specs.Prelude.{List, length, slice_index, true, false, Option, Some, None}
-use Rattle.std.specs.Prelude.{unwrap_or}
+use Rattle.std.specs.Prelude.{ℕ, ◌≡◌, ◌≢◌, ◌*◌, ◌/◌, ◌%◌, ◌<◌, ◌==◌, min, if◌then◌else◌, List}
+use Rattle.std.specs.Prelude.{length, slice_index, true, false, Option, Some, None, unwrap_or}
 use Rattle.sixel_base.specs.CallFault.{CallFault, Exactly, RowsNotFinal, RowsReleased}
 use Rattle.sixel_base.specs.declared.error.SixelError.TheVariants.{BufferSizeMismatch}
 use Rattle.icy_sixel.specs.FinalRows.{AreCopied, RowLayout, copy_fault, pixel_so_far}

@@ -3,8 +3,7 @@
 use Rattle.std.specs.Prelude.{ℕ, ◌≡◌, ◌==◌, if◌then◌else◌}
 use Rattle.sixel_base.specs.OneShot.{Found, IsFoundImage}
 use Rattle.sixel_base.specs.declared.state.DecoderState.{DecoderState}
-use Rattle.icy_sixel.specs.ReceivedImages.{IsCropped, found_report, left_value}
-use Rattle.icy_sixel.specs.ReceivedImages.{received_report}
+use Rattle.icy_sixel.specs.ReceivedImages.{IsCropped, found_report, left_value, received_report}
 use Rattle.icy_sixel.specs.declared.receiver.received_image.Height.{Height}
 use Rattle.icy_sixel.specs.declared.receiver.received_image.Height.TheVariants.{Bands, Raster}
 use Rattle.icy_sixel.specs.declared.receiver.received_image.Height.TheVariants.{Drawn}

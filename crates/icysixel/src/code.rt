@@ -4,8 +4,7 @@ ghost use Rattle.std.specs.Prelude.{◌≡◌, ◌≢◌, Bool, Option, Some, co
 ghost use Rattle.sixel_base.specs.CallFault.{CallFault, IsCallFault};
 ghost use Rattle.sixel_base.specs.Fault.{Fault, Faults, IsFault, text_of};
 ghost use Rattle.icysixel.specs.Code.{IsCallCode, IsCodeOf, IsFaultText, IsKnown, IsTold};
-ghost use Rattle.icysixel.specs.Code.{fault_code};
-ghost use Rattle.icysixel.specs.Code.{status_code, status_byte};
+ghost use Rattle.icysixel.specs.Code.{fault_code, status_code, status_byte};
 
 use icy_sixel::script::Status;
 use icy_sixel::{SixelDcsFeedStatus, SixelError, SixelFeedStatus};

@@ -2,8 +2,7 @@
 
 ghost use Rattle.std.specs.Prelude.{◌≡◌};
 ghost use Rattle.icysixel.specs.Encodings.{background_of, color_limit, dither_of, form_of};
-ghost use Rattle.icysixel.specs.Encodings.{format_of, given_colors, mapping_of, mode_of};
-ghost use Rattle.icysixel.specs.Encodings.{ratio_of};
+ghost use Rattle.icysixel.specs.Encodings.{format_of, given_colors, mapping_of, mode_of, ratio_of};
 
 use crate::format::Format;
 use icy_sixel::encoder::{Amplitude, Dither, Mapping, TextForm, Tolerance};

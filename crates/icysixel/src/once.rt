@@ -4,8 +4,7 @@ ghost use Rattle.std.specs.Prelude.{◌≡◌, ◌≢◌, ◌*◌, ◌≤◌, So
 ghost use Rattle.sixel_base.specs.Decoder.{IsSetAs, origin_of};
 ghost use Rattle.sixel_base.specs.OneShot.{AreFoundRegisters, Payload};
 ghost use Rattle.sixel_base.specs.OneShot.{found, found_fault, found_wants};
-ghost use Rattle.sixel_base.specs.Payload.{payload_fault};
-ghost use Rattle.sixel_base.specs.Payload.{payload_registers, payload_wants};
+ghost use Rattle.sixel_base.specs.Payload.{payload_fault, payload_registers, payload_wants};
 ghost use Rattle.icy_sixel.specs.Receiver.{no_image};
 ghost use Rattle.icy_sixel.specs.declared.receiver.received_image.ReceivedImage.{ReceivedImage};
 ghost use Rattle.icysixel.specs.Code.{IsTold, settings_of};

@@ -2,8 +2,7 @@
 
 ghost use Rattle.std.specs.Prelude.{◌≡◌, ◌≢◌, ◌+◌, ◌*◌, ◌≤◌, Some, None, ℕ, true, false, cond};
 ghost use Rattle.icy_sixel.specs.Receiver.{band_columns, drawn_height, in_payload, is_open};
-ghost use Rattle.icy_sixel.specs.Receiver.{most_run_paints, sixels};
-ghost use Rattle.icy_sixel.specs.Receiver.{size as size_of};
+ghost use Rattle.icy_sixel.specs.Receiver.{most_run_paints, sixels, size as size_of};
 ghost use Rattle.icysixel.specs.declared.state.State.{State};
 
 use crate::code::Code;

@@ -4,8 +4,7 @@ ghost use Rattle.std.specs.Prelude.{◌≡◌, ◌≢◌, ◌+◌, ◌/◌, ◌%
 ghost use Rattle.sixel_base.specs.CallFault.{ColorCount, color_count_fault};
 ghost use Rattle.sixel_base.specs.Limits.{area_limit};
 ghost use Rattle.icysixel.specs.Colors.{first_colors};
-ghost use Rattle.icysixel.specs.RefinedOutput.{IsRefinedOutput, IsSameAfter};
-ghost use Rattle.icysixel.specs.RefinedOutput.{refined_room};
+ghost use Rattle.icysixel.specs.RefinedOutput.{IsRefinedOutput, IsSameAfter, refined_room};
 
 use crate::code::{Code, code_of};
 use crate::palette::{buffers_code, write_colors};

@@ -4,8 +4,7 @@ ghost use Rattle.std.specs.Prelude.{◌≡◌, ◌≢◌, Some, None, is_some, t
 ghost use Rattle.sixel_base.specs.Decoder.{new_decoder};
 ghost use Rattle.icy_sixel.specs.Receiver.{OfPayload, OfString, begun, idle, is_open, no_image};
 ghost use Rattle.icysixel.specs.Changes.{IsOpened};
-ghost use Rattle.icysixel.specs.Code.{settings_of};
-ghost use Rattle.icysixel.specs.Code.{status_code as code_of_status};
+ghost use Rattle.icysixel.specs.Code.{settings_of, status_code as code_of_status};
 ghost use Rattle.icysixel.specs.Code.{status_byte as byte_of_status};
 ghost use Rattle.icysixel.specs.Feed.{IsBandFed, IsFed};
 ghost use Rattle.icysixel.specs.declared.state.State.{State};

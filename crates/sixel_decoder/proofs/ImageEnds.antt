@@ -234,7 +234,8 @@ behind_command limit rest (byte ∷ tail) sound =
     (cond q (Begun tail) (cond (is_terminator byte) (Faulty Malformed) (Faulty BadHeader)))) ≡ None
     → Behind (byte ∷ tail) (payload_in (stage_after rest
     (cond q (Begun tail) (cond (is_terminator byte) (Faulty Malformed) (Faulty BadHeader)))))) [
-      | true ↦ λ is fine. behind-cons byte tail tail (grind (arith, nat_tests, is)) (behind-refl tail)
+      | true ↦ λ is fine. behind-cons byte tail tail (grind (arith, nat_tests, is))
+          (behind-refl tail)
       | false ↦ λ is. elim (is_terminator byte) as (λ t. stage_fault limit
           (stage_after rest (cond t (Faulty Malformed) (Faulty BadHeader))) ≡ None
           → Behind (byte ∷ tail)

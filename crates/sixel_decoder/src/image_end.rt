@@ -2,8 +2,7 @@
 //!
 //! Once a feed has failed, the bytes are counted by these functions.
 
-ghost use Rattle.std.specs.Prelude.{◌≡◌, ◌*◌, ◌+◌, ◌≤◌, ◌++◌, List, ℕ, drop, length};
-ghost use Rattle.std.specs.Prelude.{true, false};
+ghost use Rattle.std.specs.Prelude.{◌≡◌, ◌*◌, ◌+◌, ◌≤◌, ◌++◌, List, ℕ, drop, length, true, false};
 ghost use Rattle.sixel_base.specs.Bytes.{count, first_terminator};
 ghost use Rattle.sixel_base.specs.Dcs.{ended_with};
 ghost use Rattle.sixel_base.specs.Status.{status_of};

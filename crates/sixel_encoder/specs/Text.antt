@@ -53,10 +53,6 @@ has_dot row = list_any (λ bits. not (bits == 0)) row
 abbrev pub bands : ℕ → ℕ
 bands height = (height + 5) / 6
 
--- a byte as a percentage
-abbrev pub percentage : ℕ → ℕ
-percentage channel = (channel * 100 + 127) / 255
-
 -- the introducer and the parameters, the third of which is always 0
 abbrev pub parameters_text : Drawing → List ℕ
 parameters_text drawing =

@@ -56,9 +56,8 @@ pub struct ReceivedImage {
 impl ReceivedImage {
     ghost use Rattle.icy_sixel.specs.FinalRows.{IsRowCopy};
     ghost use Rattle.icy_sixel.specs.ReceivedImages.{IsCropped, end_of, is_empty, left_image};
-    ghost use Rattle.icy_sixel.specs.ReceivedImages.{left_value, received_fault};
-    ghost use Rattle.icy_sixel.specs.ReceivedImages.{received_pixel, received_report};
-    ghost use Rattle.icy_sixel.specs.ReceivedImages.{whole_value};
+    ghost use Rattle.icy_sixel.specs.ReceivedImages.{left_value, received_fault, received_pixel};
+    ghost use Rattle.icy_sixel.specs.ReceivedImages.{received_report, whole_value};
 
     /// Creates the image of a decoded payload.
     pub(crate) fn from_picture(picture: DecodedPayload) -> Self

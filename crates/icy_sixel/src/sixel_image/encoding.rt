@@ -25,9 +25,8 @@ impl SixelImage {
     ghost use Rattle.sixel_encoder.specs.Trip.{CanRead, IsOneString, IsReadAs, IsTrip, trip};
     ghost use Rattle.sixel_base.specs.CallFault.{FailsBy};
     ghost use Rattle.sixel_encoder.specs.Encoding.{source_value};
-    ghost use Rattle.sixel_encoder.specs.IndexedDrawing.{IsPaletteText, IsTextOf};
-    ghost use Rattle.sixel_encoder.specs.IndexedDrawing.{indexed_drawing, indexed_fault};
-    ghost use Rattle.sixel_encoder.specs.IndexedDrawing.{palette_fault};
+    ghost use Rattle.sixel_encoder.specs.IndexedDrawing.{IsPaletteText, IsTextOf, indexed_drawing};
+    ghost use Rattle.sixel_encoder.specs.IndexedDrawing.{indexed_fault, palette_fault};
     ghost use Rattle.sixel_encoder.specs.RefinedText.{IsRefinedText};
 
     /// Returns the SIXEL output of this image with the default options.

@@ -47,7 +47,8 @@ session_of reader = record {
   released = released_of (parser_of reader.state);
 }
 
--- A parser without an error has read the bytes up to their first terminator, which is known after an
+-- A parser without an error has read the bytes up to their first terminator, which is known after
+-- an
 -- error too.
 abbrev pub HasRead : {C : Type 0} {canvas : Ghosts C} → Option (PayloadParser C canvas) → Origin
     → Option ℕ → List ℕ → Type 0

@@ -2,8 +2,7 @@ use Rattle.std.proofs.Common.{◌≡◌, ◌∙◌, ℕ, ◌+◌, Bool, true, fa
 use Rattle.std.proofs.Common.{Ok, Some, arith, length, subst, unwrap_or}
 use Rattle.std.specs.Prelude.{nat_lt, if◌then◌else◌}
 use Rattle.sixel_base.specs.CallFault.{CallFault, IsVerdict}
-use Rattle.icy_sixel.specs.FinalRows.{AreCopied, RowLayout, copy_fault, pixel_so_far}
-use Rattle.icy_sixel.specs.FinalRows.{rows_so_far}
+use Rattle.icy_sixel.specs.FinalRows.{AreCopied, RowLayout, copy_fault, pixel_so_far, rows_so_far}
 use Rattle.icy_sixel.specs.Receiver.{Reception, size}
 use Rattle.icy_sixel.specs.ReceiverCalls.{IsSizeSoFar}
 use Rattle.icysixel.specs.FinalRows.{IsRowsVerdict, columns_so_far, layout_of}

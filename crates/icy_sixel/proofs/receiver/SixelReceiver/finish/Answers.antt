@@ -1,6 +1,5 @@
 use Rattle.std.proofs.Common.{◌≡◌, ◌≤◌, ◌*◌, ◌++◌, ℕ, List, None, true, false, ap, min, sym, ◌∙◌}
-use Rattle.std.proofs.Common.{subst, refl}
-use Rattle.std.proofs.Common.{Result, Ok, Err, rules}
+use Rattle.std.proofs.Common.{subst, refl, Result, Ok, Err, rules}
 use Rattle.std.specs.Prelude.{IfOk, if◌then◌else◌}
 use Rattle.sixel_base.specs.declared.error.SixelError.{SixelError}
 use Rattle.sixel_base.specs.Dcs.{dcs_status, has_ended}
