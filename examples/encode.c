@@ -12,7 +12,8 @@ int main(void)
     icysixel handle = {0};
     size_t length = 0;
     icysixel_encoding encoding = {.width = WIDTH, .height = HEIGHT, .max_colors = 16};
-    encoding.dithering = (icysixel_dithering){ICYSIXEL_DITHER_DIFFUSION, 6};
+    encoding.dithering.kind = ICYSIXEL_DITHER_DIFFUSION;
+    encoding.tolerance = ICYSIXEL_AUTO;
     encoding.form = ICYSIXEL_FORM_COMPACT;
     uint32_t code = icysixel_new(&handle);
     if (code == ICYSIXEL_OK)

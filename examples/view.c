@@ -21,9 +21,8 @@
 /* Pixels, if the terminal reports none, and the milliseconds that it has for a reply. */
 enum { SCREEN_WIDTH = 800, LEAST_CELL_HEIGHT = 10, TIMEOUT = 300 };
 
-/* Kinds of dithering, in the order of enum icysixel_dither, and their amounts. */
+/* Kinds of dithering, in the order of enum icysixel_dither. */
 static const char *const kinds[] = {"none", "diffusion", "ordered", NULL};
-static const uint8_t amounts[] = {0, 6, 16, 0};
 
 static icysixel encoder;
 static int colors = 256, kind = ICYSIXEL_DITHER_DIFFUSION, greatest_width;
@@ -68,7 +67,8 @@ static uint32_t write_image(GdkPixbuf *image, int frame)
     encoding.max_colors = (uint16_t)colors;
     encoding.stride = (size_t)gdk_pixbuf_get_rowstride(scaled);
     if (!gdk_pixbuf_get_has_alpha(scaled)) encoding.format = ICYSIXEL_FORMAT_RGB;
-    encoding.dithering = (icysixel_dithering){(uint8_t)kind, amounts[kind]};
+    encoding.dithering.kind = (uint8_t)kind;
+    encoding.tolerance = ICYSIXEL_AUTO;
     encoding.form = ICYSIXEL_FORM_COMPACT;
     size_t length = gdk_pixbuf_get_byte_length(scaled);
     uint32_t code = icysixel_encode_image(&encoder, gdk_pixbuf_read_pixels(scaled), length,

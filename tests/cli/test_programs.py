@@ -56,6 +56,12 @@ GRAYS = [
     ("-d none", [120, 150, 150], [0, 0, 0]),
 ]
 
+# The most colors of a palette, and by how many 32nds its entries are spread for diffusion.
+SPREADS = [(65, 0), (64, 2), (17, 2), (16, 4), (3, 4), (2, 16)]
+# The pixels of a gradient, and as many of one color.
+GRADIENT = [(5 * x, 7 * y, 3 * (x + y)) for y in range(36) for x in range(48)]
+FLAT = [(0, 0, 255)] * len(GRADIENT)
+
 # A folder of files of other programs, with expected.tsv, whose first line has the titles.
 SAMPLES = os.environ.get("SAMPLES")
 # The command that decodes a vector of these settings.
@@ -74,6 +80,21 @@ def outcome(result):
 def written(text):
     """What the program writes of the image that a column spells."""
     return b"image %d %d %d %d\n%s\n" % image_of(text)
+
+
+def registers(text):
+    """The percentages of the registers that SIXEL output defines."""
+    found = re.findall(rb"#\d+;2;(\d+);(\d+);(\d+)", text)
+    return {tuple(int(it) for it in percentages) for percentages in found}
+
+
+def spread(entry, mean, amount):
+    """The percentages of an entry that is moved away from a mean color by 32nds."""
+    channels = [(255 * percentage + 50) // 100 for percentage in entry]
+    moved = [abs(channel - it) * amount // 32 for channel, it in zip(channels, mean)]
+    signed = [-by if channel < it else by for by, channel, it in zip(moved, channels, mean)]
+    limited = [min(max(channel + by, 0), 255) for by, channel in zip(signed, channels)]
+    return tuple((100 * channel + 127) // 255 for channel in limited)
 
 
 class TestPrograms(ProgramTest):
@@ -137,6 +158,20 @@ class TestPrograms(ProgramTest):
                 ]
                 self.assertEqual(ordered[0], ordered[1])
                 self.assertNotEqual(ordered[0], ordered[2])
+
+    def test_spread(self):
+        """Few entries are spread for diffusion, as the model says, but not those of flat art."""
+        mean = [sum(it) // len(GRADIENT) for it in zip(*GRADIENT)]
+        picture = b"P6 48 36 255\n%s" % b"".join(map(bytes, GRADIENT))
+        flat = b"P6 48 72 255\n%s" % b"".join(map(bytes, GRADIENT + FLAT))
+        for program, (count, amount) in itertools.product(builds_of("sixel"), SPREADS):
+            with self.subTest(program=program.name, count=count):
+                entries = registers(self.drawn(program, f"-c {count} -d none", picture))
+                text = self.drawn(program, f"-c {count}", picture)
+                self.assertEqual(registers(text), {spread(it, mean, amount) for it in entries})
+        for program in builds_of("sixel"):
+            entries = registers(self.drawn(program, "-c 16 -d none", flat))
+            self.assertEqual(registers(self.drawn(program, "-c 16", flat)), entries)
 
     def test_files(self):
         """Each file is drawn, also after one that fails. Names follow the options."""

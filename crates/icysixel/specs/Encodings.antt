@@ -39,8 +39,7 @@ use Rattle.icysixel.specs.declared.state.State.{State}
 -- ---- numbers
 
 -- 1 is error diffusion, 2 an ordered pattern, and any other number no dithering. An amount of 0 is
--- 7
--- eighths of the error, or the amplitude of the palette.
+-- 7 eighths of the error, or the amplitude of the palette.
 abbrev pub dither_of : Dithering → Dither
 dither_of dithering =
     if dithering.kind == 1 then Diffusion (if dithering.amount == 0 then 7 else dithering.amount)

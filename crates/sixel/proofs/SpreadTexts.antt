@@ -10,16 +10,16 @@ use Rattle.sixel_palette.specs.declared.palette.refined.RefinedPalette.{RefinedP
 use Rattle.sixel_palette.proofs.PaletteOne.{refined_same}
 use Rattle.sixel_encoder.specs.IndexedDrawing.{IsPaletteText}
 use Rattle.sixel_encoder.specs.RefinedText.{IsRefinedText}
-use Rattle.sixel_encoder.specs.declared.form.TextForm.TheVariants.{Compact}
 use Rattle.sixel_encoder.specs.declared.mapping.Mapping.{Mapping}
+use Rattle.sixel_encoder.specs.declared.form.TextForm.TheVariants.{Compact}
 use Rattle.sixel.specs.Spread.{AreSpread, IsSpreadText, is_flat, spread_amount, spread_entries}
 
 -- the output in a refined palette whose entries stay
 pub IsSpreadText-refined : {S : Type 0} (bytes : S → List ℕ) (result : Result S SixelError)
     (image : Image) (max_colors : ℕ) (mapping : Mapping)
     → ((palette : RefinedPalette) → IsRefined image.pixels max_colors palette
-    → palette.colors.items ≡ spread_entries image.pixels
-        (spread_amount mapping.dither max_colors) palette)
+    → palette.colors.items
+    ≡ spread_entries image.pixels (spread_amount mapping.dither max_colors) palette)
     → IfOk result (λ text. IsRefinedText image max_colors mapping Compact (bytes text))
     → IfOk result (λ text. IsSpreadText image max_colors mapping (bytes text))
 IsSpreadText-refined bytes (Ok text) image max_colors mapping same is =

@@ -27,19 +27,19 @@ is_alike a b =
     && percentage (slice_index a 1) == percentage (slice_index b 1)
     && percentage (slice_index a 2) == percentage (slice_index b 2)
 
--- 1 for an opaque pixel with the very color of its entry, 0 for any other
+-- 1 for an opaque pixel with exactly the color of its entry, 0 for any other
 abbrev pub exact_pixel : List ℕ → List (List ℕ) → List ℕ → ℕ → ℕ
 exact_pixel pixels colors indices pixel =
     if nat_lt (slice_index pixels (4 * pixel + 3)) 128 then 0
     else if is_alike (color_at pixels pixel)
     (slice_index_or colors (slice_index indices pixel) []) then 1 else 0
 
--- Flat art: at least half of the opaque pixels have the very colors of their entries. So have all
--- of them in a palette of all colors.
+-- Flat art: at least half of the opaque pixels have exactly the colors of their entries. In a
+-- palette of all colors all of them have.
 abbrev pub is_flat : List ℕ → List (List ℕ) → List ℕ → Bool
 is_flat pixels colors indices =
     nat_le (opaque_sums pixels 0)
-    (2 * sum_to (exact_pixel pixels colors indices) (length pixels / 4))
+    (4 * sum_to (exact_pixel pixels colors indices) (length pixels / 4))
 
 -- the entries of a palette for these pixels, spread by `amount` 32nds unless they are flat art
 abbrev pub spread_entries : List ℕ → ℕ → RefinedPalette → List (List ℕ)
@@ -54,7 +54,7 @@ AreSpread pixels max_colors amount colors =
     (palette : RefinedPalette) × IsRefined pixels max_colors palette
     × (colors ≡ spread_entries pixels amount palette)
 
--- the bytes are the compact output in the entries, spread for this dithering
+-- the bytes are the compact output in the entries, spread for this kind of dithering
 abbrev pub IsSpreadText : Image → ℕ → Mapping → List ℕ → Type 0
 IsSpreadText image max_colors mapping bytes =
     (colors : List (List ℕ))

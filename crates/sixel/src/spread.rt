@@ -4,8 +4,6 @@ ghost use Rattle.std.specs.Prelude.{◌≡◌, ◌%◌, ◌/◌, ◌<◌, ◌≤
 ghost use Rattle.icy_sixel.specs.ImageView.{image_value};
 ghost use Rattle.sixel_base.specs.CallFault.{FailsBy, color_count_fault};
 ghost use Rattle.sixel_base.specs.Limits.{area_limit};
-ghost use Rattle.sixel_base.specs.Size.{verdict};
-ghost use Rattle.sixel_encoder.specs.Encoding.{image_fault};
 ghost use Rattle.sixel_encoder.specs.IndexedDrawing.{palette_fault};
 ghost use Rattle.sixel_palette.specs.Palette.{AreIndices};
 ghost use Rattle.sixel.specs.Spread.{AreSpread, IsSpreadText, is_alike, is_flat, spread_amount};
@@ -13,7 +11,7 @@ ghost use Rattle.sixel.specs.Spread.{AreSpread, IsSpreadText, is_alike, is_flat,
 use icy_sixel::encoder::{Dither, Mapping};
 use icy_sixel::palette::register_color::percentage;
 use icy_sixel::palette::{refine_palette, spread_palette};
-use icy_sixel::{Result, SixelImage, TextForm, validate_encode_dimensions};
+use icy_sixel::{Mapping, Result, SixelImage, TextForm, validate_encode_dimensions};
 use sixel_base::size::validate_buffer;
 use std::alloc::Global;
 
@@ -34,7 +32,8 @@ pub fn encode_spread(
     if amount == 0 {
         return image.encode_refined(alloc, max_colors, mapping, TextForm::Compact);
     }
-    validate_image(image)?;
+    validate_encode_dimensions(image.width, image.height)?;
+    validate_buffer(image.width, image.height, image.pixels.len())?;
     let colors = spread_colors(alloc, &image.pixels, max_colors, amount)?;
     if colors.is_empty() {
         return image.encode_refined(alloc, max_colors, mapping, TextForm::Compact);
@@ -52,14 +51,6 @@ fn spread_amount(dither: Dither, max_colors: u16) -> u8
         (Dither::Diffusion { .. }, 17..=64) => 2,
         _ => 0,
     }
-}
-
-/// Returns an error unless an image has valid sizes and the bytes for them.
-fn validate_image(image: &SixelImage) -> Result<()>
-    ensures { result ≡ verdict (image_fault (image_value image.now)) }
-{
-    validate_encode_dimensions(image.width, image.height)?;
-    validate_buffer(image.width, image.height, image.pixels.len())
 }
 
 /// The entries of a refined palette, spread unless the image is flat.
@@ -80,7 +71,7 @@ fn spread_colors(alloc: Global, pixels: &[u8], max_colors: u16, amount: u8) -> R
     Ok(palette.colors)
 }
 
-/// Returns whether at least half of the opaque pixels have the very colors of their entries.
+/// Returns whether at least a quarter of the opaque pixels have exactly the colors of their entries.
 fn is_flat(pixels: &[u8], colors: &[[u8; 3]], indices: &[u8]) -> bool
     requires { AreIndices pixels.now colors.now indices.now }
     ensures { result ≡ is_flat pixels.now colors.now indices.now }
@@ -95,7 +86,7 @@ fn is_flat(pixels: &[u8], colors: &[[u8; 3]], indices: &[u8]) -> bool
             exact += usize::from(is_alike(color, colors[usize::from(indices[pixel])]));
         }
     }
-    opaque <= 2 * exact
+    opaque <= 4 * exact
 }
 
 /// Returns whether a register shows one color for both.

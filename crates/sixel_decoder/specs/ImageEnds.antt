@@ -1,9 +1,7 @@
 -- Which bytes belong to an image, whatever faults they have, and how it has ended. A payload has
--- the
--- bytes before its first terminator. No byte of an introducer or a header is a terminator, apart
--- from
--- the first one. So a DCS sequence has its first byte, and those that a payload of the bytes after
--- it has, with its end. From DEC's device control strings.
+-- the bytes before its first terminator. No byte of an introducer or a header is a terminator,
+-- apart from the first one. So a DCS sequence has its first byte, and those that a payload of the
+-- bytes after it has, with its end. From DEC's device control strings.
 use Rattle.std.specs.Prelude.{ℕ, ◌≡◌, ◌+◌, ◌-◌, ◌≤◌, ◌==◌, ◌||◌, nat_lt, if◌then◌else◌}
 use Rattle.std.specs.Prelude.{List, [], ◌∷◌, ◌++◌, length}
 use Rattle.sixel_base.specs.Bytes.{count, first_terminator}

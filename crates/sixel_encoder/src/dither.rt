@@ -1,10 +1,6 @@
 //! How the colors of pixels are replaced by the entries of a palette.
 
 /// Which color a pixel's entry is chosen for: its target.
-///
-/// ```rust
-/// let dither = Dither::Diffusion { strength: 8 };
-/// ```
 #[derive(Debug, Clone, Copy, PartialEq, Eq)]
 pub enum Dither {
     /// The target of a pixel is its color.

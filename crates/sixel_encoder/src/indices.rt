@@ -48,7 +48,10 @@ use std::alloc::{AllocError, Global};
 /// receives nor passes on a difference.
 ///
 /// ```rust
-/// let mapping = Mapping { dither: Dither::Off, tolerance: Tolerance::Squared(0) };
+/// let mapping = Mapping {
+///     dither: Dither::Off,
+///     tolerance: Tolerance::Squared(0),
+/// };
 /// let indices = palette_indices(alloc, &image.pixels, image.width, colors, mapping)?;
 /// ```
 ///

@@ -90,8 +90,10 @@ impl SixelImage {
     /// The palette may be fixed, shared by the frames of an animation, or from another quantizer.
     ///
     /// ```rust
-    /// let dither = Dither::Diffusion { strength: 8 };
-    /// let mapping = Mapping { dither, tolerance: Tolerance::Auto };
+    /// let mapping = Mapping {
+    ///     dither: Dither::Diffusion { strength: 8 },
+    ///     tolerance: Tolerance::Squared(0),
+    /// };
     /// image.encode_with_palette(alloc, colors, mapping, TextForm::Compact)
     /// ```
     ///
@@ -128,7 +130,10 @@ impl SixelImage {
     /// effect, and neither have the colors of pixels.
     ///
     /// ```rust
-    /// let mapping = Mapping { dither: Dither::Off, tolerance: Tolerance::Squared(0) };
+    /// let mapping = Mapping {
+    ///     dither: Dither::Off,
+    ///     tolerance: Tolerance::Squared(0),
+    /// };
     /// let indices = palette_indices(alloc, &image.pixels, image.width, colors, mapping)?;
     /// image.encode_indexed(alloc, colors, &indices, TextForm::Plain)
     /// ```
@@ -165,8 +170,10 @@ impl SixelImage {
     /// transparent pixels never affect the output.
     ///
     /// ```rust
-    /// let dither = Dither::Diffusion { strength: 7 };
-    /// let mapping = Mapping { dither, tolerance: Tolerance::Auto };
+    /// let mapping = Mapping {
+    ///     dither: Dither::Diffusion { strength: 7 },
+    ///     tolerance: Tolerance::Auto,
+    /// };
     /// image.encode_refined(alloc, 16, mapping, TextForm::Compact)
     /// ```
     ///

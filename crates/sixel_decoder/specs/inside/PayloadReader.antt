@@ -48,8 +48,7 @@ session_of reader = record {
 }
 
 -- A parser without an error has read the bytes up to their first terminator, which is known after
--- an
--- error too.
+-- an error too.
 abbrev pub HasRead : {C : Type 0} {canvas : Ghosts C} → Option (PayloadParser C canvas) → Origin
     → Option ℕ → List ℕ → Type 0
 HasRead None origin terminator bytes = first_terminator bytes ≡ terminator

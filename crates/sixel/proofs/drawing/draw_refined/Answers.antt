@@ -28,5 +28,5 @@ returns c =
     let text =
     subst
     (λ (i : Image). IsSpreadText i max_colors c.args.mapping (string_bytes c.in_ok-text.text)) same
-        (rw limit at encoded.text) in
+    (rw limit at encoded.text) in
     (file, c.in_ok-file.ensures, fault, text)
