@@ -2,9 +2,9 @@
  *
  * A FILE of a DCS sequence is decoded, fed in chunks of CHUNK bytes or as one. A FILE of raw
  * pixels, named FILE:WIDTHxHEIGHT, is encoded. With the KIND `compact` the output has the compact
- * form, with `refined` a refined palette, and with `diffused` it is diffused in such a palette. The
- * line has `decode` or `encode`, nanoseconds per pixel of the best turn and of the median, and the
- * bytes of the SIXEL output. */
+ * form, with `refined` a refined palette, and with `diffused` it is diffused in such a palette by
+ * the automatic strength and tolerance. The line has `decode` or `encode`, nanoseconds per pixel of
+ * the best turn and of the median, and the bytes of the SIXEL output. */
 #define _POSIX_C_SOURCE 200809L
 #include "timing.h"
 #include "want.h"
@@ -32,8 +32,10 @@ static icysixel_encoding encoding_of(const char *kind)
     if (strcmp(kind, "compact") == 0) it.form = ICYSIXEL_FORM_COMPACT;
     if (strcmp(kind, "refined") == 0 || strcmp(kind, "diffused") == 0)
         it.palette = ICYSIXEL_PALETTE_REFINED;
-    if (strcmp(kind, "diffused") == 0)
-        it.dithering = (icysixel_dithering){ICYSIXEL_DITHER_DIFFUSION, 6};
+    if (strcmp(kind, "diffused") == 0) {
+        it.dithering.kind = ICYSIXEL_DITHER_DIFFUSION;
+        it.tolerance = ICYSIXEL_AUTO;
+    }
     return it;
 }
 

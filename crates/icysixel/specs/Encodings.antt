@@ -45,7 +45,7 @@ dither_of dithering =
     if dithering.kind == 1 then Diffusion (if dithering.amount == 0 then 7 else dithering.amount)
     else if dithering.kind == 2
     then Ordered (if dithering.amount == 0 then amplitude.Auto else amplitude.Levels
-        dithering.amount)
+    dithering.amount)
     else Off
 
 -- the greatest tolerance stands for the automatic one

@@ -111,7 +111,7 @@ pub finishes_faultless : (limit : Limit) (bytes : List ℕ) → end_fault limit 
     → can_finish limit bytes ≡ true
 finishes_faultless limit bytes =
     elim (can_finish limit bytes) as (λ t. (if t then None else Some Incomplete) ≡ None → t
-        ≡ true) [
+    ≡ true) [
       | true ↦ λ none. refl
       | false ↦ λ none. absurd (none-some _ (sym none))
     ]

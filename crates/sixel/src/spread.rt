@@ -11,7 +11,7 @@ ghost use Rattle.sixel.specs.Spread.{AreSpread, IsSpreadText, is_alike, is_flat,
 use icy_sixel::encoder::{Dither, Mapping};
 use icy_sixel::palette::register_color::percentage;
 use icy_sixel::palette::{refine_palette, spread_palette};
-use icy_sixel::{Mapping, Result, SixelImage, TextForm, validate_encode_dimensions};
+use icy_sixel::{Result, SixelImage, TextForm, validate_encode_dimensions};
 use sixel_base::size::validate_buffer;
 use std::alloc::Global;
 
@@ -71,7 +71,7 @@ fn spread_colors(alloc: Global, pixels: &[u8], max_colors: u16, amount: u8) -> R
     Ok(palette.colors)
 }
 
-/// Returns whether at least a quarter of the opaque pixels have exactly the colors of their entries.
+/// Returns whether at least a quarter of the opaque pixels match their entries exactly.
 fn is_flat(pixels: &[u8], colors: &[[u8; 3]], indices: &[u8]) -> bool
     requires { AreIndices pixels.now colors.now indices.now }
     ensures { result ≡ is_flat pixels.now colors.now indices.now }

@@ -328,4 +328,3 @@ copied_more px new part mid next held wide row extra background more long joined
           ]
           )
     ]
-

@@ -182,7 +182,7 @@ above_handed released top gone old new cell row le is = elim (cases_lt row relea
         let down : row - released - (top - released) ≡ row - top = omega (arith, le, below) in
         rw (le-ltb row released later, le-ltb row top below)
         (is ∙ rw (le-ltb (row - released) (top - released) (omega (arith, le, below)))
-            (ap cell down))
+        (ap cell down))
   ]
 ]
 

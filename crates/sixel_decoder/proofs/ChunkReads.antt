@@ -82,4 +82,3 @@ pub growths-fold : (h : History) (bytes : List ℕ)
     → growths (closed h) ≤ growths (closed (fold read h bytes))
 growths-fold h [] = omega arith
 growths-fold h (byte ∷ bytes) = omega (arith, growths-read h byte, growths-fold (read h byte) bytes)
-

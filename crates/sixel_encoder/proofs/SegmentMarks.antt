@@ -197,7 +197,7 @@ Leads-row drawing band drawn segment segments pen place are lower used left at =
     above = λ column line entry lc over e.
         keep column line (is_lit row pen.column (6 * pen.band) column line) refl
         (λ lit. let it = (lit-here column line lit).inside in absurd
-            (omega (arith, it.since, over)))
+        (omega (arith, it.since, over)))
         (at.above column line entry lc over e);
     here = λ column line entry lc inside e bit.
         draws column line entry lc inside e bit

@@ -142,7 +142,7 @@ band_marks drawing band register =
 abbrev pub band_register : Drawing → ℕ → Option ℕ → Option ℕ
 band_register drawing band register =
     (drawn_by drawing band (nothing_of drawing band register)
-        (drawn_segments drawing band)).register
+    (drawn_segments drawing band)).register
 
 -- the register that is selected after n bands
 unfoldable pub register_after : Drawing → ℕ → Option ℕ

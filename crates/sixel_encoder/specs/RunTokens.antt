@@ -50,7 +50,7 @@ rest_tokens count bits = if nat_lt 3 count then Many count bits ∷ [] else repl
 abbrev pub run_tokens : ℕ → ℕ → List RunToken
 run_tokens count bits =
     replicate (count / repeat_limit) (Many repeat_limit bits) ++ rest_tokens
-        (count % repeat_limit) bits
+    (count % repeat_limit) bits
 
 -- the tokens of a run so far and of the row after it
 abbrev pub tokens_after : ℕ → ℕ → List ℕ → List RunToken

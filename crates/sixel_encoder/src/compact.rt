@@ -14,9 +14,9 @@ ghost use Rattle.sixel_encoder.specs.inside.Indexed.{IsIndexed, drawing_of};
 
 use crate::band_entries::BandEntries;
 use crate::bound::least_bytes;
-use crate::register_order::{count_runs, number_entries, push_numbered};
 use crate::pen::Pen;
 use crate::pixels::used_bands;
+use crate::register_order::{count_runs, number_entries, push_numbered};
 use crate::segment_rows::SegmentRows;
 use crate::segments::{Segment, drawn_segments};
 use crate::text::{IndexedImage, encode_below, push_parameters, push_raster};

@@ -285,7 +285,7 @@ counted_more step codes counts n contains k =
     let color = color_of (get_or codes n 0) in
     let f : ℕ → ℕ = λ i. get_or counts i 0
     * cond (contains (corner step (color_of (get_or codes i 0))))
-        (share k (color_of (get_or codes i 0))) 0 in
+    (share k (color_of (get_or codes i 0))) 0 in
     sum_to-more f n
     ∙ ap (λ m. sum_to f n + m)
     (sym (cond_times (contains (corner step color)) (get_or counts n 0) (share k color)))

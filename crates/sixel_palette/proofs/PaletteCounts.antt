@@ -316,7 +316,7 @@ dot-sum f (code ∷ codes) (x ∷ counts) e =
 -- the sum of the products is one over the pixels of the codes
 pub dot-counted : (number : List ℕ → ℕ) (codes counts : List ℕ) → length counts ≡ length codes
     → dot counts (map (λ code. number (color_of code)) codes)
-        ≡ (counted_pixels codes counts).sum number
+    ≡ (counted_pixels codes counts).sum number
 dot-counted number codes counts e = dot-sum (λ code. number (color_of code)) codes counts e
 
 -- the pixels of the codes are the opaque pixels

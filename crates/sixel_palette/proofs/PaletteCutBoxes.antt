@@ -188,7 +188,7 @@ boxes_cut pixels old new boxes model p whole first second h within own parts =
     rw (start_own, end_own) at (h.bins_of p whole within) in
     let range_own = h.ranges p whole within in
     let at_p : (d : ColorBox) → get_or all p d
-        ≡ first = λ d. cut_first boxes p first second d within in
+    ≡ first = λ d. cut_first boxes p first second d within in
     let at_n : (d : ColorBox) → get_or all n d ≡ second = λ d.
     cut_last boxes p first second d n refl in
     let at : (d : ColorBox) (k : ℕ) → k < n → k ≢ p → get_or all k d ≡ get_or boxes k d = λ d k l e.
@@ -336,4 +336,3 @@ boxes_cut pixels old new boxes model p whole first second h within own parts =
           (rw (← parts.middle, parts.end) at second_bins)))
           k (omega (arith, l, cut_length boxes p first second));
     }
-

@@ -288,7 +288,7 @@ pub no_gain_above : (pixels : Pixels) (box : Box) (bins : List Bin) (channel : C
     → sides.high ≤ value → cut_gain pixels box channel value ≡ 0
 no_gain_above pixels box bins channel sides value are within l =
     gain-none (box_sums pixels (below box channel value))
-        (box_sums pixels (above box channel value))
+    (box_sums pixels (above box channel value))
     (inr
     (sums_above pixels box bins channel value 0 are
     ∙ none_above channel sides bins value (λ b. total b.sums 0) within l))

@@ -170,7 +170,7 @@ improved_kept codes counts entries moved same is l =
     let here = error_counted entries codes counts same in
     let there = error_counted moved codes counts same ∙ ap (λ m. pixels.sum (nearest m)) is in
     let less : pixels.sum (nearest entries) ≤ pixels.sum
-        (nearest twice) = omega (arith, here, there, l) in
+    (nearest twice) = omega (arith, here, there, l) in
     let test : nat_le (pixels.sum (nearest entries)) (pixels.sum (nearest twice)) ≡ true =
     grind (arith, nat_tests, less) in
     sym (ap (λ t. cond t entries twice) test)
@@ -187,7 +187,7 @@ improved_taken codes counts entries moved same is l =
     let here = error_counted entries codes counts same in
     let there = error_counted moved codes counts same ∙ ap (λ m. pixels.sum (nearest m)) is in
     let more : pixels.sum (nearest twice) < pixels.sum
-        (nearest entries) = omega (arith, here, there, l) in
+    (nearest entries) = omega (arith, here, there, l) in
     let test : nat_le (pixels.sum (nearest entries)) (pixels.sum (nearest twice)) ≡ false =
     grind (arith, nat_tests, more) in
     is ∙ sym (ap (λ t. cond t entries twice) test)

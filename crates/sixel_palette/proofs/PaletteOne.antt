@@ -166,7 +166,7 @@ refined_same p q max_colors x y bytes to from same f g =
       tops_same (IsShown p) (IsShown q) to from color max_colors f.base x.colors.items
           y.colors.items x.witnesses.items y.witnesses.items f.top
           (subst (λ b. AreOnTop (IsShown q) max_colors b y.colors.items y.witnesses.items)
-              (sym base)
+          (sym base)
           g.top)
           f.few g.few,
     ))

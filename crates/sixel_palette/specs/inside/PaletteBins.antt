@@ -13,8 +13,7 @@ abbrev pub cell : List ℕ → ℕ
 cell corner = slice_index corner 1 * 64 + slice_index corner 2
 
 -- the corners differ, reds do not fall and are at most this one, and the table finds the last
--- corner
--- with a green and a blue
+-- corner with a green and a blue
 pub record IsTable (corners : List (List ℕ)) (positions : List ℕ) (red : ℕ) : Type 0 where
   pub small : (k : ℕ) → k < length corners
       → (slice_index (slice_index_or corners k []) 1 < 64)
@@ -30,5 +29,5 @@ pub record IsTable (corners : List (List ℕ)) (positions : List ℕ) (red : ℕ
       → slice_index positions (cell (slice_index_or corners k [])) < length corners
   pub found : (k : ℕ) → k < length corners
       → cell (slice_index_or corners (slice_index positions
-          (cell (slice_index_or corners k []))) [])
+      (cell (slice_index_or corners k []))) [])
       ≡ cell (slice_index_or corners k [])

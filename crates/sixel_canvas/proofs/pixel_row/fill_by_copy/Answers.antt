@@ -6,7 +6,7 @@ pub returns-clause-filled : goal.returns-clause-filled
 returns-clause-filled c = λ color has d i.
     let source = c.args.source in
     let count : source + (c.args.to - c.args.from) - source ≡ c.args.to
-        - c.args.from = omega arith in
+    - c.args.from = omega arith in
     rw (c.split_at_mut-front.ensures.front, c.split_at_mut-front.ensures.back)
     (copied_filled c.args.pixels.now c.copy_from_slice.new.self source c.args.from c.args.to
     color d i c.requires.ordered c.requires.within c.requires.before has

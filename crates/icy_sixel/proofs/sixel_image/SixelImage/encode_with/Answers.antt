@@ -60,7 +60,7 @@ pub returns-clause-read_back : goal.returns-clause-read_back
 returns-clause-read_back c = λ decoder reads.
     read_back-written Plain string_bytes c.encode_source.result decoder
     (image_value c.args.self.now) c.args.options.now.max_colors (told c).refused (told c).bytes_of
-        (told c).text reads
+    (told c).text reads
 
 pub returns-clause-again : goal.returns-clause-again
 returns-clause-again c = λ decoder reads of clear.

@@ -12,7 +12,7 @@ returns-clause-shown c = λ column row.
     let count = c.saturating_sub-count.result in
     c.free_unused.ensures.shown column row
     ∙ ap (λ pixel. if nat_lt row all.top then pixel else tagged_cell all.band column
-        (row - all.top))
+    (row - all.top))
     (above_released all.gone.rows c.extend.new.self.rows all.rows c.remove.new.self all.released
     (all.released + count) count c.remove.ensures.sound c.self.invariant.logged refl
     c.remove.ensures.background c.extend.ensures.rows c.remove.ensures.shown column row)

@@ -24,7 +24,7 @@ returns-clause-drawn c = λ column row.
     ∙ c.in_ok-hold.ensures.shown column row in
     let top = ap (λ (s : BandCanvasState). s.top) c.self.view_is ∙ c.in_ok-hold.ensures.top in
     canvas_over (nat_le from column) (nat_lt column to) bits all.top row
-        (above_band state column row)
+    (above_band state column row)
     (tagged_cell all.band column (row - all.top))
     (tagged_cell c.draw.new.self column (row - all.top)) color
     (c.draw.ensures.drawn column (row - all.top))

@@ -15,8 +15,15 @@ returns c = λ bytes is.
       | then-self w ↦
           grind (arith, nat_tests, is.begun, w.if-self.true, w.self-is, length-append bytes chunk)
       | else-self w ↦
-          grind (arith, nat_tests, is.begun, w.self-is, w.is_empty.ensures, length-append
-              bytes chunk)
+          grind (
+            arith,
+            nat_tests,
+            is.begun,
+            w.self-is,
+            w.is_empty.ensures,
+            length-append
+                bytes chunk,
+          )
     ] in
     extends _ bytes chunk _ c.add_inside-fed.result start.within
     (λ some. start.later (is.begun ∙ some)) (λ none. start.first (is.begun ∙ none))

@@ -35,7 +35,7 @@ returns-then-takes-clause-stands g c = λ taken o h stands.
     let goes : goes_on h c.args.byte ≡ true =
     sym (c.takes.ensures.takes o h stands) ∙ c.if-takes.true in
     stands_goes_on c.args.self.now.command o h c.args.self.now c.push_digit.new.self
-        c.args.byte goes
+    c.args.byte goes
     stands c.push_digit.ensures
 
 pub returns-clause-stands : goal.returns-clause-stands

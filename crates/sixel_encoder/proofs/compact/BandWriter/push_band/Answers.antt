@@ -64,7 +64,7 @@ returns-clause-register c =
     let items = c.deref-segment-items.result.now in
     let drawn = rw (c.read.ensures.image, c.read.ensures.band) at c.in_ok-segments.ensures in
     let all : length items ≤ c.loop-segment.segment-index =
-        omega (arith, c.loop-segment-test.false) in
+    omega (arith, c.loop-segment-test.false) in
     band-selected drawing band c.args.self.now.pen.register _
     (drawn_so_far c.loop-segment.self) items
     (drawn-made _ (nothing_of drawing band c.args.self.now.pen.register)
@@ -81,7 +81,7 @@ returns-clause-text c =
     let items = c.deref-segment-items.result.now in
     let drawn = rw (c.read.ensures.image, c.read.ensures.band) at c.in_ok-segments.ensures in
     let all : length items ≤ c.loop-segment.segment-index =
-        omega (arith, c.loop-segment-test.false) in
+    omega (arith, c.loop-segment-test.false) in
     band-text drawing band c.args.self.now.pen.register _ items
     (string_bytes c.args.text.now) (string_bytes c.begin_band.new.text)
     (string_bytes c.loop-segment.text)

@@ -41,7 +41,7 @@ returns-clause-text c =
     c.in_ok-go_to.ensures.text
     (c.in_ok-select.ensures.text
     ∙ (ap (λ r. string_bytes c.go_to.new.text ++ marks_text
-        (to_register r c.go_to.new.self.register))
+    (to_register r c.go_to.new.self.register))
     each
     ∙ ap (λ r. string_bytes c.go_to.new.text
     ++ marks_text (to_register (number_of drawing segment.entry) r)) c.go_to.ensures.register))
@@ -56,4 +56,4 @@ returns-clause-drawn c =
     let segment = c.args.segment.now in
     let each = c.requires.writer.numbered.each segment.entry c.requires.within.known in
     drawn-made _ _ refl (c.in_ok-select.ensures.register ∙ ap Some each)
-        c.in_ok-push.ensures.blocked
+    c.in_ok-push.ensures.blocked

@@ -18,14 +18,18 @@ returns-then-is_corner-clause-sums c = λ contains k.
     let bins = c.args.bins.now.items in
     let place = get_or c.args.positions.now (c.from.result * 64 + c.from-2.result) 0 in
     let old = c.index_mut.result.now in
-    let within : place < length bins = omega (arith, c.if-position-len.true, c.len.ensures,
-        c.args.bins.now.ok.0) in
+    let within : place < length bins = omega (
+      arith,
+      c.if-position-len.true,
+      c.len.ensures,
+      c.args.bins.now.ok.0,
+    ) in
     let first : c.index.result.now ≡ old =
     c.index.ensures ∙ get_or_default bins place c.index.result.now old within
     ∙ sym c.index_mut.ensures.value in
     let second : c.index-then-is_corner.result.now ≡ old =
     c.index-then-is_corner.ensures ∙ get_or_default bins place c.index-then-is_corner.result.now
-        old within
+    old within
     ∙ sym c.index_mut.ensures.value in
     sums_more bins place old (record { corner = old.corner; sums = c.plus.result }) c.args.sums
     (corner 4 c.args.color) within c.index_mut.ensures.value
@@ -44,7 +48,7 @@ returns-then-is_corner-clause-table c = λ red l h.
     let same : corners_of (set bins place (record { corner = old.corner; sums = c.plus.result }))
     ≡ corners_of bins =
     map-set_same (λ (b : Bin). b.corner) bins place
-        (record { corner = old.corner; sums = c.plus.result }) old
+    (record { corner = old.corner; sums = c.plus.result }) old
     (ap (λ (b : Bin). b.corner) c.index_mut.ensures.value) in
     rw same h
 
@@ -70,8 +74,14 @@ returns-clause-table c = λ red l h.
           ∙ ap (λ (b : Bin). b.corner) (sym w.index.ensures) in
           rw here (sym w.is_corner.ensures ∙ w.if-is_corner.false)
       | else-position-len-via-else-position-len w ↦ λ inside.
-          absurd (omega (arith, inside, size, w.if-position-len.false, c.len.ensures,
-              c.args.bins.now.ok.0))
+          absurd (omega (
+            arith,
+            inside,
+            size,
+            w.if-position-len.false,
+            c.len.ensures,
+            c.args.bins.now.ok.0,
+          ))
     ]) in
     rw (
       c.in_ok-push.ensures.items,
@@ -80,6 +90,6 @@ returns-clause-table c = λ red l h.
       long,
     )
     (table_more (corners_of bins) positions color red c.requires.table h l (omega arith)
-        (omega arith)
+    (omega arith)
     (not_found (corners_of bins) positions color c.requires.table (omega arith) miss)
     (omega (arith, c.requires.positions)))

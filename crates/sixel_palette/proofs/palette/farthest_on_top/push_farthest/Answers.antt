@@ -52,11 +52,14 @@ loop-index-preserved c =
     get_or_read squares c.loop-index.farthest _ (omega (arith, h.within, h.whole.squares))
     c.index.ensures 0 in
     let within : c.relax-farthest.result
-        < length codes = omega (arith, first.within, whole.squares) in
+    < length codes = omega (arith, first.within, whole.squares) in
     let far : IsFarOff (IsListed codes) (base ++ map register_color witnesses) color =
     rw (← h.tops, c.color_of-color.ensures)
-    (record { farthest = h.farthest; far =
-        omega (arith, h.square, read, c.if-index-le-NEAR_ENOUGH.false) }) in
+    (record {
+      farthest = h.farthest;
+      far =
+          omega (arith, h.square, read, c.if-index-le-NEAR_ENOUGH.false);
+    }) in
     rw (c.in_ok-push.ensures.items, c.in_ok-push-2.ensures.items) (record {
       whole = whole;
       relaxed = relaxed;

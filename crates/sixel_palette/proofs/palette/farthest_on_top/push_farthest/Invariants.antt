@@ -15,7 +15,7 @@ invariant-loop-index l = record {
   tops : l.colors.items ≡ l.fn.colors.items ++ map register_color l.witnesses.items;
   order : (i : ℕ) (d : List ℕ) → i < length l.witnesses.items
       → IsFarOff (IsListed l.codes) (l.fn.colors.items ++ map register_color
-          (take i l.witnesses.items))
+      (take i l.witnesses.items))
       (get_or l.witnesses.items i d);
   within : l.farthest < length l.codes;
   farthest : IsFarthest (IsListed l.codes) l.colors.items (color_of (get_or l.codes l.farthest 0));

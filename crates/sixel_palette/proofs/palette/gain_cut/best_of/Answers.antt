@@ -33,18 +33,30 @@ loop-position-preserved c =
             within = here;
             first = λ d.
                 first_greatest-next (f d) position best position (omega arith) (h.first d)
-                (inl
-                (omega (arith, same best d h.within, same position d here,
-                    w.if-boxes-best.true), refl));
+                (inl (
+                  omega (
+                    arith,
+                    same best d h.within,
+                    same position d here,
+                    w.if-boxes-best.true,
+                  ),
+                  refl,
+                ));
           })
       | else-boxes-best w ↦
           rw w.best-is (record {
             within = h.within;
             first = λ d.
                 first_greatest-next (f d) position best best (omega arith) (h.first d)
-                (inr
-                (omega (arith, same best d h.within, same position d here,
-                    w.if-boxes-best.false), refl));
+                (inr (
+                  omega (
+                    arith,
+                    same best d h.within,
+                    same position d here,
+                    w.if-boxes-best.false,
+                  ),
+                  refl,
+                ));
           })
     ]
 

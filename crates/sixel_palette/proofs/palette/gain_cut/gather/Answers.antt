@@ -57,7 +57,7 @@ loop-bin-preserved c =
     let place : side c.args.channel bin.corner ≡ low + value =
     omega (arith, within.0, c.side_of.ensures.value) in
     let more : (f : Bin → ℕ) → sum_by f (take (index + 1) bins) ≡ sum_by f (take index bins)
-        + f bin =
+    + f bin =
     λ f.
     sum_by_more f bins index bin (omega arith)
     ∙ ap (λ b. sum_by f (take index bins) + f b) (sym c.bin-item.is) in

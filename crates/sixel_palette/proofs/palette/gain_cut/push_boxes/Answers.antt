@@ -17,7 +17,7 @@ loop-count-init c =
     let one : c.push.new.self.items ≡ box ∷ [] =
     c.in_ok-push.ensures.items
     ∙ ap (λ (xs : List ColorBox). xs ++ box ∷ [])
-        (nil_from_length c.args.boxes.now.items c.requires.none) in
+    (nil_from_length c.args.boxes.now.items c.requires.none) in
     rw one (record {
       boxes = refl;
       ranges = λ k d l.

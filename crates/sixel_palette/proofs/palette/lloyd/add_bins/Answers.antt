@@ -52,7 +52,7 @@ loop-position-preserved c =
           d are (omega arith) c.index-bins-position.is c.from-index.ensures inside
           c.index-sums-index.is
           (rw (sym c.index-bins-position.is) at (c.plus.ensures.sums k))
-              (h.sums entry are index k d l);
+          (h.sums entry are index k d l);
     }
 
 pub returns-clause-sums : goal.returns-clause-sums

@@ -85,7 +85,7 @@ returns c =
           let w = start.whole (omega (arith, l, length-map codes color_of)) in
           let members : map (λ code. register_color (color_of code)) codes
           ≡ map register_color (map color_of codes) = sym
-              (map-map register_color color_of codes) in (
+          (map-map register_color color_of codes) in (
             w.0 ∙ members,
             tops_none (IsShown pixels) c.args.room base colors topped.witnesses.items
                 (λ d m.
@@ -127,7 +127,7 @@ returns c =
       apart = apart;
       bound = λ n l.
           bound_of_shown pixels topped.witnesses.items c.least_apart-apart.result n apart.apart
-              occur l;
+          occur l;
     }
 
 pub indices_by-requires-clause-positions : goal.indices_by-requires-clause-positions

@@ -20,10 +20,10 @@ returns-clause-mean c =
     let g = c.mean_byte-green.ensures in
     let b = c.mean_byte-blue.ensures in
     let code = 65536 * c.mean_byte-red.result + 256 * c.mean_byte-green.result
-        + c.mean_byte-blue.result in
+    + c.mean_byte-blue.result in
     let self = c.args.self in
     let red : code / 65536 ≡ self.red / self.count =
-        omega (arith, r.value, r.small, g.small, b.small) in
+    omega (arith, r.value, r.small, g.small, b.small) in
     let green : code / 256 % 256 ≡ self.green / self.count =
     omega (arith, g.value, r.small, g.small, b.small) in
     let blue : code % 256 ≡ self.blue / self.count = omega (arith, b.value, b.small) in
