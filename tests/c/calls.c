@@ -194,11 +194,11 @@ static void test_copied_rows(void)
         {NOT_FINAL, 1, 6, 72, {12, 2, 0}}, {NOT_FINAL, SIZE_MAX, 1, 72, {12, 2, 0}},
         {STRIDE, 0, 1, 72, {7, 2, 0}}, {STRIDE, 0, 1, 72, {3, 0, 0}},
         {SMALL, 0, 6, 23, {0, 0, 0}}, {STRIDE, 0, 0, 72, {0, SIZE_MAX, 0}},
-        {STRIDE, 0, 3, 72, {SIZE_MAX, 2, 0}}, {SMALL, 0, 6, 67, {12, 2, 0}},
+        {ICYSIXEL_OVERFLOW, 0, 3, 72, {SIZE_MAX, 2, 0}}, {SMALL, 0, 6, 67, {12, 2, 0}},
     }, wrong_pixels[] = {
         {NOT_FINAL, 6, 7, 72, {12, 2, 0}}, {NOT_FINAL, SIZE_MAX, 1, 72, {12, 2, 0}},
         {ICYSIXEL_ROWS_RELEASED, 5, 7, 72, {12, 2, 0}}, {STRIDE, 6, 1, 72, {11, 0, 0}},
-        {STRIDE, 6, 3, 72, {SIZE_MAX, 2, 0}}, {SMALL, 6, 6, 67, {12, 2, 0}},
+        {ICYSIXEL_OVERFLOW, 6, 3, 72, {SIZE_MAX, 2, 0}}, {SMALL, 6, 6, 67, {12, 2, 0}},
         {SMALL, 6, 6, 71, {0, 0, 0}},
     };
     uint8_t rows[72], dense[24];
@@ -677,7 +677,7 @@ static void test_encodings(void)
         CHECK(ENCODE(row) == it->code);
     }
     static const struct { size_t stride, width, height; uint32_t code; } wrong[] = {
-        {11, 3, 2, STRIDE}, {SIZE_MAX, 3, 3, STRIDE}, {0, 3, 2, MISMATCH},
+        {11, 3, 2, STRIDE}, {SIZE_MAX, 3, 3, ICYSIXEL_OVERFLOW}, {0, 3, 2, MISMATCH},
         {0, 3, 0, ICYSIXEL_BAD_DIMENSIONS}, {0, 1000001, 1, ICYSIXEL_BAD_DIMENSIONS},
         {0, SIZE_MAX, 2, ICYSIXEL_OVERFLOW},
     };

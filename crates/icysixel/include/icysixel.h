@@ -179,7 +179,7 @@ enum icysixel_code {
     ICYSIXEL_NO_TEXT = 5,    /* no text is stored */
     /* about the caller's buffers */
     ICYSIXEL_BUFFER_TOO_SMALL = 6, /* the buffer is smaller than `wanted` or the documented size */
-    ICYSIXEL_BAD_STRIDE = 7,       /* it is shorter than a row, or the rows overflow size_t */
+    ICYSIXEL_BAD_STRIDE = 7,       /* it is shorter than a row */
     /* about memory and sizes */
     ICYSIXEL_OUT_OF_MEMORY = 8,
     ICYSIXEL_OVERFLOW = 9,         /* a size overflows its type, as with too many new lines */
@@ -345,8 +345,8 @@ uint64_t icysixel_get_canvas_paints(icysixel *handle);
  * - ICYSIXEL_NO_SESSION if no image is open;
  * - ICYSIXEL_ROWS_NOT_FINAL if first + rows is above icysixel_get_rows_so_far;
  * - ICYSIXEL_ROWS_RELEASED if rows from `first` on were released;
- * - ICYSIXEL_BAD_STRIDE if the stride is shorter than a row or a pixel, or the rows overflow
- *   size_t;
+ * - ICYSIXEL_BAD_STRIDE if the stride is shorter than a row or a pixel;
+ * - ICYSIXEL_OVERFLOW if the rows overflow size_t;
  * - ICYSIXEL_BUFFER_TOO_SMALL. */
 uint32_t icysixel_copy_rows(icysixel *handle, size_t first, size_t rows,
                             const icysixel_layout *layout, uint8_t *buf, size_t size);
@@ -391,8 +391,8 @@ uint32_t icysixel_decode_payload(icysixel *handle, const uint8_t *bytes, size_t 
  * - ICYSIXEL_NO_IMAGE;
  * - ICYSIXEL_ROWS_NOT_FINAL if first + rows is above the height;
  * - ICYSIXEL_ROWS_RELEASED if `first` is less than `first_row` of the shape;
- * - ICYSIXEL_BAD_STRIDE if the stride is shorter than a row or a pixel, or the rows overflow
- *   size_t;
+ * - ICYSIXEL_BAD_STRIDE if the stride is shorter than a row or a pixel;
+ * - ICYSIXEL_OVERFLOW if the rows overflow size_t;
  * - ICYSIXEL_BUFFER_TOO_SMALL. */
 uint32_t icysixel_copy_pixels(icysixel *handle, size_t first, size_t rows,
                               const icysixel_layout *layout, uint8_t *buf, size_t size);
@@ -506,6 +506,7 @@ void icysixel_set_clip(icysixel *handle, size_t width, size_t height);
  * - ICYSIXEL_OVERFLOW if 4 * width * height overflows size_t;
  * - ICYSIXEL_BAD_DIMENSIONS for a size above the limits of the format;
  * - ICYSIXEL_BAD_STRIDE;
+ * - ICYSIXEL_OVERFLOW if the rows overflow size_t;
  * - ICYSIXEL_BUFFER_MISMATCH if there are too few pixels;
  * - ICYSIXEL_COLOR_COUNT for a refined palette if max_colors is above 256, and for a given one
  *   unless color_count is 1 to 256;

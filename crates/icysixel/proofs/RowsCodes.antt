@@ -17,7 +17,7 @@ pub record AreCodes (error : SixelError) (code : ℕ) : Type 0 where
   pub not_final : IsCallFault error RowsNotFinal → code ≡ 22
   pub released : IsCallFault error RowsReleased → code ≡ 23
   pub short : IsCallFault error ShortStride → code ≡ 7
-  pub overflow : error ≡ IntegerOverflow → code ≡ 7
+  pub overflow : error ≡ IntegerOverflow → code ≡ 9
   pub small : (expected actual : ℕ) → error ≡ BufferSizeMismatch expected actual → code ≡ 6
 
 -- what the fault is, the code is

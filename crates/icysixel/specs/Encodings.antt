@@ -164,7 +164,7 @@ IsRowsText encoding rows text =
     IsTextIn (mode_of encoding) encoding (image_of encoding rows) rows text
 
 -- A call encodes these pixels, stores their text and writes the text's length. Its errors are those
--- of the sizes, of the stride, of too few pixels, and then of the colors.
+-- of the sizes, of the stride, of rows that overflow, of too few pixels, and then of the colors.
 pub record IsEncodeCall (before after : Option State) (encoding : Encoding) (pixels : List ℕ)
     (code old_length new_length : ℕ) : Type 0 where
   pub handle : is_some after ≡ is_some before
@@ -173,7 +173,10 @@ pub record IsEncodeCall (before after : Option State) (encoding : Encoding) (pix
       → encode_fault encoding.width encoding.height ≡ Some error → IsCodeOf code error
   pub bad_stride : (state : State) → before ≡ Some state
       → encode_fault encoding.width encoding.height ≡ None
-      → bytes_of encoding ≡ None → code ≡ 7
+      → row_stride encoding < row_len encoding → code ≡ 7
+  pub overflow : (state : State) → before ≡ Some state
+      → encode_fault encoding.width encoding.height ≡ None
+      → row_len encoding ≤ row_stride encoding → bytes_of encoding ≡ None → code ≡ 9
   pub buffer : (state : State) (size : ℕ) → before ≡ Some state
       → encode_fault encoding.width encoding.height ≡ None
       → bytes_of encoding ≡ Some size → length pixels < size → code ≡ 11

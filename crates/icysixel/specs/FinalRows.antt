@@ -5,6 +5,7 @@ use Rattle.std.specs.Prelude.{ℕ, ◌≡◌, ◌≢◌, ◌*◌, ◌/◌, ◌%�
 use Rattle.std.specs.Prelude.{length, slice_index, true, false, Option, Some, None, unwrap_or}
 use Rattle.sixel_base.specs.CallFault.{CallFault, Exactly, RowsNotFinal, RowsReleased}
 use Rattle.sixel_base.specs.declared.error.SixelError.TheVariants.{BufferSizeMismatch}
+use Rattle.sixel_base.specs.declared.error.SixelError.TheVariants.{IntegerOverflow}
 use Rattle.icy_sixel.specs.FinalRows.{AreCopied, RowLayout, copy_fault, pixel_so_far}
 use Rattle.icy_sixel.specs.FinalRows.{release_fault, usize_max, with_released}
 use Rattle.icy_sixel.specs.ReceivedImages.{received_fault, received_pixel}
@@ -36,11 +37,12 @@ layout_of width layout = record {
 }
 
 -- the code of what is wrong with rows and a buffer for them: rows that are not final or were
--- released, a buffer that is too small, or a stride that does not fit the rows
+-- released, a buffer that is too small, rows that overflow, or a stride that is shorter than a row
 abbrev pub rows_code : CallFault → ℕ
 rows_code RowsNotFinal = 22
 rows_code RowsReleased = 23
 rows_code (Exactly (BufferSizeMismatch expected actual)) = 6
+rows_code (Exactly IntegerOverflow) = 9
 rows_code fault = 7
 
 -- a call with this fault returns its code, and a call with none succeeds

@@ -11,7 +11,7 @@ words code =
     else if code == 4 then codes "no image is stored"
     else if code == 5 then codes "no text is stored"
     else if code == 6 then codes "the buffer is too small"
-    else if code == 7 then codes "the stride does not fit the rows"
+    else if code == 7 then codes "stride is shorter than a row"
     else if code == 8 then codes "out of memory"
     else if code == 9 then codes "integer overflow"
     else if code == 10 then codes "invalid dimensions"

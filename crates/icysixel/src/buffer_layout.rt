@@ -66,6 +66,7 @@ pub fn rows_code(error: &SixelError) -> u32
 {
     match error {
         SixelError::BufferSizeMismatch { .. } => Code::BufferTooSmall as u32,
+        SixelError::IntegerOverflow => Code::Overflow as u32,
         SixelError::InvalidData(error::ROWS_NOT_FINAL) => Code::RowsNotFinal as u32,
         SixelError::InvalidData(error::ROWS_RELEASED) => Code::RowsReleased as u32,
         _ => Code::BadStride as u32,

@@ -27,7 +27,7 @@ pub enum Code {
     NoText = 5,
     /// A buffer is too small.
     BufferTooSmall = 6,
-    /// The stride is shorter than a row, or too large for the rows to be counted.
+    /// The stride is shorter than a row.
     BadStride = 7,
     /// An allocation failed.
     OutOfMemory = 8,

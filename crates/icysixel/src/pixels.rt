@@ -32,7 +32,9 @@ impl Encoding {
             → encode_fault self.now.width self.now.height ≡ Some fault
             → IsErrAnd result (λ code. IsCodeOf code fault) }
         ensures stride { encode_fault self.now.width self.now.height ≡ None
-            → bytes_of self.now ≡ None → result ≡ Err 7 }
+            → row_stride self.now < row_len self.now → result ≡ Err 7 }
+        ensures overflow { encode_fault self.now.width self.now.height ≡ None
+            → row_len self.now ≤ row_stride self.now → bytes_of self.now ≡ None → result ≡ Err 9 }
         ensures buffer { (size : ℕ) → encode_fault self.now.width self.now.height ≡ None
             → bytes_of self.now ≡ Some size → length pixels.now < size → result ≡ Err 11 }
         ensures colors { (size : ℕ) → encode_fault self.now.width self.now.height ≡ None
@@ -55,7 +57,9 @@ impl Encoding {
             → encode_fault self.now.width self.now.height ≡ Some fault
             → IsErrAnd result (λ code. IsCodeOf code fault) }
         ensures stride { encode_fault self.now.width self.now.height ≡ None
-            → bytes_of self.now ≡ None → result ≡ Err 7 }
+            → row_stride self.now < row_len self.now → result ≡ Err 7 }
+        ensures overflow { encode_fault self.now.width self.now.height ≡ None
+            → row_len self.now ≤ row_stride self.now → bytes_of self.now ≡ None → result ≡ Err 9 }
         ensures buffer { (size : ℕ) → encode_fault self.now.width self.now.height ≡ None
             → bytes_of self.now ≡ Some size → bytes < size → result ≡ Err 11 }
         ensures enough { (size : ℕ) → encode_fault self.now.width self.now.height ≡ None
@@ -80,7 +84,8 @@ impl Encoding {
         match layout.byte_len() {
             Some(size) if size <= bytes => Ok(layout),
             Some(_) => Err(Code::BufferMismatch as u32),
-            None => Err(Code::BadStride as u32),
+            None if layout.stride < row_len => Err(Code::BadStride as u32),
+            None => Err(Code::Overflow as u32),
         }
     }
 

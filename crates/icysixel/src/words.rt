@@ -50,7 +50,7 @@ fn words(code: u32) -> &'static str
         4 => "no image is stored",
         5 => "no text is stored",
         6 => "the buffer is too small",
-        7 => "the stride does not fit the rows",
+        7 => error::SHORT_STRIDE,
         8 => "out of memory",
         9 => "integer overflow",
         10 => "invalid dimensions",

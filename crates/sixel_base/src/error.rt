@@ -38,6 +38,16 @@ pub const SHORT_STRIDE: &str = "stride is shorter than a row";
 /// The result of a call that can fail.
 pub type Result<T> = std::result::Result<T, SixelError>;
 
+/// Returns what is invalid, for an error with this text: SIXEL data, or an argument of a call.
+fn subject(text: &str) -> &'static str {
+    match text {
+        COLOR_COUNT | INDEX_RANGE | ROWS_NOT_FINAL | ROWS_RELEASED | SHORT_STRIDE => {
+            "invalid argument"
+        }
+        _ => "invalid SIXEL data",
+    }
+}
+
 /// Why a call failed.
 #[derive(Debug, PartialEq, Eq, Drop, Error)]
 pub enum SixelError {
@@ -48,7 +58,7 @@ pub enum SixelError {
     #[error("buffer size mismatch: expected {expected} bytes, got {actual}")]
     BufferSizeMismatch { expected: usize, actual: usize },
     /// The data, a palette or rows are invalid, for this reason.
-    #[error("invalid SIXEL data: {0}")]
+    #[error("{}: {}", subject(.0), .0)]
     InvalidData(&'static str),
     /// The data have no DCS introducer.
     #[error("no SIXEL data found (missing DCS introducer)")]

@@ -25,7 +25,7 @@ sequence_count bytes = (length bytes - length (inside bytes)) + payload_count (i
 abbrev pub sequence_status : List ℕ → SixelDcsFeedStatus
 sequence_status bytes = payload_status (inside bytes)
 
--- a payload continues to these bytes: so many more are its own, and it has this status
+-- a payload continues to these bytes: `fed.consumed` more are its own, and it has this status
 abbrev pub Passes : List ℕ → List ℕ → SixelFeedResult → Type 0
 Passes bytes now fed =
     (count bytes + fed.consumed ≡ count now) × (fed.status ≡ status_of (first_terminator now))
@@ -35,7 +35,8 @@ pub record IsEnd (end : SequenceEnd) (bytes : List ℕ) : Type 0 where
   pub begun : end.is_begun ≡ nat_lt 0 (length bytes)
   pub ended : end.ended ≡ ended_with (inside bytes)
 
--- a DCS sequence continues by a chunk: so many bytes of it are its own, and it has this status
+-- a DCS sequence continues by a chunk: `fed.consumed` bytes of it are its own, and it has this
+-- status
 pub record Extends (now : SequenceEnd) (bytes chunk : List ℕ) (fed : SixelDcsFeedResult)
     : Type 0 where
   pub counted : sequence_count bytes + fed.consumed ≡ sequence_count (bytes ++ chunk)

@@ -11,7 +11,7 @@ use crate::viewer::open;
 use icy_sixel::encoder::{Dither, Mapping, Tolerance, palette_indices};
 use icy_sixel::receiver::SixelReceiver;
 use icy_sixel::script::Outcome;
-use icy_sixel::{Result, SixelDecoder, SixelImage};
+use icy_sixel::{Result, SixelDecoder, SixelError, SixelImage};
 use std::alloc::Global;
 use std::test::Fail;
 
@@ -68,6 +68,40 @@ fn decoders(rt: HostRuntime) {
         & is_drawn(payload_chunks, (12, 6), INDIGO);
     let is_replayed = is_replayed(rt.alloc(), &mut decoder);
     assert!(rt; are_drawn & is_replayed & (decoder.register(1) == [51, 51, 204]));
+}
+
+#[test]
+fn errors(rt: HostRuntime) -> std::result::Result<(), Fail> {
+    for (error, expected) in [
+        (
+            SixelError::malformed(),
+            "invalid SIXEL data: malformed SIXEL data",
+        ),
+        (
+            SixelError::color_count(),
+            "invalid argument: number of colors is not 1 to 256",
+        ),
+        (
+            SixelError::index_range(),
+            "invalid argument: palette index out of range",
+        ),
+        (
+            SixelError::rows_not_final(),
+            "invalid argument: rows are not final",
+        ),
+        (
+            SixelError::rows_released(),
+            "invalid argument: rows were released",
+        ),
+        (
+            SixelError::short_stride(),
+            "invalid argument: stride is shorter than a row",
+        ),
+    ] {
+        let text = format!(in rt.alloc(); "{error}")?;
+        assert!(rt; text.as_str() == expected);
+    }
+    Ok(())
 }
 
 /// Whether one color has a certified palette of itself.

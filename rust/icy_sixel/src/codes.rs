@@ -1,6 +1,6 @@
 //! The codes and statuses of the library, by their names in `icysixel.h`.
 
-use crate::error::SixelError;
+use crate::error::{self, SixelError};
 
 pub(crate) const OK: u32 = 0;
 pub(crate) const NO_SESSION: u32 = 2;
@@ -45,10 +45,11 @@ pub(crate) fn error_of(code: u32) -> SixelError {
         INCOMPLETE => SixelError::of_data("incomplete SIXEL DCS sequence"),
         STREAM_FAILED | NO_SESSION => SixelError::of_data("stream decoder has failed"),
         DCS_STREAM_FAILED => SixelError::of_data("DCS stream decoder has failed"),
-        COLOR_COUNT => SixelError::of_data("number of colors is not 1 to 256"),
-        INDEX_RANGE => SixelError::of_data("palette index out of range"),
-        ROWS_NOT_FINAL => SixelError::of_data("rows are not final"),
-        ROWS_RELEASED => SixelError::of_data("rows were released"),
+        COLOR_COUNT => SixelError::of_data(error::COLOR_COUNT),
+        INDEX_RANGE => SixelError::of_data(error::INDEX_RANGE),
+        ROWS_NOT_FINAL => SixelError::of_data(error::ROWS_NOT_FINAL),
+        ROWS_RELEASED => SixelError::of_data(error::ROWS_RELEASED),
+        BAD_STRIDE => SixelError::of_data(error::SHORT_STRIDE),
         other => unreachable!("the library returned {other}"),
     }
 }

@@ -1,6 +1,6 @@
 //! Encoding: the SIXEL output of an image.
 
-use crate::codes::{BAD_DIMENSIONS, BAD_STRIDE, BUFFER_MISMATCH, error_of};
+use crate::codes::{BAD_DIMENSIONS, BUFFER_MISMATCH, error_of};
 use crate::error::{Result, SixelError};
 use crate::ffi::{self, Color, Dithering, Handle};
 use crate::sixel_image::{BackgroundMode, PixelAspectRatio};
@@ -255,8 +255,6 @@ impl<'a> Encoding<'a> {
         let row = self.format.bytes() * self.width;
         let stride = if self.stride == 0 { row } else { self.stride };
         let error = |code| match code {
-            BAD_STRIDE if stride < row => SixelError::of_data("stride is shorter than a row"),
-            BAD_STRIDE => SixelError::IntegerOverflow,
             BUFFER_MISMATCH => {
                 let expected = stride * (self.height - 1) + row;
                 SixelError::BufferSizeMismatch { expected, actual: pixels.len() }

@@ -4,6 +4,12 @@ use std::collections::TryReserveError;
 use std::error::Error;
 use std::fmt;
 
+pub(crate) const COLOR_COUNT: &str = "number of colors is not 1 to 256";
+pub(crate) const INDEX_RANGE: &str = "palette index out of range";
+pub(crate) const ROWS_NOT_FINAL: &str = "rows are not final";
+pub(crate) const ROWS_RELEASED: &str = "rows were released";
+pub(crate) const SHORT_STRIDE: &str = "stride is shorter than a row";
+
 /// The result of a call that can fail.
 pub type Result<T> = std::result::Result<T, SixelError>;
 
@@ -59,11 +65,21 @@ impl fmt::Display for SixelError {
             Self::BufferSizeMismatch { expected, actual } => {
                 write!(f, "buffer size mismatch: expected {expected} bytes, got {actual}")
             }
-            Self::InvalidData(text) => write!(f, "invalid SIXEL data: {text}"),
+            Self::InvalidData(text) => write!(f, "{}: {text}", subject(text)),
             Self::NoSixelData => f.write_str("no SIXEL data found (missing DCS introducer)"),
             Self::IntegerOverflow => f.write_str("integer overflow"),
             Self::OutOfMemory => f.write_str("out of memory"),
         }
+    }
+}
+
+/// Returns what is invalid, for an error with this text: SIXEL data, or an argument of a call.
+fn subject(text: &str) -> &'static str {
+    match text {
+        COLOR_COUNT | INDEX_RANGE | ROWS_NOT_FINAL | ROWS_RELEASED | SHORT_STRIDE => {
+            "invalid argument"
+        }
+        _ => "invalid SIXEL data",
     }
 }
 

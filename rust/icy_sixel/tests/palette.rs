@@ -124,6 +124,7 @@ fn all_indices() {
 #[test]
 fn errors_of_palettes() {
     let count = InvalidData("number of colors is not 1 to 256".into());
+    assert_eq!(count.to_string(), "invalid argument: number of colors is not 1 to 256");
     let image = SixelImage::from_rgba(ROW.to_vec(), 3, 1);
     let (off, plain) = (exact(Dither::Off), TextForm::Plain);
     assert_eq!(image.encode_with_palette(&[], off, plain), Err(count.clone()));

@@ -98,7 +98,7 @@ impl SixelReceiver {
             Ok(()) => Ok(()),
             Err(NO_SESSION) if (first, rows) != (0, 0) => Err(error_of(ROWS_NOT_FINAL)),
             Err(NO_SESSION) if !layout.is_short() => Ok(()),
-            Err(NO_SESSION) => Err(layout.error(BAD_STRIDE, 0, 0)),
+            Err(NO_SESSION) => Err(error_of(BAD_STRIDE)),
             Err(code) => Err(layout.error(code, layout.byte_len(rows), out.len())),
         }
     }
@@ -149,8 +149,6 @@ impl RowLayout {
     fn error(self, code: u32, expected: usize, actual: usize) -> SixelError {
         match code {
             BUFFER_TOO_SMALL => SixelError::BufferSizeMismatch { expected, actual },
-            BAD_STRIDE if self.is_short() => SixelError::of_data("stride is shorter than a row"),
-            BAD_STRIDE => SixelError::IntegerOverflow,
             other => error_of(other),
         }
     }
@@ -158,7 +156,7 @@ impl RowLayout {
     /// Checks that `rows` rows lie apart from each other in `actual` bytes of memory.
     pub(super) fn check(self, rows: usize, actual: usize) -> Result<()> {
         if self.is_short() {
-            return Err(SixelError::of_data("stride is shorter than a row"));
+            return Err(error_of(BAD_STRIDE));
         }
         let above = rows.saturating_sub(1).checked_mul(self.stride);
         match above.and_then(|above| above.checked_add(4 * self.columns)) {

@@ -16,8 +16,10 @@ returns c =
       sizes = λ before fault is wrong.
           code_stored encoded.result stored.result fault (encoded.ensures.sizes fault wrong)
           stored.ensures.refused;
-      bad_stride = λ before is sized none.
-          rw (encoded.ensures.stride sized none) at stored.ensures.refused;
+      bad_stride = λ before is sized short.
+          rw (encoded.ensures.stride sized short) at stored.ensures.refused;
+      overflow = λ before is sized whole none.
+          rw (encoded.ensures.overflow sized whole none) at stored.ensures.refused;
       buffer = λ before size is sized wanted short.
           rw (encoded.ensures.buffer size sized wanted short) at stored.ensures.refused;
       colors = λ before size is sized wanted room.
