@@ -9,6 +9,8 @@ use Rattle.std.proofs.lemmas.List.Splits.{length-slice_split}
 use Rattle.std.proofs.lemmas.Int.Digits.{digits_value_push}
 use Rattle.sixel_base.specs.Limits.{parameter_limit}
 use Rattle.sixel_base.specs.Fields.{fields, field, parameter}
+use Rattle.std.proofs.lemmas.Bool.Decides.{nat_tests}
+use Rattle.std.proofs.lemmas.Grind.{common_steps}
 
 -- the pieces, of which the last goes on by an element
 abbrev pub onto_last : ℕ → List (List ℕ) → List (List ℕ)
@@ -29,9 +31,7 @@ raised byte n = min (n * 10 + (byte - 48)) parameter_limit
 -- the first and the last piece go on apart from each other
 onto_last-onto_first : (x y : ℕ) (ps : List (List ℕ))
     → onto_last x (onto_first y ps) ≡ onto_first y (onto_last x ps)
-onto_last-onto_first x y [] = refl
-onto_last-onto_first x y (p ∷ []) = refl
-onto_last-onto_first x y (p ∷ q ∷ ps) = refl
+onto_last-onto_first x y ps = grind (arith, common_steps, nat_tests)
 
 -- before another piece, the last piece is that of the rest
 onto_last-cons : (x : ℕ) (p : List ℕ) (ps : List (List ℕ)) → 0 < length ps
@@ -58,9 +58,7 @@ slice_split-push_no p (y ∷ ys) x fails =
 split_next : (b : Bool) (y : ℕ) (ps : List (List ℕ)) → 0 < length ps
     → cond b ([] ∷ (ps ++ [] ∷ [])) (onto_first y (ps ++ [] ∷ []))
     ≡ cond b ([] ∷ ps) (onto_first y ps) ++ [] ∷ []
-split_next true y ps some = refl
-split_next false y [] some = absurd (omega arith)
-split_next false y (p ∷ ps) some = refl
+split_next b y ps some = grind (arith, common_steps, nat_tests)
 
 -- an element that separates begins a piece
 slice_split-push_yes : (p : ℕ → Bool) (xs : List ℕ) (x : ℕ) → p x ≡ true
@@ -77,10 +75,7 @@ digit_value-byte byte low high = search (rules, tests)
 -- the value of a piece that goes on by a digit
 parameter-push : (piece : List ℕ) (byte : ℕ) → 48 ≤ byte → byte ≤ 57
     → parameter (piece ++ byte ∷ []) ≡ raised byte (parameter piece)
-parameter-push piece byte low high =
-    let more = digits_value_push 10 piece byte in
-    let digit = digit_value-byte byte low high in
-    omega arith
+parameter-push piece byte low high = grind (arith, nat_tests, digits_value_push, digit_value-byte)
 
 -- the values of the pieces, of which the last goes on by an element
 map-onto_last : (g : List ℕ → ℕ) (f : ℕ → ℕ) (x : ℕ) → ((p : List ℕ) → g (p ++ x ∷ []) ≡ f (g p))
@@ -141,33 +136,18 @@ fields-push_separator x xs =
 
 -- a text with a byte has a field
 length-fields-some : (x : ℕ) (xs : List ℕ) → 0 < length (fields (x ∷ xs))
-length-fields-some x xs =
-    let separates : ℕ → Bool = λ b. b == 59 in
-    omega (
-      arith,
-      length-slice_split separates (x ∷ xs),
-      length-map (slice_split separates (x ∷ xs)) parameter,
-    )
+length-fields-some x xs = grind (arith, nat_tests, length-map, length-slice_split)
 
 -- a semicolon begins a field, and the first one follows an empty field
 pub length-fields-push_separator : (text : List ℕ)
     → length (fields (text ++ 59 ∷ [])) ≡ max 1 (length (fields text)) + 1
-length-fields-push_separator [] = refl
-length-fields-push_separator (x ∷ xs) =
-    ap length (fields-push_separator x xs)
-    ∙ omega (arith, length-append (fields (x ∷ xs)) (0 ∷ []), length-fields-some x xs)
+length-fields-push_separator text =
+    grind (arith, nat_tests, length-append, fields-push_separator, length-fields-some)
 
 -- a 0 more at the end is read as the default was
 get_or-push_zero : (ns : List ℕ) (k : ℕ) → get_or (ns ++ 0 ∷ []) k 0 ≡ get_or ns k 0
-get_or-push_zero [] zero = refl
-get_or-push_zero [] (suc k) = refl
-get_or-push_zero (n ∷ ns) zero = refl
-get_or-push_zero (n ∷ ns) (suc k) = get_or-push_zero ns k
+get_or-push_zero ns k = grind (arith, common_steps, nat_tests)
 
 -- a field that a semicolon begins is 0, as is one that is not there
 pub field-push_separator : (text : List ℕ) (k : ℕ) → field (text ++ 59 ∷ []) k ≡ field text k
-field-push_separator [] zero = refl
-field-push_separator [] (suc zero) = refl
-field-push_separator [] (suc (suc k)) = refl
-field-push_separator (x ∷ xs) k =
-    ap (λ ns. get_or ns k 0) (fields-push_separator x xs) ∙ get_or-push_zero (fields (x ∷ xs)) k
+field-push_separator text k = grind (arith, nat_tests, fields-push_separator, get_or-push_zero)

@@ -32,36 +32,18 @@ IsToken-begun byte h = grind (arith, nat_tests)
 -- a token that takes a byte is spelled with that byte at the end
 pub spelling-with_byte : (token : Token) (byte : ℕ) → takes token byte ≡ true
     → spelling (with_byte token byte) ≡ spelling token ++ byte ∷ []
-spelling-with_byte (Sixel _) byte h = absurd cc
-spelling-with_byte (Repeat t) byte h = refl
-spelling-with_byte (Raster t) byte h = refl
-spelling-with_byte (Color t) byte h = refl
-spelling-with_byte Return byte h = absurd cc
-spelling-with_byte Newline byte h = absurd cc
-spelling-with_byte (Skip _) byte h = absurd cc
+spelling-with_byte token byte h = grind (arith, common_steps, nat_tests)
 
 spellings-longer : (h : History) (byte : ℕ) → goes_on h byte ≡ true
     → spellings (longer h byte) ≡ spellings h ++ byte ∷ []
-spellings-longer [] byte is = absurd cc
-spellings-longer (token ∷ older) byte is =
-    ap (λ w. spellings older ++ w) (spelling-with_byte token byte is)
-    ∙ sym (append_assoc (spellings older) (spelling token) (byte ∷ []))
+spellings-longer h byte is = grind (arith, nat_tests, append_assoc, spelling-with_byte)
 
 spellings-begun : (h : History) (byte : ℕ) → spellings (begun byte ∷ h) ≡ spellings h ++ byte ∷ []
-spellings-begun h byte =
-    ap (λ w. spellings h ++ w)
-    (ap (λ b. b ∷ text (begun byte)) (start-begun byte) ∙ ap (λ t. byte ∷ t) (text-begun byte))
+spellings-begun h byte = grind (arith, nat_tests, start-begun, text-begun)
 
 -- reading a byte adds it to what is spelled
 pub spellings-read : (h : History) (byte : ℕ) → spellings (read h byte) ≡ spellings h ++ byte ∷ []
-spellings-read h byte =
-    (elim (goes_on h byte) as
-    (λ g.
-    goes_on h byte ≡ g
-    → spellings (cond g (longer h byte) (begun byte ∷ h)) ≡ spellings h ++ byte ∷ []) [
-      | true ↦ λ is. spellings-longer h byte is
-      | false ↦ λ is. spellings-begun h byte
-    ]) refl
+spellings-read h byte = grind (arith, nat_tests, spellings-longer, spellings-begun)
 
 -- a byte that the newest token does not take begins one
 pub read_ends : (h : History) (byte : ℕ) → goes_on h byte ≡ false → read h byte ≡ begun byte ∷ h
@@ -83,50 +65,24 @@ list_all-push p xs x all last = grind (arith, common_steps)
 
 IsToken-with_byte : (token : Token) (byte : ℕ) → takes token byte ≡ true → IsToken token
     → IsToken (with_byte token byte)
-IsToken-with_byte (Sixel _) byte h is = absurd cc
-IsToken-with_byte (Repeat t) byte h is = list_all-push is_digit t byte is h
-IsToken-with_byte (Raster t) byte h is = list_all-push is_parameter t byte is h
-IsToken-with_byte (Color t) byte h is = list_all-push is_parameter t byte is h
-IsToken-with_byte Return byte h is = absurd cc
-IsToken-with_byte Newline byte h is = absurd cc
-IsToken-with_byte (Skip _) byte h is = absurd cc
+IsToken-with_byte token byte h is = grind (arith, nat_tests, list_all-push)
 
 -- a token keeps its first byte
 start-with_byte : (token : Token) (byte : ℕ) → start (with_byte token byte) ≡ start token
-start-with_byte (Sixel _) byte = refl
-start-with_byte (Repeat t) byte = refl
-start-with_byte (Raster t) byte = refl
-start-with_byte (Color t) byte = refl
-start-with_byte Return byte = refl
-start-with_byte Newline byte = refl
-start-with_byte (Skip _) byte = refl
+start-with_byte token byte = grind (arith, common_steps, nat_tests)
 
 AreTokens-longer : (h : History) (byte : ℕ) → goes_on h byte ≡ true → AreTokens h
     → AreTokens (longer h byte)
-AreTokens-longer [] byte is are = absurd cc
-AreTokens-longer (token ∷ older) byte is are = (
-  IsToken-with_byte token byte is are.0,
-  ap (goes_on older) (start-with_byte token byte) ∙ are.1,
-  are.2,
-)
+AreTokens-longer h byte is are = grind (arith, nat_tests, IsToken-with_byte, start-with_byte)
 
 AreTokens-begun : (h : History) (byte : ℕ) → goes_on h byte ≡ false → carries byte ≡ true
     → AreTokens h → AreTokens (begun byte ∷ h)
-AreTokens-begun h byte is may are = (
-  IsToken-begun byte may,
-  ap (goes_on h) (start-begun byte) ∙ is,
-  are,
-)
+AreTokens-begun h byte is may are = grind (arith, nat_tests, start-begun, IsToken-begun)
 
 -- reading a byte that carries meaning keeps the tokens in order
 pub AreTokens-read : (h : History) (byte : ℕ) → carries byte ≡ true → AreTokens h
     → AreTokens (read h byte)
-AreTokens-read h byte may are =
-    (elim (goes_on h byte) as
-    (λ g. goes_on h byte ≡ g → AreTokens (cond g (longer h byte) (begun byte ∷ h))) [
-      | true ↦ λ is. AreTokens-longer h byte is are
-      | false ↦ λ is. AreTokens-begun h byte is may are
-    ]) refl
+AreTokens-read h byte may are = grind (arith, nat_tests, AreTokens-longer, AreTokens-begun)
 
 pub AreTokens-fold : (h : History) (bytes : List ℕ) → IsTrue (list_all carries bytes) → AreTokens h
     → AreTokens (fold read h bytes)
@@ -143,10 +99,7 @@ carries-front (byte ∷ bytes) = grind (arith, common_steps, carries-front bytes
 
 -- each payload has a history
 pub some_history : (bytes : List ℕ) → IsHistory (front bytes) (history_of (front bytes))
-some_history bytes = (
-  spellings-fold [] (front bytes),
-  AreTokens-fold [] (front bytes) (carries-front bytes) tt,
-)
+some_history bytes = grind (arith, nat_tests, spellings-fold, AreTokens-fold, carries-front)
 
 -- ---- the history that spells the bytes is the one that reading gives
 
@@ -202,21 +155,13 @@ fold-color older s (byte ∷ t) all =
 -- the text of a token completes it
 fold-text : (older : History) (token : Token) → IsToken token
     → fold read (bare token ∷ older) (text token) ≡ token ∷ older
-fold-text older (Sixel bits) is = refl
-fold-text older (Repeat t) is = fold-repeat older [] t is
-fold-text older (Raster t) is = fold-raster older [] t is
-fold-text older (Color t) is = fold-color older [] t is
-fold-text older Return is = refl
-fold-text older Newline is = refl
-fold-text older (Skip byte) is = refl
+fold-text older token is = grind (arith, nat_tests, fold-repeat, fold-raster, fold-color)
 
 -- reading the spelling of a token adds it
 pub fold-spelling : (older : History) (token : Token) → IsToken token
     → goes_on older (start token) ≡ false → fold read older (spelling token) ≡ token ∷ older
 fold-spelling older token is ends =
-    ap (λ (w : History). fold read w (text token)) (read_ends older (start token) ends)
-    ∙ (ap (λ (w : Token). fold read (w ∷ older) (text token)) (begun-start token is)
-    ∙ fold-text older token is)
+    grind (arith, nat_tests, fold, read_ends, begun-start, fold-text)
 
 history_of-spellings : (h : History) → AreTokens h → history_of (spellings h) ≡ h
 history_of-spellings [] are = refl

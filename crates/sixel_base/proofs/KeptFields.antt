@@ -8,16 +8,14 @@ use Rattle.sixel_base.specs.inside.Parameters.{Parameters, Keeps}
 use Rattle.sixel_base.proofs.Fields.{raised, length-on_last, get_or-on_last_same}
 use Rattle.sixel_base.proofs.Fields.{get_or-on_last_other, fields-push_digit}
 use Rattle.sixel_base.proofs.Fields.{length-fields-push_separator, field-push_separator}
+use Rattle.std.proofs.lemmas.Bool.Decides.{nat_tests}
 
 -- a semicolon counts a field more, and changes no value
 pub Keeps-push_separator : (old new : Parameters) → new.values ≡ old.values
     → new.count ≡ min (max old.count 1 + 1) 6 → (text : List ℕ) → Keeps old text
     → Keeps new (text ++ 59 ∷ [])
-Keeps-push_separator old new values count text keeps = record {
-  counted = omega (arith, keeps.counted, length-fields-push_separator text);
-  valued = λ k below.
-      ap (λ vs. get_or vs k 0) values ∙ (keeps.valued k below ∙ sym (field-push_separator text k));
-}
+Keeps-push_separator old new values count text keeps =
+    grind (arith, nat_tests, length-fields-push_separator, field-push_separator)
 
 -- a text that goes on by a digit
 module _ (text : List ℕ) (byte : ℕ) (low : 48 ≤ byte) (high : byte ≤ 57) where

@@ -1,7 +1,7 @@
 -- The tokens that lenient decoding tolerates have no fault, and those of a history without a fault
 -- are all tolerated.
 use Rattle.std.proofs.Common.{◌≡◌, true, false, [], ◌∷◌, refl, ap, ◌∙◌, cond, Option, Some}
-use Rattle.std.proofs.Common.{None, ◌+◌, sym, arith, ℕ, List}
+use Rattle.std.proofs.Common.{None, ◌+◌, arith, ℕ, List}
 use Rattle.std.specs.Prelude.{is_none, min, slice_set}
 use Rattle.sixel_base.specs.Stroke.{definition, is_definition, named_by, registers}
 use Rattle.std.specs.Option.{option_or}
@@ -12,29 +12,17 @@ use Rattle.sixel_base.specs.Limits.{Limit}
 use Rattle.sixel_base.specs.Payload.{fault_of, first_fault}
 use Rattle.sixel_base.specs.Lenient.{without, with_tolerated, tolerated, ignored, ignored_count}
 use Rattle.sixel_base.specs.Lenient.{count_limit, effective, fault}
+use Rattle.std.proofs.lemmas.Bool.Decides.{nat_tests}
+use Rattle.std.proofs.lemmas.Grind.{common_steps}
 
 -- the tokens that take effect where one is ignored have no fault of their own
 without-faultless : (limit : Limit) (token : Token) (older : History)
     → first_fault limit older ≡ None → first_fault limit (without token older) ≡ None
-without-faultless limit (Sixel _) older none = ap (λ (f : Option Fault). option_or f None) none
-without-faultless limit (Repeat _) older none = none
-without-faultless limit (Raster _) older none = none
-without-faultless limit (Color _) older none = none
-without-faultless limit Return older none = none
-without-faultless limit Newline older none = none
-without-faultless limit (Skip _) older none = none
+without-faultless limit token older none = grind (arith, common_steps, nat_tests)
 
 with_tolerated-faultless : (limit : Limit) (token : Token) (older : History)
     → first_fault limit older ≡ None → first_fault limit (with_tolerated limit token older) ≡ None
-with_tolerated-faultless limit token older none =
-    (elim (fault_of limit token older) as
-    (λ f.
-    fault_of limit token older ≡ f
-    → first_fault limit (cond (is_none f) (token ∷ older) (without token older)) ≡ None) [
-      | None ↦ λ is.
-          ap (λ (f : Option Fault). option_or f (fault_of limit token older)) none ∙ is
-      | Some fault ↦ λ is. without-faultless limit token older none
-    ]) refl
+with_tolerated-faultless limit token older none = grind (arith, nat_tests, without-faultless)
 
 -- tolerated tokens have no fault
 pub tolerated-faultless : (limit : Limit) (h : History) → first_fault limit (tolerated limit h)
@@ -81,27 +69,13 @@ tolerated-same limit (token ∷ older) none =
 -- the tokens that count have the fault that is reported
 pub effective-fault : (limit : Limit) (h : History) → first_fault limit (effective limit h)
     ≡ fault limit h
-effective-fault limit h =
-    elim limit.lenient as
-    (λ t. first_fault limit (cond t (tolerated limit h) h) ≡ cond t None (first_fault limit h)) [
-      | true ↦ tolerated-faultless limit h
-      | false ↦ refl
-    ]
+effective-fault limit h = grind (arith, nat_tests, tolerated-faultless)
 
 -- a token that has no fault after those counts
 pub effective-more : (limit : Limit) (token : Token) (h : History)
     → first_fault limit (token ∷ effective limit h) ≡ None → effective limit (token ∷ h)
     ≡ token ∷ effective limit h
-effective-more limit token h =
-    elim limit.lenient as
-    (λ t. first_fault limit (token ∷ cond t (tolerated limit h) h) ≡ None
-    → cond t (with_tolerated limit token (tolerated limit h)) (token ∷ h)
-    ≡ token ∷ cond t (tolerated limit h) h) [
-      | true ↦ λ none. with_tolerated-same limit token (tolerated limit h)
-          (option_or-second (first_fault limit (tolerated limit h))
-          (fault_of limit token (tolerated limit h)) none)
-      | false ↦ λ none. refl
-    ]
+effective-more limit token h is = grind (arith, nat_tests, option_or-second, with_tolerated-same)
 
 -- an option that is some after one that is none
 option_or-some : (a b : Option Fault) (f : Fault) → a ≡ None → option_or a b ≡ Some f → b ≡ Some f
@@ -112,27 +86,13 @@ option_or-some (Some fault) b f none some = absurd cc
 pub effective-without : (limit : Limit) (token : Token) (h : History) (f : Fault)
     → limit.lenient ≡ true → first_fault limit (token ∷ effective limit h) ≡ Some f
     → effective limit (token ∷ h) ≡ without token (effective limit h)
-effective-without limit token h f =
-    elim limit.lenient as
-    (λ t. t ≡ true → first_fault limit (token ∷ cond t (tolerated limit h) h) ≡ Some f
-    → cond t (with_tolerated limit token (tolerated limit h)) (token ∷ h)
-    ≡ without token (cond t (tolerated limit h) h)) [
-      | true ↦ λ on some. with_tolerated-without limit token (tolerated limit h) f
-          (option_or-some (first_fault limit (tolerated limit h))
-          (fault_of limit token (tolerated limit h)) f (tolerated-faultless limit h) some)
-      | false ↦ λ on some. absurd (cc on)
-    ]
+effective-without limit token h f is holds =
+    grind (arith, nat_tests, tolerated-faultless, with_tolerated-without, option_or-some)
 
 -- where faults are not ignored, a token after those that count has the fault that is reported
 pub effective-strict : (limit : Limit) (token : Token) (h : History) → limit.lenient ≡ false
     → first_fault limit (token ∷ effective limit h) ≡ fault limit (token ∷ h)
-effective-strict limit token h =
-    elim limit.lenient as
-    (λ t. t ≡ false → first_fault limit (token ∷ cond t (tolerated limit h) h)
-    ≡ cond t None (first_fault limit (token ∷ h))) [
-      | true ↦ λ off. absurd (cc off)
-      | false ↦ λ off. refl
-    ]
+effective-strict limit token h is = grind (arith, common_steps, nat_tests)
 
 -- all tokens count where faults are not ignored
 pub effective-off : (limit : Limit) (h : History) → limit.lenient ≡ false → effective limit h ≡ h
@@ -140,30 +100,17 @@ effective-off limit h off = ap (λ t. cond t (tolerated limit h) h) off
 
 -- and nothing is wrong with them
 pub fault-none : (limit : Limit) → fault limit [] ≡ None
-fault-none limit = elim limit.lenient as (λ t. cond t None (first_fault limit []) ≡ None) [
-  | true ↦ refl
-  | false ↦ refl
-]
+fault-none limit = grind (arith, common_steps, nat_tests)
 
 -- nor with tokens without a fault
 pub fault-sound : (limit : Limit) (h : History) → first_fault limit h ≡ None → fault limit h ≡ None
-fault-sound limit h none =
-    elim limit.lenient as (λ t. cond t None (first_fault limit h) ≡ None) [
-      | true ↦ refl
-      | false ↦ none
-    ]
+fault-sound limit h none = grind (arith, common_steps, nat_tests)
 
 -- a fault that stays the first one is reported then too
 pub fault-along : (limit : Limit) (g h : History) (f : Fault)
     → (first_fault limit g ≡ Some f → first_fault limit h ≡ Some f)
     → fault limit g ≡ Some f → fault limit h ≡ Some f
-fault-along limit g h f stays =
-    elim limit.lenient as
-    (λ t. cond t None (first_fault limit g) ≡ Some f
-    → cond t None (first_fault limit h) ≡ Some f) [
-      | true ↦ λ is. absurd (cc is)
-      | false ↦ λ is. stays is
-    ]
+fault-along limit g h f stays holds = grind (arith, common_steps, nat_tests)
 
 -- an option that is none in front of one
 pub option_or-none : (a b : Option Fault) → option_or a b ≡ None → a ≡ None
@@ -173,17 +120,7 @@ option_or-none a b none = option_or-first a b none
 ignored-step : (limit : Limit) (token : Token) (older : History)
     → (ignored limit older ≡ 0 → first_fault limit older ≡ None)
     → ignored limit (token ∷ older) ≡ 0 → first_fault limit (token ∷ older) ≡ None
-ignored-step limit token older before =
-    (elim (fault_of limit token (tolerated limit older)) as
-    (λ f. fault_of limit token (tolerated limit older) ≡ f
-    → cond (is_none f) (ignored limit older) (min (ignored limit older + 1) count_limit) ≡ 0
-    → first_fault limit (token ∷ older) ≡ None) [
-      | None ↦ λ is zero.
-          let none = before zero in
-          ap (λ (f : Option Fault). option_or f (fault_of limit token older)) none
-          ∙ ap (fault_of limit token) (sym (tolerated-same limit older none)) ∙ is
-      | Some f ↦ λ is zero. absurd (omega (arith, zero))
-    ]) refl
+ignored-step limit token older before holds = grind (arith, nat_tests, tolerated-same)
 
 pub ignored-none : (limit : Limit) (h : History) → ignored limit h ≡ 0
     → first_fault limit h ≡ None
@@ -207,27 +144,13 @@ none-ignored limit (token ∷ older) none =
 pub effective-same : {A : Type 0} (f : History → A) (limit : Limit) (token : Token) (h : History)
     → ((w : History) → without token w ≡ w) → ((w : History) → f (token ∷ w) ≡ f w)
     → f (effective limit h) ≡ f (effective limit (token ∷ h))
-effective-same f limit token h other same =
-    let older : History = tolerated limit h in
-    elim limit.lenient as
-    (λ t. f (cond t older h) ≡ f (cond t (with_tolerated limit token older) (token ∷ h))) [
-      | true ↦
-          elim (is_none (fault_of limit token older)) as
-          (λ n. f older ≡ f (cond n (token ∷ older) (without token older))) [
-            | true ↦ sym (same older)
-            | false ↦ ap f (sym (other older))
-          ]
-      | false ↦ sym (same h)
-    ]
+effective-same f limit token h other same = grind (arith, common_steps, nat_tests)
 
 -- ---- how many are ignored
 
 -- of no tokens none
 pub count-none : (limit : Limit) → ignored_count limit [] ≡ 0
-count-none limit = elim limit.lenient as (λ t. cond t (ignored limit []) 0 ≡ 0) [
-  | true ↦ refl
-  | false ↦ refl
-]
+count-none limit = grind (arith, common_steps, nat_tests)
 
 -- a token without a fault is not ignored
 pub count-more : (limit : Limit) (token : Token) (h : History)
@@ -249,17 +172,8 @@ count-more limit token h =
 pub count-without : (limit : Limit) (token : Token) (h : History) (f : Fault)
     → limit.lenient ≡ true → first_fault limit (token ∷ effective limit h) ≡ Some f
     → ignored_count limit (token ∷ h) ≡ min (ignored_count limit h + 1) count_limit
-count-without limit token h f =
-    elim limit.lenient as
-    (λ t. t ≡ true → first_fault limit (token ∷ cond t (tolerated limit h) h) ≡ Some f
-    → cond t (ignored limit (token ∷ h)) 0 ≡ min (cond t (ignored limit h) 0 + 1) count_limit) [
-      | true ↦ λ on some.
-          ap (λ (f : Option Fault).
-          cond (is_none f) (ignored limit h) (min (ignored limit h + 1) count_limit))
-          (option_or-some (first_fault limit (tolerated limit h))
-          (fault_of limit token (tolerated limit h)) f (tolerated-faultless limit h) some)
-      | false ↦ λ on some. absurd (cc on)
-    ]
+count-without limit token h f is holds =
+    grind (arith, nat_tests, tolerated-faultless, option_or-some)
 
 -- ---- the registers, which no command with a fault defines
 
@@ -304,9 +218,4 @@ registers-tolerated limit start (Skip byte ∷ h) = registers-tolerated limit st
 -- so they are those of all tokens
 pub registers-effective : (limit : Limit) (start : List (List ℕ)) (h : History)
     → registers start (effective limit h) ≡ registers start h
-registers-effective limit start h =
-    elim limit.lenient as
-    (λ t. registers start (cond t (tolerated limit h) h) ≡ registers start h) [
-      | true ↦ registers-tolerated limit start h
-      | false ↦ refl
-    ]
+registers-effective limit start h = grind (arith, nat_tests, registers-tolerated)
