@@ -1,11 +1,10 @@
 -- The six rows of a band in one block of pixels: what a run, sixels of one column and a greater
 -- width do to a pixel.
-use Rattle.std.proofs.Common.{◌≡◌, ℕ, zero, suc, ◌+◌, ◌-◌, ◌*◌, ◌<◌, ◌≤◌, Bool, true, false, List}
-use Rattle.std.proofs.Common.{[], ◌∷◌, ◌++◌, length, get_or, take, drop, replicate, refl, sym, ap}
-use Rattle.std.proofs.Common.{◌∙◌, inl, inr, eq-eqb, length-append, length-take, get_or-take}
-use Rattle.std.proofs.Common.{get_or-drop, take_all, arith}
+use Rattle.std.proofs.Common.{◌≡◌, ℕ, zero, suc, ◌+◌, ◌*◌, ◌<◌, ◌≤◌, Bool, true, false, List}
+use Rattle.std.proofs.Common.{[], ◌∷◌, ◌++◌, length, get_or, take, drop, replicate, refl, ap}
+use Rattle.std.proofs.Common.{◌∙◌, length-take, get_or-take}
+use Rattle.std.proofs.Common.{get_or-drop, arith}
 use Rattle.std.specs.Prelude.{nat_le, nat_lt, ◌==◌, ◌&&◌, ◌||◌, if◌then◌else◌}
-use Rattle.std.proofs.lemmas.Bool.{cases_lt, cases_order, lt-ltb, le-ltb, lt-leb, le-leb, ne_eqb}
 use Rattle.std.proofs.lemmas.Bool.{eqb-true}
 use Rattle.std.proofs.lemmas.Nat.{row_fits}
 use Rattle.std.proofs.lemmas.List.{get_or_append_left, get_or-append_right, get_or_past}
@@ -13,6 +12,7 @@ use Rattle.std.proofs.lemmas.List.{get_or-set_same, get_or-set_other}
 use Rattle.std.proofs.Math.ListN.{set}
 use Rattle.sixel_base.specs.Picture.{covers, is_set, is_struck}
 use Rattle.sixel_canvas.specs.inside.Band.{filled, stored}
+use Rattle.std.proofs.lemmas.Bool.Decides.{nat_tests}
 
 leb_shift : (c a b : ℕ) → nat_le (c + a) (c + b) ≡ nat_le a b
 leb_shift c a b = grind arith
@@ -26,42 +26,14 @@ pub within_row : (wide from to bit column k : ℕ) → column < wide → from �
     (nat_le (bit * wide + from) (k * wide + column) && nat_lt (k * wide + column) (bit * wide + to))
     ≡ (k == bit && (nat_le from column && nat_lt column to))
 within_row wide from to bit column k inside order within =
-    elim (cases_order k bit) [
-      | inl same ↦ rw (
-        same,
-        eq-eqb bit bit refl,
-        leb_shift (bit * wide) from column,
-        ltb_shift (bit * wide) column to,
-      ) refl
-      | inr (inl above) ↦
-          let row = row_fits k wide bit wide above (omega arith) in
-          rw (
-            lt-leb (bit * wide + from) (k * wide + column) (omega (arith, row, inside)),
-            ne_eqb k bit (λ e. omega (arith, e, above)),
-          ) refl
-      | inr (inr below) ↦
-          let row = row_fits bit wide k wide below (omega arith) in
-          rw (
-            le-leb (bit * wide + from) (k * wide + column)
-                (omega (arith, row, inside, order, within)),
-            le-ltb (k * wide + column) (bit * wide + to) (omega (arith, row, within)),
-            ne_eqb k bit (λ e. omega (arith, e, below)),
-          ) refl
-    ]
+    grind (arith, nat_tests, row_fits, leb_shift, ltb_shift)
 
 -- what was drawn on the rows above one, and then on it
 pub more_rows : {X : Type 0} (hit above up here covered : Bool) (x y z color : X) →
     z ≡ (if hit then color else y) → hit ≡ (here && covered) →
     y ≡ (if above && covered then color else x) → up ≡ (above || here) →
     z ≡ (if up && covered then color else x)
-more_rows hit true up true true x y z color at is before all = rw (at, is, all) refl
-more_rows hit true up true false x y z color at is before all = rw (at, is, all) before
-more_rows hit true up false true x y z color at is before all = rw (at, is, all) before
-more_rows hit true up false false x y z color at is before all = rw (at, is, all) before
-more_rows hit false up true true x y z color at is before all = rw (at, is, all) refl
-more_rows hit false up true false x y z color at is before all = rw (at, is, all) before
-more_rows hit false up false true x y z color at is before all = rw (at, is, all) before
-more_rows hit false up false false x y z color at is before all = rw (at, is, all) before
+more_rows hit above up here covered x y z color at is before all = grind (arith, nat_tests)
 
 -- a row is above the next one where it is above this one, or is this one
 pub rows_up : (k bit : ℕ) → nat_lt k (bit + 1) ≡ (nat_lt k bit || k == bit)
@@ -69,9 +41,7 @@ rows_up k bit = grind arith
 
 if_here : (here between set : Bool) → (here ≡ true → set ≡ true) →
     (here && between) ≡ (here && (between && set))
-if_here false between set is = refl
-if_here true false set is = refl
-if_here true true set is = sym (is refl)
+if_here here between set is = grind (arith, nat_tests)
 
 pub struck_here : (bits bit k : ℕ) → k < 6 → is_set bits bit ≡ true → (k == bit) ≡ true →
     is_struck 0 bits k ≡ true
@@ -91,99 +61,25 @@ pub struck_more :
     else stored px wide d column k)
 struck_more px mid new wide from to bits bit color d column k inside six order within hit before
     change =
-    more_rows _ _ _ (k == bit) (covers from to 0 bits column k) _ _ _ color
-    (change (k * wide + column))
-    (within_row wide from to bit column k inside order within
-    ∙ if_here (k == bit) (nat_le from column && nat_lt column to) (is_struck 0 bits k)
-    (struck_here bits bit k six hit))
-    before (rows_up k bit)
-
-struck_not : (bits bit k : ℕ) → is_set bits bit ≡ false → (k == bit) ≡ true →
-    is_struck 0 bits k ≡ false
-struck_not bits bit k miss here = grind (arith, miss, eqb-true k bit here)
-
-none_here : (here between set : Bool) → (here ≡ true → set ≡ false) →
-    false ≡ (here && (between && set))
-none_here false between set is = refl
-none_here true false set is = refl
-none_here true true set is = sym (is refl)
-
--- or none, where the bit is not set
-pub struck_same :
-    (px mid : List (List ℕ)) (wide from to bits bit : ℕ) (color d : List ℕ) (column k : ℕ) →
-    is_set bits bit ≡ false →
-    stored mid wide d column k
-    ≡ (if nat_lt k bit && covers from to 0 bits column k then color else stored px wide d column k)
-    →
-    stored mid wide d column k
-    ≡ (if nat_lt k (bit + 1) && covers from to 0 bits column k then color
-    else stored px wide d column k)
-struck_same px mid wide from to bits bit color d column k miss before =
-    more_rows false _ _ (k == bit) (covers from to 0 bits column k) _ _ _ color refl
-    (none_here (k == bit) (nat_le from column && nat_lt column to) (is_struck 0 bits k)
-    (struck_not bits bit k miss))
-    before (rows_up k bit)
+    grind (arith, nat_tests, within_row, more_rows, rows_up, if_here, struck_here)
 
 set_filled : (xs : List (List ℕ)) (place to i : ℕ) (color d : List ℕ) → place < length xs →
     to ≡ place + 1 →
     get_or (set xs place color) i d ≡ filled place to color i (get_or xs i d)
-set_filled xs place to i color d inside next = elim (cases_order i place) [
-  | inl same ↦
-      rw (
-        same,
-        get_or-set_same xs place color d inside,
-        le-leb place place (omega arith),
-        lt-ltb place to (omega (arith, next)),
-      ) refl
-  | inr (inl above) ↦
-      rw (
-        get_or-set_other xs place i color d (λ e. omega (arith, e, above)),
-        lt-leb place i above,
-      ) refl
-  | inr (inr below) ↦
-      rw (
-        get_or-set_other xs place i color d (λ e. omega (arith, e, below)),
-        le-leb place i (omega (arith, below)),
-        le-ltb i to (omega (arith, below, next)),
-      ) refl
-]
-
-or_swap : (a f h c : Bool) → (((a || f) || h) && c) ≡ (((a || h) || f) && c)
-or_swap true f h c = refl
-or_swap false true true c = refl
-or_swap false true false c = refl
-or_swap false false true c = refl
-or_swap false false false c = refl
-
-or_same : (a f h c : Bool) → (h ≡ true → c ≡ false) →
-    (((a || f) || f) && c) ≡ (((a || h) || f) && c)
-or_same true f h c none = refl
-or_same false true true c none = refl
-or_same false true false c none = refl
-or_same false false true c none = sym (none refl)
-or_same false false false c none = refl
-
-none_between : (between set : Bool) → set ≡ false → (between && set) ≡ false
-none_between true set is = is
-none_between false set is = refl
+set_filled xs place to i color d inside next =
+    grind (arith, nat_tests, get_or-set_same, get_or-set_other)
 
 -- the rows so far and the first one, with the row of the next bit, which is set
 next_set : (bits bit first column at k : ℕ) →
     (((nat_lt k bit || k == first) || k == bit) && covers at (at + 1) 0 bits column k)
     ≡ ((nat_lt k (bit + 1) || k == first) && covers at (at + 1) 0 bits column k)
-next_set bits bit first column at k =
-    rw (rows_up k bit)
-    (or_swap (nat_lt k bit) (k == first) (k == bit) (covers at (at + 1) 0 bits column k))
+next_set bits bit first column at k = grind (arith, nat_tests)
 
 -- and with the first row again, where the next bit is not set
 next_unset : (bits bit first column at k : ℕ) → is_set bits bit ≡ false →
     (((nat_lt k bit || k == first) || k == first) && covers at (at + 1) 0 bits column k)
     ≡ ((nat_lt k (bit + 1) || k == first) && covers at (at + 1) 0 bits column k)
-next_unset bits bit first column at k miss =
-    rw (rows_up k bit)
-    (or_same (nat_lt k bit) (k == first) (k == bit) (covers at (at + 1) 0 bits column k)
-    (λ same. none_between (nat_le at column && nat_lt column (at + 1)) (is_struck 0 bits k)
-    (struck_not bits bit k miss same)))
+next_unset bits bit first column at k miss = grind (arith, nat_tests)
 
 -- a set pixel of a column, drawn in this row
 set_row :
@@ -209,12 +105,7 @@ set_row px mid wide at bits row color d column k above fits inside six within lo
 first_below : (bits first column at k : ℕ) → ((j : ℕ) → j < first → is_set bits j ≡ false) →
     ((false || k == first) && covers at (at + 1) 0 bits column k)
     ≡ ((nat_lt k 1 || k == first) && covers at (at + 1) 0 bits column k)
-first_below bits first column at (suc k) none = rw (le-ltb (suc k) 1 (omega arith)) refl
-first_below bits zero column at zero none = refl
-first_below bits (suc first) column at zero none =
-    rw (ne_eqb 0 (suc first) (λ e. omega (arith, e)))
-    (sym (none_between (nat_le at column && nat_lt column (at + 1)) (is_struck 0 bits 0)
-    (struck_not bits 0 0 (none 0 (omega arith)) refl)))
+first_below bits first column at k none = grind (arith, nat_tests)
 
 -- the first of them, above which no row has a set pixel
 pub set_first :
@@ -298,33 +189,14 @@ pub copied_more :
     ≡ (if nat_lt column held then stored px held background column k else background)
 copied_more px new part mid next held wide row extra background more long joined cut filled before
     column k inside up =
-    let few : length part ≤ held =
-    rw cut (omega (arith, length-take held (drop (row * held) px))) in
-    let all : take (row * wide + wide) mid ≡ mid =
-    take_all (row * wide + wide) mid
-    (rw joined (omega (arith, length-append new part, few, long, more))) in
-    let i = k * wide + column in
-    let at : get_or next i background ≡ get_or mid i background =
-    ap (λ xs. get_or xs i background) filled
-    ∙ get_or-append_replicate (take (row * wide + wide) mid) extra i background
-    ∙ ap (λ xs. get_or xs i background) all in
-    at ∙ ap (λ xs. get_or xs i background) joined ∙ elim (cases_lt k row) [
-      | inl above ↦ get_or_append_left new part background i
-          (omega (arith, long, inside, row_fits k wide row wide above (omega arith)))
-          ∙ before column k inside above
-      | inr here ↦
-          let same : k ≡ row = omega (arith, here, up) in
-          let first : row * wide + column - row * wide ≡ column = omega arith in
-          rw same (
-          get_or-append_right new part (row * wide) (row * wide + column) background long
-          (omega arith)
-          ∙ ap (λ n. get_or part n background) first
-          ∙ elim (cases_lt column held) [
-            | inl kept ↦ rw (lt-ltb column held kept, cut)
-                (get_or-take held (drop (row * held) px) column background kept
-                ∙ get_or-drop (row * held) px column background)
-            | inr past ↦ rw (le-ltb column held past)
-                (get_or_past part column background (omega (arith, few, past)))
-          ]
-          )
-    ]
+    grind (
+      arith,
+      length-take,
+      get_or-take,
+      get_or-drop,
+      row_fits,
+      get_or_append_left,
+      get_or-append_right,
+      get_or_past,
+      get_or-append_replicate,
+    )

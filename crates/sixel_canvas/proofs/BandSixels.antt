@@ -1,38 +1,24 @@
 -- Which pixels of a band four or eight sixels of one column each cover.
-use Rattle.std.proofs.Common.{◌≡◌, ℕ, ◌+◌, ◌-◌, ◌*◌, ◌<◌, ◌≤◌, Bool, true, false, List, [], ◌∷◌}
-use Rattle.std.proofs.Common.{◌++◌, length, get_or, refl, sym, ap, ◌∙◌, inl, inr, arith}
-use Rattle.std.specs.Prelude.{nat_le, nat_lt, ◌==◌, ◌&&◌, ◌||◌, if◌then◌else◌}
-use Rattle.std.proofs.lemmas.Bool.{cases_lt, lt-ltb, le-ltb, lt-leb, le-leb}
-use Rattle.std.proofs.lemmas.Bool.{eqb-true, leb-true, true≢false}
+use Rattle.std.proofs.Common.{◌≡◌, ℕ, ◌+◌, ◌-◌, ◌*◌, ◌<◌, ◌≤◌, Bool, true, false, List}
+use Rattle.std.proofs.Common.{length, get_or, refl, ap, ◌∙◌, arith}
+use Rattle.std.specs.Prelude.{nat_le, nat_lt, ◌==◌, ◌&&◌, if◌then◌else◌}
+use Rattle.std.proofs.lemmas.Bool.{leb-true}
 use Rattle.sixel_canvas.proofs.Lanes.{each_of_four, four_lanes, get_or-twice}
 use Rattle.sixel_base.specs.Picture.{covers, is_set, is_struck}
 use Rattle.sixel_canvas.specs.inside.Drawn.{covers_block}
 use Rattle.sixel_canvas.specs.inside.Band.{covers_four, mixed_at, stored}
 use Rattle.sixel_canvas.proofs.BandRows.{within_row, more_rows, rows_up}
+use Rattle.std.proofs.lemmas.Bool.Decides.{nat_tests}
 
 sixel_here : (sixels : List ℕ) (wide from bit column k : ℕ) → k < 6 → from ≤ column →
     (k == bit) ≡ true →
     is_set (get_or sixels (k * wide + column - (bit * wide + from)) 0) bit
     ≡ is_struck 0 (get_or sixels (column - from) 0) k
-sixel_here sixels wide from bit column k six after here =
-    let same = eqb-true k bit here in
-    let place : k * wide + column - (bit * wide + from) ≡ column - from = rw same (omega arith) in
-    rw (place, ← same) (grind arith)
+sixel_here sixels wide from bit column k six after here = grind (arith, nat_tests)
 
 mixed_here : (p q s here a b t : Bool) → (p && q) ≡ (here && (a && b)) →
     (here ≡ true → a ≡ true → s ≡ t) → (p && q && s) ≡ (here && (a && b && t))
-mixed_here true true s true true true t same is = is refl refl
-mixed_here true true s false a b t same is = absurd (true≢false same)
-mixed_here true true s true false b t same is = absurd (true≢false same)
-mixed_here true true s true true false t same is = absurd (true≢false same)
-mixed_here false q s true true true t same is = absurd (true≢false (sym same))
-mixed_here true false s true true true t same is = absurd (true≢false (sym same))
-mixed_here false q s false a b t same is = refl
-mixed_here false q s true false b t same is = refl
-mixed_here false q s true true false t same is = refl
-mixed_here true false s false a b t same is = refl
-mixed_here true false s true false b t same is = refl
-mixed_here true false s true true false t same is = refl
+mixed_here p q s here a b t same is = grind (arith, nat_tests)
 
 -- one row of four sixels more
 pub mixed_more :
@@ -60,32 +46,10 @@ mixed_more px mid new wide from bit sixels color d column k inside six within be
     (λ here after. sixel_here sixels wide from bit column k six (leb-true from column after) here))
     before (rows_up k bit)
 
-and_none : (a b : Bool) → (a && b && false) ≡ false
-and_none true true = refl
-and_none true false = refl
-and_none false b = refl
-
-and_false : (a : Bool) → (a && false) ≡ false
-and_false true = refl
-and_false false = refl
-
-struck_blank : (k : ℕ) → is_struck 0 0 k ≡ false
-struck_blank k =
-    let blank : is_set 0 (k - 0) ≡ false = grind arith in
-    ap (λ s. nat_le 0 k && nat_lt k 6 && s) blank ∙ and_none (nat_le 0 k) (nat_lt k 6)
-
 -- four blank sixels cover nothing
 pub blank_four : (from column k : ℕ) (sixels : List ℕ) →
     ((j : ℕ) → j < 4 → get_or sixels j 0 ≡ 0) → covers_four from sixels column k ≡ false
-blank_four from column k sixels blank = elim (cases_lt column from) [
-  | inl left ↦ rw (lt-leb from column left) refl
-  | inr after ↦ elim (cases_lt column (from + 4)) [
-    | inl inside ↦ rw (blank (column - from) (omega (arith, inside, after)))
-        (ap (λ s. nat_le from column && nat_lt column (from + 4) && s) (struck_blank k)
-        ∙ and_none (nat_le from column) (nat_lt column (from + 4)))
-    | inr right ↦ rw (le-leb from column after, le-ltb column (from + 4) right) refl
-  ]
-]
+blank_four from column k sixels blank = grind (arith, nat_tests)
 
 -- eight sixels cover what their first four and their last four do
 halves_cover :
@@ -96,52 +60,7 @@ halves_cover :
     z ≡ (if covers_four (from + 4) last column k then color else y) →
     z ≡ (if covers_block from sixels 0 column k then color else x)
 halves_cover from column k sixels first last color x y z start end before after =
-    elim (cases_lt column from) [
-      | inl left ↦
-          after
-          ∙ rw (lt-leb (from + 4) column (omega (arith, left)))
-          (before ∙ rw (lt-leb from column left) refl)
-      | inr from_on ↦ elim (cases_lt column (from + 4)) [
-        | inl inside ↦
-            after
-            ∙ rw (lt-leb (from + 4) column inside)
-            (before
-            ∙ rw (
-              le-leb from column from_on,
-              lt-ltb column (from + 4) inside,
-              lt-ltb column (from + 8) (omega (arith, inside)),
-              start (column - from) (omega (arith, inside, from_on)),
-            ) refl)
-        | inr past ↦
-            let place : 4 + (column - (from + 4)) ≡ column - from = omega (arith, past) in
-            let old : y ≡ x =
-            before ∙ rw (le-leb from column from_on, le-ltb column (from + 4) past) refl in
-            elim (cases_lt column (from + 8)) [
-              | inl here ↦
-                  let same : get_or last (column - (from + 4)) 0 ≡ get_or sixels (column - from) 0 =
-                  end (column - (from + 4)) (omega (arith, here, past))
-                  ∙ ap (λ n. get_or sixels n 0) place in
-                  after
-                  ∙ rw (
-                    le-leb (from + 4) column past,
-                    lt-ltb column (from + 4 + 4) (omega (arith, here)),
-                    le-leb from column from_on,
-                    lt-ltb column (from + 8) here,
-                    same,
-                    old,
-                  ) refl
-              | inr right ↦
-                  after
-                  ∙ rw (
-                    le-leb (from + 4) column past,
-                    le-ltb column (from + 4 + 4) (omega (arith, right)),
-                    le-leb from column from_on,
-                    le-ltb column (from + 8) right,
-                    old,
-                  ) refl
-            ]
-      ]
-    ]
+    grind (arith, nat_tests)
 
 module _ (from column k : ℕ) (sixels : List ℕ) (long : length sixels ≡ 8) where
   first_lanes : (j : ℕ) → j < 4 → get_or (four_lanes sixels 0) j 0 ≡ get_or sixels j 0
@@ -177,25 +96,4 @@ module _ (from column k : ℕ) (sixels : List ℕ) (long : length sixels ≡ 8) 
 pub covers_repeated : (from to bits column k : ℕ) (sixels : List ℕ) → from ≤ to → to ≤ from + 8 →
     ((j : ℕ) → get_or sixels j 0 ≡ (if nat_lt j (to - from) then bits else 0)) →
     covers_block from sixels 0 column k ≡ covers from to 0 bits column k
-covers_repeated from to bits column k sixels order few same = elim (cases_lt column from) [
-  | inl left ↦ rw (lt-leb from column left) refl
-  | inr after ↦ elim (cases_lt column to) [
-    | inl inside ↦
-        let here : get_or sixels (column - from) 0 ≡ bits =
-        same (column - from)
-        ∙ rw (lt-ltb (column - from) (to - from) (omega (arith, inside, after))) refl in
-        rw (
-          le-leb from column after,
-          lt-ltb column (from + 8) (omega (arith, inside, few)),
-          lt-ltb column to inside,
-          here,
-        ) refl
-    | inr right ↦
-        let blank : get_or sixels (column - from) 0 ≡ 0 =
-        same (column - from)
-        ∙ rw (le-ltb (column - from) (to - from) (omega (arith, right, order))) refl in
-        rw (le-leb from column after, le-ltb column to right, blank)
-        (ap (λ s. nat_lt column (from + 8) && s) (struck_blank k)
-        ∙ and_false (nat_lt column (from + 8)))
-  ]
-]
+covers_repeated from to bits column k sixels order few same = grind (arith, nat_tests)

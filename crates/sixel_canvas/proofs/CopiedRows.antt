@@ -1,52 +1,30 @@
 -- What a caller's memory has once one more row of pixels was copied there.
-use Rattle.std.proofs.Common.{◌≡◌, ℕ, ◌+◌, ◌-◌, ◌*◌, ◌/◌, ◌%◌, ◌<◌, ◌≤◌, Bool, true, false, List}
-use Rattle.std.proofs.Common.{◌++◌, length, get_or, take, drop, refl, sym, ap, ◌∙◌, inl, inr, arith}
+use Rattle.std.proofs.Common.{◌≡◌, ℕ, ◌+◌, ◌-◌, ◌*◌, ◌/◌, ◌%◌, ◌<◌, ◌≤◌, Bool, true, List}
+use Rattle.std.proofs.Common.{length, get_or, take, drop, sym, ap, ◌∙◌, arith}
 use Rattle.std.proofs.Common.{length-take, length-drop, get_or-take, get_or-drop}
 use Rattle.std.specs.Prelude.{nat_le, nat_lt, ◌==◌, ◌&&◌, if◌then◌else◌}
-use Rattle.std.proofs.lemmas.Bool.{cases_lt, lt-ltb, le-ltb, lt-leb, le-leb, eqb-true, ltb-true}
-use Rattle.std.proofs.lemmas.Bool.{true≢false}
+use Rattle.std.proofs.lemmas.Bool.{le-leb, eqb-true, ltb-true}
 use Rattle.std.proofs.lemmas.List.{get_or_append_left, get_or-append_right}
 use Rattle.std.proofs.lemmas.Nat.{mul-le}
-use borrow.Rule.Slice.PartMut.{post_of, put_mid}
+use borrow.Rule.Slice.PartMut.{put_mid}
 use Rattle.sixel_canvas.specs.Layout.{AreCopied, AreRowsIn, in_order}
 use Rattle.sixel_canvas.specs.declared.channels.RowLayout.{RowLayout}
 use Rattle.sixel_canvas.proofs.BandRows.{more_rows, rows_up, within_row}
+use Rattle.std.proofs.lemmas.Bool.Decides.{nat_tests}
 
 -- bytes with a part of them written over
 spliced : (a k : ℕ) (xs ys : List ℕ) (i : ℕ) → a + k ≤ length xs → length ys ≡ k →
     get_or (put_mid a k xs ys) i 0
     ≡ (if nat_le a i && nat_lt i (a + k) then get_or ys (i - a) 0 else get_or xs i 0)
 spliced a k xs ys i fits len =
-    let post = post_of a k xs in
-    let front : length (take a xs) ≡ a = omega (arith, length-take a xs, fits) in
-    elim (cases_lt i a) [
-      | inl before ↦ rw (lt-leb a i before)
-          (get_or_append_left (take a xs) (ys ++ post) 0 i (omega (arith, front, before))
-          ∙ get_or-take a xs i 0 before)
-      | inr after ↦
-          get_or-append_right (take a xs) (ys ++ post) a i 0 front after
-          ∙ elim (cases_lt i (a + k)) [
-            | inl inside ↦ rw (le-leb a i after, lt-ltb i (a + k) inside)
-                (get_or_append_left ys post 0 (i - a) (omega (arith, len, inside, after)))
-            | inr past ↦
-                let back : a + (k + (i - a - k)) ≡ i = omega (arith, past) in
-                rw (le-leb a i after, le-ltb i (a + k) past)
-                (get_or-append_right ys post k (i - a) 0 len (omega (arith, past))
-                ∙ get_or-drop k (drop a xs) (i - a - k) 0
-                ∙ get_or-drop a xs (k + (i - a - k)) 0
-                ∙ ap (λ n. get_or xs n 0) back)
-          ]
-    ]
+    grind (arith, length-take, get_or-take, get_or-drop, get_or_append_left, get_or-append_right)
 
 if_same : (b : Bool) (p q y : ℕ) → (b ≡ true → p ≡ q) →
     (if b then p else y) ≡ (if b then q else y)
-if_same true p q y same = same refl
-if_same false p q y same = refl
+if_same b p q y same = grind (arith, nat_tests)
 
 both : (a b : Bool) → (a && b) ≡ true → (a ≡ true) × (b ≡ true)
-both true true is = (refl, refl)
-both true false is = absurd (true≢false (sym is))
-both false b is = absurd (true≢false (sym is))
+both a b is = grind (arith, nat_tests)
 
 -- one row more was copied
 pub copied_row :
@@ -96,22 +74,3 @@ copied_row shown first rows k n layout old mid part fits less is len copied befo
     ∙ if_same (nat_le start at && nat_lt at (start + n)) (get_or part (at - start) 0) pixel
     (get_or mid at 0) here)
     hit (before row byte inside) (rows_up row k)
-
--- the same rows under other numbers were copied
-pub copied_same :
-    (p q : ℕ → ℕ → List ℕ) (first' first rows : ℕ) (layout : RowLayout) (old new : List ℕ) →
-    ((column row : ℕ) → row < rows → q column (first + row) ≡ p column (first' + row)) →
-    AreCopied p first' rows layout old new → AreCopied q first rows layout old new
-copied_same p q first' first rows layout old new same copied row byte inside =
-    copied row byte inside ∙ elim (cases_lt row rows) [
-      | inl above ↦
-          let pixel : q (byte / 4) (first + row) ≡ p (byte / 4) (first' + row) =
-          same (byte / 4) row above in
-          rw (lt-ltb row rows above)
-          (ap
-          (λ x.
-          if nat_lt byte (4 * layout.columns) then get_or (in_order layout.order x) (byte % 4) 0
-          else get_or old (row * layout.stride + byte) 0)
-          (sym pixel))
-      | inr below ↦ rw (le-ltb row rows below) refl
-    ]

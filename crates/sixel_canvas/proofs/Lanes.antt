@@ -1,22 +1,19 @@
 -- Lanes: what holds of each of four, and pixels that are chosen among two as numbers.
-use Rattle.std.proofs.Common.{◌≡◌, ℕ, zero, suc, ◌+◌, ◌-◌, ◌/◌, ◌^◌, ◌%◌, ◌<◌, ◌≤◌, Bool, true}
-use Rattle.std.proofs.Common.{false, cond, List, [], ◌∷◌, ◌++◌, length, map, get_or, bit_and, refl}
-use Rattle.std.proofs.Common.{sym, ap, subst, ◌∙◌, inl, inr, arith}
+use Rattle.std.proofs.Common.{◌≡◌, ℕ, ◌+◌, ◌-◌, ◌/◌, ◌^◌, ◌%◌, ◌<◌, ◌≤◌, Bool}
+use Rattle.std.proofs.Common.{cond, List, [], ◌∷◌, ◌++◌, length, map, get_or, bit_and, refl}
+use Rattle.std.proofs.Common.{subst, arith}
 use Rattle.std.specs.Prelude.{slice_set, nat_le, nat_lt, ◌==◌, ◌&&◌, if◌then◌else◌}
 use Rattle.std.specs.Int.{to_le_bytes, w32}
-use Rattle.std.proofs.lemmas.Bool.{cases_lt, cases_order, lt-ltb, le-ltb, lt-leb, le-leb}
 use Rattle.std.proofs.lemmas.Grind.{and_numeral, get_or-set_at}
-use Rattle.std.proofs.lemmas.List.{get_or_append_left, get_or-set_other, get_or_default}
+use Rattle.std.proofs.lemmas.List.{get_or_append_left, get_or-set_other}
 use lib.Lanes.{sel_l, top, zip2}
 use Rattle.sixel_base.specs.Picture.{is_set}
+use Rattle.std.proofs.lemmas.Bool.Decides.{nat_tests}
+use Rattle.std.proofs.lemmas.Grind.{common_steps}
 
 -- what holds of each of four
 pub each_of_four : (P : ℕ → Type 0) → P 0 → P 1 → P 2 → P 3 → (k : ℕ) → k < 4 → P k
-each_of_four P a b c d zero less = a
-each_of_four P a b c d (suc zero) less = b
-each_of_four P a b c d (suc (suc zero)) less = c
-each_of_four P a b c d (suc (suc (suc zero))) less = d
-each_of_four P a b c d (suc (suc (suc (suc k)))) less = absurd (omega (arith, less))
+each_of_four P a b c d k less = grind (arith, nat_tests)
 
 -- four lanes of a list, as `extract` reads them in the list joined to itself
 abbrev pub four_lanes : List ℕ → ℕ → List ℕ
@@ -30,33 +27,19 @@ get_or-twice xs j inside = get_or_append_left xs xs 0 j inside
 
 -- a lane where a mask is set, and 0 elsewhere
 pub lane_is : (hit : Bool) (x : ℕ) → cond (top 7 (cond hit 255 0)) x 0 ≡ (if hit then x else 0)
-lane_is true x = refl
-lane_is false x = refl
+lane_is hit x = grind (arith, nat_tests)
 
 -- eight values, and the default past them, are those of a function
 pub get_or-lanes :
     (x : ℕ → ℕ) (a b c d e f g h : ℕ) → a ≡ x 0 → b ≡ x 1 → c ≡ x 2 → d ≡ x 3 → e ≡ x 4 → f ≡ x 5 →
     g ≡ x 6 → h ≡ x 7 → ((j : ℕ) → 8 ≤ j → x j ≡ 0) → (j : ℕ) →
     get_or (a ∷ b ∷ c ∷ d ∷ e ∷ f ∷ g ∷ h ∷ []) j 0 ≡ x j
-get_or-lanes x a b c d e f g h pa pb pc pd pe pf pg ph past zero = pa
-get_or-lanes x a b c d e f g h pa pb pc pd pe pf pg ph past (suc zero) = pb
-get_or-lanes x a b c d e f g h pa pb pc pd pe pf pg ph past (suc (suc zero)) = pc
-get_or-lanes x a b c d e f g h pa pb pc pd pe pf pg ph past (suc (suc (suc zero))) = pd
-get_or-lanes x a b c d e f g h pa pb pc pd pe pf pg ph past (suc (suc (suc (suc zero)))) = pe
-get_or-lanes x a b c d e f g h pa pb pc pd pe pf pg ph past (suc (suc (suc (suc (suc zero))))) = pf
-get_or-lanes x a b c d e f g h pa pb pc pd pe pf pg ph past
-    (suc (suc (suc (suc (suc (suc zero)))))) = pg
-get_or-lanes x a b c d e f g h pa pb pc pd pe pf pg ph past
-    (suc (suc (suc (suc (suc (suc (suc zero))))))) = ph
-get_or-lanes x a b c d e f g h pa pb pc pd pe pf pg ph past
-    (suc (suc (suc (suc (suc (suc (suc (suc j)))))))) =
-    sym (past (suc (suc (suc (suc (suc (suc (suc (suc j)))))))) (omega arith))
+get_or-lanes x a b c d e f g h pa pb pc pd pe pf pg ph past j = grind (arith, nat_tests)
 
 -- one of two numbers by a mask
 by_mask : (hit : Bool) (new old : ℕ) →
     cond (top 31 (cond hit 4294967295 0)) new old ≡ (if hit then new else old)
-by_mask true new old = refl
-by_mask false new old = refl
+by_mask hit new old = grind (arith, nat_tests)
 
 -- a lane's number where its sixel has the bit
 chosen_lane : (sixel bit new old : ℕ) →
@@ -68,12 +51,7 @@ chosen_lane sixel bit new old =
 -- a list of four
 four_list : (xs : List ℕ) → length xs ≡ 4 →
     (get_or xs 0 0 ∷ get_or xs 1 0 ∷ get_or xs 2 0 ∷ get_or xs 3 0 ∷ []) ≡ xs
-four_list [] four = absurd (omega (arith, four))
-four_list (a ∷ []) four = absurd (omega (arith, four))
-four_list (a ∷ b ∷ []) four = absurd (omega (arith, four))
-four_list (a ∷ b ∷ c ∷ []) four = absurd (omega (arith, four))
-four_list (a ∷ b ∷ c ∷ d ∷ []) four = refl
-four_list (a ∷ b ∷ c ∷ d ∷ e ∷ xs) four = absurd (omega (arith, four))
+four_list xs four = grind (arith, common_steps, nat_tests)
 
 -- four lanes, of which those whose sixel has the bit are a new number
 abbrev chosen : List ℕ → ℕ → ℕ → List ℕ → List ℕ
@@ -103,22 +81,7 @@ get_or-chosen sixels old bit new four same =
 pub bytes_of : (hit : Bool) (n x y : ℕ) (color pixel : List ℕ) → n ≡ (if hit then x else y) →
     to_le_bytes w32 x ≡ color → to_le_bytes w32 y ≡ pixel →
     to_le_bytes w32 n ≡ (if hit then color else pixel)
-bytes_of true n x y color pixel is new old = ap (to_le_bytes w32) is ∙ new
-bytes_of false n x y color pixel is new old = ap (to_le_bytes w32) is ∙ old
-
--- a pixel that is there, whatever the default
-pub read_at : (pixels : List (List ℕ)) (at j i : ℕ) (d : List ℕ) → i ≡ at + j →
-    i < length pixels → get_or pixels i [] ≡ get_or pixels (at + j) d
-read_at pixels at j i d is inside =
-    get_or_default pixels i [] d inside ∙ ap (λ n. get_or pixels n d) is
-
--- no pixel is mixed yet
-pub none_mixed : (at i : ℕ) (set : Bool) (color old : List ℕ) →
-    old ≡ (if nat_le at i && nat_lt i (at + 0) && set then color else old)
-none_mixed at i set color old = elim (cases_lt i at) [
-  | inl left ↦ rw (lt-leb at i left) refl
-  | inr after ↦ rw (le-leb at i after, le-ltb i (at + 0) (omega (arith, after))) refl
-]
+bytes_of hit n x y color pixel is new old = grind (arith, nat_tests)
 
 -- one pixel more was mixed
 pub mixed_step :
@@ -132,26 +95,4 @@ pub mixed_step :
     ≡ (if nat_le at i && nat_lt i (at + (j + 1)) && is_set (get_or sixels (i - at) 0) bit then color
     else get_or old i d)
 mixed_step old mid at j bit sixels color pixel d i inside is before =
-    elim (cases_order i (at + j)) [
-      | inl here ↦
-          let off : i - at ≡ j = omega (arith, here) in
-          get_or-set_at mid (at + j) i pixel d here inside
-          ∙ is
-          ∙ rw (
-            le-leb at i (omega (arith, here)),
-            lt-ltb i (at + (j + 1)) (omega (arith, here)),
-            off,
-            here,
-          ) refl
-      | inr (inl above) ↦
-          get_or-set_other mid (at + j) i pixel d (λ e. omega (arith, e, above))
-          ∙ before
-          ∙ rw (lt-ltb i (at + j) above, lt-ltb i (at + (j + 1)) (omega (arith, above))) refl
-      | inr (inr below) ↦
-          get_or-set_other mid (at + j) i pixel d (λ e. omega (arith, e, below))
-          ∙ before
-          ∙ rw (
-            le-ltb i (at + j) (omega (arith, below)),
-            le-ltb i (at + (j + 1)) (omega (arith, below)),
-          ) refl
-    ]
+    grind (arith, nat_tests, get_or-set_at, get_or-set_other)

@@ -6,7 +6,6 @@ pub mod BandTags
 pub mod CopiedRows
 pub mod Lanes
 pub mod MovedRows
-pub mod HandedRows
 pub mod Pictures
 pub mod PixelBytes
 pub mod PixelLists

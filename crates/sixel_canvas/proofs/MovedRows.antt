@@ -1,10 +1,10 @@
 -- How many pixels were written to give the rows of an image another width, against its pixels.
 use Rattle.std.proofs.Common.{◌≡◌, ℕ, ◌+◌, ◌-◌, ◌*◌, ◌≤◌, ◌∷◌, List, max, arith}
-use Rattle.std.specs.Prelude.{if◌then◌else◌}
 use Rattle.std.proofs.Math.Nat.{mul-le-mul_left, mul-le-mul_right}
 use Rattle.sixel_canvas.specs.inside.BandCanvas.{AreMoved, BandCanvasState, IsLaidOut, least_width}
 use Rattle.sixel_canvas.specs.inside.Drawn.{Run, lowest_top, run}
 use Rattle.sixel_canvas.specs.inside.Paints.{counted}
+use Rattle.std.proofs.lemmas.Bool.Decides.{nat_tests}
 
 -- rows that were given at least twice their width
 pub moved_within : (moved rows old width : ℕ) → 2 * old ≤ width
@@ -14,11 +14,7 @@ moved_within moved rows old width doubled = omega (arith, mul-le-mul_left rows d
 -- a wider picture
 pub laid_wider : (canvas : BandCanvasState) (width wider : ℕ) → IsLaidOut canvas width
     → width ≤ wider → IsLaidOut canvas wider
-laid_wider canvas width wider is le = record {
-  expected = omega (arith, is.expected, le);
-  wide = omega (arith, is.wide, le);
-  moved = omega (arith, is.moved, mul-le-mul_left canvas.released le);
-}
+laid_wider canvas width wider is le = grind (arith, nat_tests)
 
 -- memory for `columns` was allocated, and then the band was drawn on
 pub laid_held : (old held new : BandCanvasState) (named : ℕ) (runs : List Run) (columns : ℕ)
@@ -48,11 +44,7 @@ moved_above moved rows wide released width top narrow few above =
 pub moved_more : (canvas : BandCanvasState) (named : ℕ) (runs : List Run)
     → IsLaidOut canvas (least_width named runs) → canvas.released + canvas.rows.rows ≤ canvas.top
     → canvas.top ≤ lowest_top runs → AreMoved canvas named runs
-moved_more canvas named runs is above lowest = record {
-  laid = is;
-  few = moved_above canvas.rows.moved canvas.rows.rows canvas.rows.width canvas.released
-      (least_width named runs) (lowest_top runs) is.wide is.moved (omega (arith, above, lowest));
-}
+moved_more canvas named runs is above lowest = grind (arith, nat_tests, moved_above)
 
 -- `count` rows were released
 pub moved_released : (old new : BandCanvasState) (named : ℕ) (runs : List Run) (count : ℕ)

@@ -1,7 +1,6 @@
 -- What the bytes of a row are once those of one pixel more were written to it.
 use Rattle.std.proofs.Common.{◌≡◌, ℕ, ◌+◌, ◌*◌, ◌/◌, ◌%◌, ◌<◌, ◌≤◌, List, length, get_or, refl, ◌∙◌}
-use Rattle.std.proofs.Common.{inl, inr, arith, [], ◌∷◌, ◌++◌, ◌-◌, take, drop, ap, sym}
-use Rattle.std.proofs.Common.{get_or-drop, length-drop}
+use Rattle.std.proofs.Common.{inl, inr, arith, [], ◌∷◌, ◌++◌, ◌-◌, take, ap}
 use Rattle.std.specs.Prelude.{slice_set}
 use Rattle.sixel_canvas.specs.inside.FinalRows.{pixel_at}
 use Rattle.std.specs.Prelude.{min, nat_lt, if◌then◌else◌}
@@ -10,29 +9,14 @@ use Rattle.std.proofs.lemmas.List.{get_or_append_left, get_or-append_right}
 use Rattle.sixel_canvas.proofs.RowBytes.{pixel_part}
 use Rattle.std.proofs.lemmas.Grind.{get_or-set_at}
 use Rattle.std.proofs.lemmas.List.{get_or-set_other, length-set}
-
-first_four : (xs : List ℕ) → 4 ≤ length xs →
-    (get_or xs 0 0 ∷ get_or xs 1 0 ∷ get_or xs 2 0 ∷ get_or xs 3 0 ∷ []) ≡ take 4 xs
-first_four [] four = absurd (omega (arith, four))
-first_four (a ∷ []) four = absurd (omega (arith, four))
-first_four (a ∷ b ∷ []) four = absurd (omega (arith, four))
-first_four (a ∷ b ∷ c ∷ []) four = absurd (omega (arith, four))
-first_four (a ∷ b ∷ c ∷ d ∷ rest) four = refl
+use Rattle.std.proofs.lemmas.Bool.Decides.{nat_tests}
+use Rattle.std.proofs.lemmas.Grind.{common_steps}
 
 -- four bytes are a pixel
 pub pixel_four : (bytes : List ℕ) (i : ℕ) → 4 * i + 4 ≤ length bytes →
     (get_or bytes (4 * i) 0 ∷ get_or bytes (4 * i + 1) 0 ∷ get_or bytes (4 * i + 2) 0
     ∷ get_or bytes (4 * i + 3) 0 ∷ []) ≡ pixel_at bytes i
-pixel_four bytes i fits =
-    let rest = drop (4 * i) bytes in
-    let first : get_or rest 0 0 ≡ get_or bytes (4 * i) 0 =
-    get_or-drop (4 * i) bytes 0 0 ∙ ap (λ n. get_or bytes n 0) (omega arith) in
-    rw (
-      ← first,
-      ← get_or-drop (4 * i) bytes 1 0,
-      ← get_or-drop (4 * i) bytes 2 0,
-      ← get_or-drop (4 * i) bytes 3 0,
-    ) (first_four rest (omega (arith, length-drop (4 * i) bytes, fits)))
+pixel_four bytes i fits = grind (arith, common_steps, nat_tests)
 
 -- the row with four bytes written from a place on
 abbrev pub put : List ℕ → ℕ → List ℕ → List ℕ
@@ -42,12 +26,7 @@ put row at bytes =
     (get_or bytes 2 0)) (at + 3) (get_or bytes 3 0)
 
 pub put_len : (row : List ℕ) (at : ℕ) (bytes : List ℕ) → length (put row at bytes) ≡ length row
-put_len row at bytes =
-    let one = slice_set row at (get_or bytes 0 0) in
-    let two = slice_set one (at + 1) (get_or bytes 1 0) in
-    let three = slice_set two (at + 2) (get_or bytes 2 0) in
-    length-set three (at + 3) (get_or bytes 3 0) ∙ length-set two (at + 2) (get_or bytes 2 0)
-    ∙ length-set one (at + 1) (get_or bytes 1 0) ∙ length-set row at (get_or bytes 0 0)
+put_len row at bytes = grind (arith, nat_tests, length-set)
 
 byte_at : (bytes : List ℕ) (f : ℕ → List ℕ) (column i j : ℕ) → bytes ≡ f column → i / 4 ≡ column
     → i % 4 ≡ j → get_or bytes j 0 ≡ get_or (f (i / 4)) (i % 4) 0
@@ -59,80 +38,17 @@ pub put_more : (row bytes : List ℕ) (f : ℕ → List ℕ) (column : ℕ) → 
     → (i : ℕ) → i < 4 * (column + 1)
     → get_or (put row (4 * column) bytes) i 0 ≡ get_or (f (i / 4)) (i % 4) 0
 put_more row bytes f column fits is before i up =
-    let at = 4 * column in
-    let b0 = get_or bytes 0 0 in
-    let b1 = get_or bytes 1 0 in
-    let b2 = get_or bytes 2 0 in
-    let b3 = get_or bytes 3 0 in
-    let one = slice_set row at b0 in
-    let two = slice_set one (at + 1) b1 in
-    let three = slice_set two (at + 2) b2 in
-    elim (cases_lt i (at + 3)) [
-      | inr last ↦
-          let here : i ≡ at + 3 = omega (arith, last, up) in
-          get_or-set_at three (at + 3) i b3 0 here (omega (
-            arith,
-            fits,
-            length-set two (at + 2) b2,
-            length-set one (at + 1) b1,
-            length-set row at b0,
-          ))
-          ∙ byte_at bytes f column i 3 is (omega (arith, here)) (omega (arith, here))
-      | inl third ↦
-          get_or-set_other three (at + 3) i b3 0 (λ e. omega (arith, e, third))
-          ∙ elim (cases_lt i (at + 2)) [
-            | inr last ↦
-                let here : i ≡ at + 2 = omega (arith, last, third) in
-                get_or-set_at two (at + 2) i b2 0 here
-                (omega (arith, fits, length-set one (at + 1) b1, length-set row at b0))
-                ∙ byte_at bytes f column i 2 is (omega (arith, here)) (omega (arith, here))
-            | inl second ↦
-                get_or-set_other two (at + 2) i b2 0 (λ e. omega (arith, e, second))
-                ∙ elim (cases_lt i (at + 1)) [
-                  | inr last ↦
-                      let here : i ≡ at + 1 = omega (arith, last, second) in
-                      get_or-set_at one (at + 1) i b1 0 here
-                      (omega (arith, fits, length-set row at b0))
-                      ∙ byte_at bytes f column i 1 is (omega (arith, here)) (omega (arith, here))
-                  | inl first ↦
-                      get_or-set_other one (at + 1) i b1 0 (λ e. omega (arith, e, first))
-                      ∙ elim (cases_lt i at) [
-                        | inr last ↦
-                            let here : i ≡ at = omega (arith, last, first) in
-                            get_or-set_at row at i b0 0 here (omega (arith, fits))
-                            ∙ byte_at bytes f column i 0 is (omega (arith, here))
-                            (omega (arith, here))
-                        | inl inside ↦
-                            get_or-set_other row at i b0 0 (λ e. omega (arith, e, inside))
-                            ∙ before i inside
-                      ]
-                ]
-          ]
-    ]
+    grind (arith, nat_tests, get_or-set_at, get_or-set_other, length-set, byte_at)
 
 -- bytes after those of the pixel
 pub put_past : (row : List ℕ) (at : ℕ) (bytes : List ℕ) (i : ℕ) → at + 4 ≤ i
     → get_or (put row at bytes) i 0 ≡ get_or row i 0
-put_past row at bytes i past =
-    let one = slice_set row at (get_or bytes 0 0) in
-    let two = slice_set one (at + 1) (get_or bytes 1 0) in
-    let three = slice_set two (at + 2) (get_or bytes 2 0) in
-    get_or-set_other three (at + 3) i (get_or bytes 3 0) 0 (λ e. omega (arith, e, past))
-    ∙ get_or-set_other two (at + 2) i (get_or bytes 2 0) 0 (λ e. omega (arith, e, past))
-    ∙ get_or-set_other one (at + 1) i (get_or bytes 1 0) 0 (λ e. omega (arith, e, past))
-    ∙ get_or-set_other row at i (get_or bytes 0 0) 0 (λ e. omega (arith, e, past))
+put_past row at bytes i past = grind (arith, nat_tests, get_or-set_other)
 
 -- a pixel whose bytes are the same
 pub pixel_kept : (now old : List ℕ) (k : ℕ) → 4 * k + 4 ≤ length now → 4 * k + 4 ≤ length old
     → ((i : ℕ) → 4 * k ≤ i → get_or now i 0 ≡ get_or old i 0) → pixel_at now k ≡ pixel_at old k
-pixel_kept now old k fits inside same =
-    sym (pixel_four now k fits)
-    ∙ rw (
-      same (4 * k) (omega arith),
-      same (4 * k + 1) (omega arith),
-      same (4 * k + 2) (omega arith),
-      same (4 * k + 3) (omega arith),
-    ) (pixel_four old k inside)
+pixel_kept now old k fits inside same = grind (arith, nat_tests, pixel_four)
 
 -- a row of stored pixels, and of background right of them
 pub row_bytes : (f : List ℕ → List ℕ) (pixels background stored rest : List ℕ) (len i : ℕ) →

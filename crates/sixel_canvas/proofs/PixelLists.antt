@@ -1,8 +1,7 @@
 -- The pixels that bytes are: how many, which of them, and those of bytes that were put together.
 use Rattle.std.proofs.Common.{◌≡◌, ℕ, zero, suc, ◌+◌, ◌-◌, ◌*◌, ◌<◌, ◌≤◌, List, [], ◌∷◌, ◌++◌}
 use Rattle.std.proofs.Common.{length, get_or, take, drop, replicate, refl, ap, ◌∙◌, arith}
-use Rattle.std.proofs.Common.{length-take, length-append, length-drop, sym, inl, inr}
-use Rattle.std.proofs.lemmas.Bool.{cases_lt, lt-ltb, le-ltb}
+use Rattle.std.proofs.Common.{length-take, length-append, length-drop, sym}
 use Rattle.std.proofs.lemmas.Bool.Decides.{nat_tests}
 use Rattle.std.proofs.lemmas.List.{length-replicate}
 use Rattle.std.specs.List.{flat_map}
@@ -189,36 +188,7 @@ thrifty_written background old new bytes room writes n same old_long new_long is
 -- a row that grew is as thrifty
 pub thrifty_reached : (columns : ℕ) (row : RowState) → columns ≤ 1000000
     → length row.pixels < columns → IsThrifty row → IsThrifty (reached_to columns row)
-thrifty_reached columns row side more is =
-    let long : length (reached_to columns row).pixels ≡ columns =
-    omega (
-      arith,
-      length-append row.pixels (replicate (columns - length row.pixels) row.background),
-      length-replicate (columns - length row.pixels) row.background,
-      more,
-    ) in
-    elim (cases_lt row.room columns) [
-      | inl short ↦
-          let test = lt-ltb row.room columns short in
-          record {
-            held = rw test (omega (arith, long));
-            room_at_most = rw test (omega (arith, long, short, is.room_at_most));
-            side = rw test (omega (arith, side));
-            at_least = rw test (omega (arith, long, is.at_least));
-            at_most = rw test (omega (arith, long, is.at_most, is.growing, short, side));
-            growing = rw test (λ less. omega (arith, long, less, short, side, is.growing, is.held));
-          }
-      | inr enough ↦
-          let test = le-ltb row.room columns enough in
-          record {
-            held = rw test (omega (arith, long, enough));
-            room_at_most = rw test (omega (arith, long, more, is.room_at_most));
-            side = rw test is.side;
-            at_least = rw test (omega (arith, long, more, is.at_least));
-            at_most = rw test (omega (arith, long, more, is.at_most));
-            growing = rw test (λ less. omega (arith, long, more, less, is.growing));
-          }
-    ]
+thrifty_reached columns row side more is = grind (arith, nat_tests, length-append, length-replicate)
 
 -- a row that grew has room for its columns
 pub room_for-enough : (columns room : ℕ) → columns ≤ room_for columns room

@@ -1,14 +1,14 @@
 use Rattle.std.proofs.Common.{◌≡◌, ℕ, zero, suc, ◌+◌, ◌-◌, ◌*◌, ◌<◌, ◌≤◌, min, List, [], ◌∷◌, ◌++◌}
-use Rattle.std.proofs.Common.{length, get_or, take, drop, refl, sym, ap, ◌∙◌, inl, inr, take_all}
+use Rattle.std.proofs.Common.{length, get_or, take, drop, refl, sym, ap, ◌∙◌, take_all}
 use Rattle.std.proofs.Common.{get_or-drop, length-drop, arith}
 use Rattle.std.specs.List.{flat_map}
-use Rattle.std.proofs.lemmas.Bool.{cases_lt}
 use Rattle.std.proofs.lemmas.List.{append-nil, drop_all, get_or_past}
 use Rattle.std.proofs.lemmas.Slice.{put_mid-paste}
 use borrow.Rule.Slice.PartMut.{put_mid}
 use Rattle.sixel_base.specs.Picture.{joined}
 use Rattle.sixel_base.proofs.PictureBytes.{joined-front, joined-same, joined-add, length-joined}
 use Rattle.sixel_canvas.proofs.Spans.{IsColored}
+use Rattle.std.proofs.lemmas.Bool.Decides.{nat_tests}
 
 -- a span in one color is that color's bytes, over and over
 joined-colored : (color span : List ℕ) (n : ℕ) → length color ≡ 4 → length span ≡ 4 * n
@@ -34,17 +34,7 @@ pub put_mid-colored : (bytes span color : List ℕ) (start n : ℕ) → start + 
     → length color ≡ 4 → length span ≡ 4 * n → IsColored color span (4 * n)
     → put_mid start (length bytes - start) bytes span ≡ take start bytes ++ joined (λ _. color) n
 put_mid-colored bytes span color start n whole four long colored =
-    put_mid-paste start (length bytes - start) bytes span (joined (λ _. color) n) (4 * n)
-    (joined-colored color span n four long colored) (omega arith)
-    (omega (arith, length-joined (λ _. color) 4 n (λ _. four)))
-    ∙ ap
-    (λ xs. take start bytes ++ xs ++ drop (start + 4 * n) bytes)
-    (take_all (4 * n) (joined (λ _. color) n)
-    (omega (arith, length-joined (λ _. color) 4 n (λ _. four))))
-    ∙ ap
-    (λ xs. take start bytes ++ joined (λ _. color) n ++ xs)
-    (drop_all (start + 4 * n) bytes (omega arith))
-    ∙ append-nil (take start bytes ++ joined (λ _. color) n)
+    grind (arith, take_all, append-nil, drop_all, put_mid-paste, joined-colored)
 
 -- bytes of which a part was written in one color
 pub put_mid-filled : (bytes span color : List ℕ) (from to : ℕ) → from ≤ to → 4 * to ≤ length bytes
@@ -52,15 +42,7 @@ pub put_mid-filled : (bytes span color : List ℕ) (from to : ℕ) → from ≤ 
     → put_mid (4 * from) (4 * to - 4 * from) bytes span
     ≡ take (4 * from) bytes ++ joined (λ _. color) (to - from) ++ drop (4 * to) bytes
 put_mid-filled bytes span color from to order within four long colored =
-    let n = to - from in
-    let all = length-joined (λ _. color) 4 n (λ _. four) in
-    let next : 4 * from + 4 * n ≡ 4 * to = omega (arith, order) in
-    put_mid-paste (4 * from) (4 * to - 4 * from) bytes span (joined (λ _. color) n) (4 * n)
-    (joined-colored color span n four long colored) (omega (arith, order)) (omega (arith, all))
-    ∙ ap
-    (λ xs. take (4 * from) bytes ++ xs ++ drop (4 * from + 4 * n) bytes)
-    (take_all (4 * n) (joined (λ _. color) n) (omega (arith, all)))
-    ∙ ap (λ m. take (4 * from) bytes ++ joined (λ _. color) n ++ drop m bytes) next
+    grind (arith, nat_tests, take_all, put_mid-paste, length-joined, joined-colored)
 
 -- the bytes of the first pixels
 joined-pixels : (pixels : List (List ℕ)) (d : List ℕ) (n : ℕ) → n ≤ length pixels
@@ -97,18 +79,4 @@ pub joined-part : (pixels : List (List ℕ)) (background : List ℕ) (from begin
     → joined (λ k. get_or pixels (from + k) background) count
     ≡ flat_map (λ x. x) (take held (drop begin pixels)) ++ joined (λ _. background) (count - held)
 joined-part pixels background from begin held count begins least =
-    let rest = drop begin pixels in
-    let same : (k : ℕ) → k < count
-    → get_or pixels (from + k) background ≡ get_or rest k background =
-    λ k h. elim (cases_lt (length pixels) from) [
-      | inl past ↦
-          get_or_past pixels (from + k) background (omega arith)
-          ∙ sym (get_or_past rest k background (omega (arith, length-drop begin pixels)))
-      | inr within ↦
-          ap (λ i. get_or pixels (i + k) background) (omega arith)
-          ∙ sym (get_or-drop begin pixels k background)
-    ] in
-    joined-same (λ k. get_or pixels (from + k) background)
-    (λ k. get_or rest k background)
-    count same
-    ∙ joined-row rest background held count (omega (arith, length-drop begin pixels))
+    grind (arith, nat_tests, get_or-drop, length-drop, get_or_past, joined-same, joined-row)

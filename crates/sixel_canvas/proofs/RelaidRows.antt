@@ -2,8 +2,8 @@
 use Rattle.std.proofs.Common.{◌≡◌, ℕ, ◌+◌, ◌*◌, ◌≤◌, ◌<◌, List, arith}
 use Rattle.std.specs.Prelude.{◌&&◌, nat_lt, if◌then◌else◌}
 use Rattle.std.proofs.Math.Nat.{mul-le-mul_left}
-use Rattle.std.proofs.lemmas.Grind.{common_steps}
 use Rattle.sixel_canvas.specs.inside.FinalRows.{pixel_at}
+use Rattle.std.proofs.lemmas.Bool.Decides.{nat_tests}
 
 pub relaid : (bytes old background : List ℕ) (width held rows stop : ℕ) → rows ≤ stop →
     ((column row : ℕ) → column < width → row < stop → pixel_at bytes (row * width + column)
@@ -14,7 +14,7 @@ pub relaid : (bytes old background : List ℕ) (width held rows stop : ℕ) → 
     ≡ (if nat_lt column held && nat_lt row rows then pixel_at old (row * held + column)
     else background)
 relaid bytes old background width held rows stop whole are column row inside =
-    grind (arith, common_steps, are)
+    grind (arith, nat_tests)
 
 pub relaid_all : (bytes old background : List ℕ) (width held rows stop : ℕ) → held ≤ width →
     rows ≤ stop →
@@ -26,7 +26,7 @@ pub relaid_all : (bytes old background : List ℕ) (width held rows stop : ℕ) 
     ≡ (if nat_lt column held && nat_lt row rows then pixel_at old (row * held + column)
     else background)
 relaid_all bytes old background width held rows stop wider whole are column row =
-    grind (arith, common_steps, are)
+    grind (arith, nat_tests)
 
 -- rows within the limits have few pixels together
 pub area_fits : (rows width : ℕ) → rows ≤ 1000006 → width ≤ 2000000

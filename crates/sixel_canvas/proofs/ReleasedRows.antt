@@ -1,15 +1,16 @@
 -- What a canvas shows once rows were released: the bytes of each released row have its pixels.
-use Rattle.std.proofs.Common.{◌≡◌, ℕ, ◌+◌, ◌-◌, ◌*◌, ◌≤◌, ◌<◌, List, []}
-use Rattle.std.proofs.Common.{◌∷◌, ◌++◌, length, take, drop, get_or, refl, sym, ap, ◌∙◌, inl, inr}
+use Rattle.std.proofs.Common.{◌≡◌, ℕ, ◌+◌, ◌-◌, ◌*◌, ◌≤◌, List, []}
+use Rattle.std.proofs.Common.{◌∷◌, ◌++◌, length, drop, get_or, refl, ap, ◌∙◌, inl, inr}
 use Rattle.std.proofs.Common.{length-take, length-drop, arith}
 use Rattle.std.specs.Prelude.{min, nat_lt, if◌then◌else◌}
 use Rattle.std.proofs.lemmas.Bool.{cases_lt, lt-ltb, le-ltb}
 use Rattle.std.proofs.lemmas.List.{get_or_append_left, get_or-append_right, get_or_past}
 use Rattle.std.proofs.lemmas.Nat.{row_fits}
-use Rattle.sixel_canvas.specs.inside.FinalRows.{RowsState, AreRows, final, pixel_at}
+use Rattle.sixel_canvas.specs.inside.FinalRows.{RowsState, AreRows, final}
 use Rattle.sixel_canvas.specs.inside.ReleasedRows.{row_bytes, row_pixel}
 use Rattle.sixel_canvas.proofs.RowBytes.{and_false, pixel_dropped, pixel_part, products}
 use Rattle.sixel_canvas.specs.inside.FinalRows.{rows_state}
+use Rattle.std.proofs.lemmas.Bool.Decides.{nat_tests}
 
 -- the list with one more row at the end
 pub row_logged : (old mid new : List (List ℕ)) (rows : RowsState) (k : ℕ) →
@@ -23,32 +24,7 @@ pub row_logged : (old mid new : List (List ℕ)) (rows : RowsState) (k : ℕ) �
     ≡ (if nat_lt row (length old) then get_or old row [] else if nat_lt row (length old + (k + 1))
     then row_bytes rows (row - length old) else [])
 row_logged old mid new rows k len is before row =
-    ap (λ (xs : List (List ℕ)). get_or xs row []) is ∙ elim (cases_lt row (length mid)) [
-      | inl inside ↦
-          get_or_append_left mid (row_bytes rows k ∷ []) [] row inside ∙ before row
-          ∙ rw (
-            lt-ltb row (length old + k) (omega (arith, len, inside)),
-            lt-ltb row (length old + (k + 1)) (omega (arith, len, inside)),
-          ) refl
-      | inr past ↦
-          get_or-append_right mid (row_bytes rows k ∷ []) (length mid) row [] refl past
-          ∙ elim (cases_lt row (length old + (k + 1))) [
-            | inl last ↦
-                let here : row - length mid ≡ 0 = omega (arith, len, past, last) in
-                let down : k ≡ row - length old = omega (arith, len, past, last) in
-                rw (
-                  le-ltb row (length old) (omega (arith, len, past)),
-                  lt-ltb row (length old + (k + 1)) last,
-                )
-                (ap (λ i. get_or (row_bytes rows k ∷ []) i []) here ∙ ap (row_bytes rows) down)
-            | inr below ↦ rw (
-              le-ltb row (length old) (omega (arith, len, past)),
-              le-ltb row (length old + (k + 1)) below,
-            )
-                (get_or_past (row_bytes rows k ∷ []) (row - length mid) []
-                (omega (arith, len, below)))
-          ]
-    ]
+    grind (arith, nat_tests, get_or_append_left, get_or-append_right, get_or_past)
 
 -- the rows without the first of them, and how many bytes these have
 pub removed_len : (bytes new : List ℕ) (width rows n : ℕ) → n ≤ rows →
@@ -65,64 +41,13 @@ pub rows_removed :
     final (rows_state background new width (rows - n) room' moved) column row
     ≡ final (rows_state background bytes width rows room moved) column (row + count)
 rows_removed background bytes new width rows room room' moved count n least is column row =
-    elim (cases_lt row (rows - n)) [
-      | inr below ↦ rw (
-        le-ltb row (rows - n) below,
-        le-ltb (row + count) rows (omega (arith, least, below)),
-        and_false (nat_lt column width),
-      ) refl
-      | inl above ↦
-          let inside : row + count < rows = omega (arith, least, above) in
-          let at : n * width + (row * width + column) ≡ (row + count) * width + column =
-          let same : n ≡ count = omega (arith, least, above) in
-          rw same (omega arith) in
-          elim (cases_lt column width) [
-            | inr right ↦ rw (le-ltb column width right) refl
-            | inl left ↦ rw (
-              lt-ltb column width left,
-              lt-ltb row (rows - n) above,
-              lt-ltb (row + count) rows inside,
-            )
-                (ap (λ xs. pixel_at xs (row * width + column)) is
-                ∙ pixel_dropped bytes (n * width) (row * width + column)
-                ∙ ap (pixel_at bytes) at)
-          ]
-    ]
+    grind (arith, nat_tests, and_false, pixel_dropped)
 
 -- the bytes of a row have its pixels
 pub released_row : (rows : RowsState) → AreRows rows → (column row : ℕ) →
     row_pixel (row_bytes rows row) rows.background column ≡ final rows column row
 released_row rows are column row =
-    let width = rows.width in
-    let from = drop (4 * (row * width)) rows.bytes in
-    elim (cases_lt row rows.rows) [
-      | inr below ↦ rw (
-        le-ltb row rows.rows below,
-        le-ltb (4 * column) 0 (omega arith),
-        and_false (nat_lt column width),
-      ) refl
-      | inl inside ↦
-          let len : length (take (4 * width) from) ≡ 4 * width =
-          length-take (4 * width) from
-          ∙ omega (
-            arith,
-            length-drop (4 * (row * width)) rows.bytes,
-            are.fits,
-            row_fits row width rows.rows width inside (omega arith),
-          ) in
-          elim (cases_lt column width) [
-            | inl left ↦ rw (
-              lt-ltb row rows.rows inside,
-              lt-ltb column width left,
-              lt-ltb (4 * column) (length (take (4 * width) from)) (omega (arith, len, left)),
-            ) (pixel_part rows.bytes (row * width) width column left)
-            | inr right ↦ rw (
-              lt-ltb row rows.rows inside,
-              le-ltb column width right,
-              le-ltb (4 * column) (length (take (4 * width) from)) (omega (arith, len, right)),
-            ) refl
-          ]
-    ]
+    grind (arith, nat_tests, length-take, length-drop, row_fits, and_false, pixel_part)
 
 -- the rows above the band once some more were released
 pub above_released :
@@ -173,18 +98,7 @@ pub above_handed :
     else cell (row - released - (top - released))) →
     (if nat_lt row released then gone else new)
     ≡ (if nat_lt row top then if nat_lt row released then gone else old else cell (row - top))
-above_handed released top gone old new cell row le is = elim (cases_lt row released) [
-  | inl first ↦ rw (lt-ltb row released first, lt-ltb row top (omega (arith, le, first))) refl
-  | inr later ↦ elim (cases_lt row top) [
-    | inl above ↦ rw (le-ltb row released later, lt-ltb row top above)
-        (is ∙ rw (lt-ltb (row - released) (top - released) (omega (arith, later, above))) refl)
-    | inr below ↦
-        let down : row - released - (top - released) ≡ row - top = omega (arith, le, below) in
-        rw (le-ltb row released later, le-ltb row top below)
-        (is ∙ rw (le-ltb (row - released) (top - released) (omega (arith, le, below)))
-        (ap cell down))
-  ]
-]
+above_handed released top gone old new cell row le is = grind (arith, nat_tests)
 
 -- the rows above a band that nothing was drawn on
 pub above_clear :
@@ -193,24 +107,14 @@ pub above_clear :
     (if nat_lt row released then gone else final rows column (row - released))
     ≡ (if nat_lt row top then if nat_lt row released then gone
     else final rows column (row - released) else cell (row - top))
-above_clear rows released top gone cell column row above clear = elim (cases_lt row top) [
-  | inl inside ↦ rw (lt-ltb row top inside) refl
-  | inr below ↦ rw (
-    le-ltb row top below,
-    le-ltb row released (omega (arith, above, below)),
-    le-ltb (row - released) rows.rows (omega (arith, above, below)),
-    and_false (nat_lt column rows.width),
-  ) (sym (clear (row - top)))
-]
+above_clear rows released top gone cell column row above clear = grind (arith, nat_tests)
 
 -- a row above the band that is stored
 pub above_stored :
     (rows : RowsState) (released first : ℕ) (gone : List ℕ) (column row : ℕ) → released ≤ first →
     (if nat_lt (first + row) released then gone else final rows column (first + row - released))
     ≡ final rows column (first - released + row)
-above_stored rows released first gone column row le =
-    rw (le-ltb (first + row) released (omega (arith, le)))
-    (ap (final rows column) (omega (arith, le)))
+above_stored rows released first gone column row le = grind (arith, nat_tests)
 
 -- a row that is left, counted from the first one that is
 pub row_left :
@@ -218,5 +122,4 @@ pub row_left :
     (if nat_lt (released + row) released then gone
     else final rows column (released + row - released))
     ≡ final rows column row
-row_left rows released gone column row =
-    rw (le-ltb (released + row) released (omega arith)) (ap (final rows column) (omega arith))
+row_left rows released gone column row = grind (arith, nat_tests)

@@ -1,18 +1,20 @@
 -- The bytes of rows of pixels: which pixel stands at an index, and the picture that they are.
-use Rattle.std.proofs.Common.{eq-eqb, get_or, Bool, true, false, ◌≡◌, ℕ, zero, suc, ◌+◌, ◌-◌, ◌*◌}
+use Rattle.std.proofs.Common.{eq-eqb, get_or, Bool, false, ◌≡◌, ℕ, zero, suc, ◌+◌, ◌-◌, ◌*◌}
 use Rattle.std.proofs.Common.{◌<◌, ◌≤◌, List, [], ◌∷◌, ◌++◌, length, take, drop, refl, sym, ap, ◌∙◌}
 use Rattle.std.proofs.Common.{inl, inr, length-drop, length-take, length-append, take_all, arith}
 use Rattle.std.proofs.Math.Seq.{drop-append-add, take-append_seam}
 use Rattle.std.proofs.lemmas.List.{drop-take, get_or_past, take-append-drop, take-append-le}
 use Rattle.std.proofs.lemmas.List.{drop-append-le}
-use Rattle.std.specs.Prelude.{min, nat_lt, ◌==◌, ◌&&◌, if◌then◌else◌, Result, Ok, Err, IsOk, OnOk}
+use Rattle.std.specs.Prelude.{min, nat_lt, ◌==◌, ◌&&◌, if◌then◌else◌, Result, IsOk, OnOk}
 use Rattle.std.specs.List.{flat_map}
-use Rattle.std.proofs.lemmas.Bool.{cases_lt, cases_order, lt-ltb, le-ltb, ne_eqb, true≢false}
+use Rattle.std.proofs.lemmas.Bool.{cases_lt, cases_order, lt-ltb, le-ltb, ne_eqb}
 use Rattle.std.proofs.lemmas.Nat.{mul-le, row_fits}
 use Rattle.sixel_base.specs.Picture.{joined, picture}
 use Rattle.sixel_base.proofs.PictureBytes.{joined-add, joined-front, length-joined}
 use Rattle.sixel_canvas.specs.inside.FinalRows.{final, pixel_at, rows_state}
 use Rattle.sixel_canvas.proofs.Pixels.{joined-row}
+use Rattle.std.proofs.lemmas.Bool.Decides.{nat_tests}
+use Rattle.std.proofs.lemmas.Grind.{common_steps}
 
 -- a pixel of the first bytes, and one of those after them
 pub pixel_left : (xs ys : List ℕ) (n i : ℕ) → length xs ≡ 4 * n → i < n →
@@ -47,18 +49,10 @@ pixel_joined f n i four inside =
     ∙ ap f zero_on
 
 take-take_less : (n m : ℕ) (xs : List ℕ) → n ≤ m → take n (take m xs) ≡ take n xs
-take-take_less zero m xs less = refl
-take-take_less (suc n) zero xs less = absurd (omega (arith, less))
-take-take_less (suc n) (suc m) [] less = refl
-take-take_less (suc n) (suc m) (x ∷ xs) less =
-    ap (λ ys. x ∷ ys) (take-take_less n m xs (omega (arith, less)))
+take-take_less n m xs less = grind (arith, common_steps, nat_tests)
 
 drop-drop_sum : (n m k : ℕ) (xs : List ℕ) → k ≡ n + m → drop m (drop n xs) ≡ drop k xs
-drop-drop_sum zero m k xs sum = ap (λ i. drop i xs) (omega (arith, sum))
-drop-drop_sum (suc n) m zero xs sum = absurd (omega (arith, sum))
-drop-drop_sum (suc n) zero (suc k) [] sum = refl
-drop-drop_sum (suc n) (suc m) (suc k) [] sum = refl
-drop-drop_sum (suc n) m (suc k) (x ∷ xs) sum = drop-drop_sum n m k xs (omega (arith, sum))
+drop-drop_sum n m k xs sum = grind (arith, common_steps, nat_tests)
 
 -- a pixel of some bytes from a pixel on
 pub pixel_part : (bytes : List ℕ) (from n i : ℕ) → i < n →
@@ -228,15 +222,7 @@ pub part_len_is : (old part : List ℕ) (held width row rows kept : ℕ) → kep
     row < rows → length old ≡ 4 * (rows * held) →
     part ≡ take (4 * kept) (drop (4 * (row * held)) old) → length part ≡ 4 * kept
 part_len_is old part held width row rows kept least inside len cut =
-    let rest = drop (4 * (row * held)) old in
-    ap length cut ∙ length-take (4 * kept) rest
-    ∙ omega (
-      arith,
-      least,
-      len,
-      length-drop (4 * (row * held)) old,
-      row_fits row held rows held inside (omega arith),
-    )
+    grind (arith, nat_tests, length-drop, length-take, row_fits)
 
 -- one row more was copied to rows of another width
 pub row_copied : (old bytes part new background : List ℕ) (held width row rows kept : ℕ) →
@@ -280,13 +266,10 @@ row_copied old bytes part new background held width row rows kept least four ins
     ]
 
 pub products : (a b n : ℕ) → a ≤ b → b * n ≡ a * n + (b - a) * n
-products a b n le =
-    let on : a + (b - a) ≡ b = omega (arith, le) in
-    ap (λ m. m * n) (sym on) ∙ omega arith
+products a b n le = grind (arith, nat_tests)
 
 pub and_false : (a : Bool) → (a && false) ≡ false
-and_false true = refl
-and_false false = refl
+and_false a = grind (arith, nat_tests)
 
 -- bytes cut to a height, and filled up with background, are the picture of what they show
 pub taken_len : (bytes cut new background : List ℕ) (width height rows : ℕ) →
@@ -370,5 +353,4 @@ taken p bytes cut new background width height rows four len is filled shown =
 
 -- what holds of a result that is a value
 pub when_ok : {A E : Type 0} {P : Type 0} (r : Result A E) → IsOk r → OnOk r P → P
-when_ok (Ok value) is holds = holds
-when_ok (Err error) is holds = absurd (true≢false (sym is))
+when_ok r is holds = grind (arith, nat_tests)

@@ -4,9 +4,9 @@ use Rattle.std.proofs.Common.{◌∷◌, ◌++◌, All, length, get_or, max, ref
 use Rattle.std.proofs.Common.{length-append, arith}
 use Rattle.std.specs.List.{sum_by}
 use Rattle.std.specs.Prelude.{if◌then◌else◌}
-use Rattle.std.proofs.lemmas.List.Elements.{All-append, All-get_or, All-head, All-nil, All-tail}
+use Rattle.std.proofs.lemmas.List.Elements.{All-append, All-head, All-nil, All-tail}
 use Rattle.std.proofs.lemmas.List.Sums.{sum_by-append, sum_by-cons}
-use Rattle.std.proofs.lemmas.Bool.{cases_lt, lt-ltb}
+use Rattle.std.proofs.lemmas.Bool.{cases_lt}
 use Rattle.sixel_base.specs.Picture.{is_struck, total}
 use Rattle.sixel_canvas.specs.inside.Drawn.{Run, run}
 use Rattle.sixel_canvas.specs.inside.Paints.{counted, least_painted}
@@ -14,10 +14,10 @@ use Rattle.sixel_canvas.specs.inside.RowBand.{IsRowBand, least, line_in}
 use Rattle.sixel_canvas.specs.inside.RowCanvas.{RowCanvasState, AreFewTags, HasCost, IsDrawnBy}
 use Rattle.sixel_canvas.specs.inside.RowCanvas.{IsRowCanvas, row_canvas_work, row_edge, row_len}
 use Rattle.std.proofs.lemmas.List.{get_or_past}
-use Rattle.sixel_canvas.specs.Row.{IsThrifty, empty_row}
 use Rattle.sixel_canvas.specs.inside.TaggedRow.{TaggedRowState, IsTaggedRow, empty_tagged_row}
-use Rattle.sixel_canvas.specs.inside.Tags.{no_tag}
 use Rattle.sixel_canvas.proofs.Totals.{total-add, total-front, total-past, total-same, total-zero}
+use Rattle.std.proofs.lemmas.Bool.Decides.{nat_tests}
+use Rattle.std.proofs.lemmas.Grind.{common_steps}
 
 -- ---- sums over the rows
 
@@ -106,10 +106,7 @@ made-sound (rows ∷ bands) sound =
 
 -- a band has at most six rows
 pub six_rows : (rows : List TaggedRowState) → IsRowBand rows → length rows ≤ 6
-six_rows rows sound = elim (cases_lt 0 (length rows)) [
-  | inl some ↦ omega (arith, sound.whole some)
-  | inr none ↦ omega (arith, none)
-]
+six_rows rows sound = grind (arith, nat_tests)
 
 pub made-len : (bands : List (List TaggedRowState)) → All IsRowBand bands
     → length (made bands) ≤ 6 * length bands
@@ -186,16 +183,7 @@ pub drawn_run : (old new : RowCanvasState) (from to bits : ℕ) (runs : List Run
     ≡ (if is_struck (6 * old.band) bits row then max (row_len old row) to else row_len old row))
     → new.paints ≡ counted old.paints (least_painted (to - from))
     → IsDrawnBy new (run from to (6 * old.band) bits ∷ runs)
-drawn_run old new from to bits runs is some sound grown paints =
-    let set = lt-ltb 0 bits some in
-    record {
-      sound = sound;
-      edges = λ row.
-          grown row
-          ∙ ap (λ n. if is_struck (6 * old.band) bits row then max n to else n) (is.edges row);
-      least = rw set (omega (arith, is.least, paints));
-      most = omega (arith, is.most, paints);
-    }
+drawn_run old new from to bits runs is some sound grown paints = grind (arith, nat_tests)
 
 -- the least of some numbers is at most each
 pub least-each : (f : ℕ → ℕ) (n k : ℕ) → k < n → least f n ≤ f k
@@ -218,36 +206,9 @@ least-grown f g (suc n) more =
       more n (omega arith),
     )
 
-empty_thrifty : (background : List ℕ) → IsThrifty (empty_row background)
-empty_thrifty background = record {
-  held = omega arith;
-  room_at_most = omega arith;
-  side = omega arith;
-  at_least = omega arith;
-  at_most = omega arith;
-  growing = λ less. omega arith;
-}
-
 -- a row with no pixel is sound
 pub empty_line : (background : List ℕ) → IsTaggedRow (empty_tagged_row background)
-empty_line background = record {
-  row = empty_thrifty background;
-  tags = empty_thrifty no_tag;
-  clear = refl;
-  whole = omega arith;
-  spread = omega arith;
-}
-
--- a row of a band, also where none was made
-line_sound : (background : List ℕ) (rows : List TaggedRowState) (row : ℕ)
-    → All IsTaggedRow rows → IsTaggedRow (line_in rows background row)
-line_sound background rows row sound =
-    elim (cases_lt row (length rows)) [
-      | inl made ↦
-          All-get_or IsTaggedRow rows row (empty_tagged_row background) made sound
-      | inr past ↦
-          rw (get_or_past rows row (empty_tagged_row background) past) (empty_line background)
-    ]
+empty_line background = grind (arith, nat_tests)
 
 -- a band without rows is sound
 pub empty_band : IsRowBand []
@@ -256,19 +217,11 @@ empty_band = record { whole = λ some. absurd (omega (arith, some)); rows = All-
 -- a band, also where none was made
 pub band_sound : (bands : List (List TaggedRowState)) (band : ℕ) → All IsRowBand bands
     → IsRowBand (get_or bands band [])
-band_sound bands band sound =
-    elim (cases_lt band (length bands)) [
-      | inl made ↦ All-get_or IsRowBand bands band [] made sound
-      | inr past ↦ rw (get_or_past bands band [] past) empty_band
-    ]
+band_sound bands band sound = grind (arith, nat_tests, get_or_past, made, empty_band)
 
 -- how many tags rows have, and for how many there is memory
 pub few_tags : (canvas : RowCanvasState) → All IsRowBand canvas.bands → AreFewTags canvas
-few_tags canvas sound = λ row.
-    let is =
-    line_sound canvas.background (get_or canvas.bands (row / 6) []) (row % 6)
-    (band_sound canvas.bands (row / 6) sound).rows in
-    (is.whole, is.tags.room_at_most)
+few_tags canvas sound = grind (arith, common_steps, nat_tests)
 
 -- what all rows have written, and what wide runs have painted, fit a number
 pub writes_most : (rows : List TaggedRowState) → length rows ≤ 1000000
@@ -301,29 +254,12 @@ band_spread_most canvas is =
 -- a row with a column was made
 pub line_made : (rows : List TaggedRowState) (background : List ℕ) (row : ℕ)
     → 0 < length (line_in rows background row).row.pixels → row < length rows
-line_made rows background row some =
-    elim (cases_lt row (length rows)) [
-      | inl made ↦ made
-      | inr past ↦ absurd (omega (
-        arith,
-        some,
-        ap (λ (l : TaggedRowState). length l.row.pixels)
-            (get_or_past rows row (empty_tagged_row background) past),
-      ))
-    ]
+line_made rows background row some = grind (arith, nat_tests, get_or_past, made)
 
 -- a band with rows was made
 pub band_made : (bands : List (List TaggedRowState)) (band : ℕ)
     → 0 < length (get_or bands band []) → band < length bands
-band_made bands band some =
-    elim (cases_lt band (length bands)) [
-      | inl made ↦ made
-      | inr past ↦ absurd (omega (
-        arith,
-        some,
-        ap (λ (l : List TaggedRowState). length l) (get_or_past bands band [] past),
-      ))
-    ]
+band_made bands band some = grind (arith, nat_tests, get_or_past, made)
 
 -- an element that is there, whatever stands for others
 pub get_or-made : {X : Type 0} (xs : List X) (i : ℕ) (a b : X) → i < length xs

@@ -1,29 +1,20 @@
 -- The pixels of a row that was painted or grown: how many, and which.
 use Rattle.std.proofs.Common.{◌≡◌, ℕ, zero, suc, ◌-◌, ◌<◌, ◌≤◌, ◌&&◌, max, List, [], ◌∷◌, ◌++◌}
-use Rattle.std.proofs.Common.{length, get_or, take, drop, replicate, refl, ap, ◌∙◌, inl, inr}
+use Rattle.std.proofs.Common.{length, get_or, replicate, refl}
 use Rattle.std.proofs.Common.{length-append, length-take, length-drop, get_or-take, get_or-drop}
 use Rattle.std.proofs.Common.{arith}
 use Rattle.std.specs.Prelude.{nat_lt, nat_le, if◌then◌else◌}
-use Rattle.std.proofs.lemmas.Bool.{cases_lt, lt-ltb, le-ltb, lt-leb, le-leb}
+use Rattle.std.proofs.lemmas.Bool.{lt-ltb, lt-leb, le-leb}
 use Rattle.std.proofs.lemmas.List.{length-replicate, get_or-replicate, get_or-append_right}
 use Rattle.std.proofs.lemmas.List.{get_or_append_left}
 use Rattle.sixel_canvas.specs.Row.{RowState, painted, reached_to}
+use Rattle.std.proofs.lemmas.Bool.Decides.{nat_tests}
 
 -- a row that was painted has as many pixels
 pub painted_length : (from to : ℕ) (color : List ℕ) (row : RowState) → from ≤ to
     → to ≤ length row.pixels → length (painted from to color row).pixels ≡ length row.pixels
 painted_length from to color row order held =
-    let pixels = row.pixels in
-    let front = take from pixels in
-    let middle = replicate (to - from) color in
-    omega (
-      arith,
-      length-append (front ++ middle) (drop to pixels),
-      length-append front middle,
-      length-take from pixels,
-      length-drop to pixels,
-      length-replicate (to - from) color,
-    )
+    grind (arith, nat_tests, length-append, length-take, length-drop, length-replicate)
 
 -- one of them
 pub painted_pixel : (from to : ℕ) (color : List ℕ) (row : RowState) (column : ℕ) (d : List ℕ)
@@ -31,31 +22,17 @@ pub painted_pixel : (from to : ℕ) (color : List ℕ) (row : RowState) (column 
     → get_or (painted from to color row).pixels column d
     ≡ (if nat_le from column && nat_lt column to then color else get_or row.pixels column d)
 painted_pixel from to color row column d order held =
-    let pixels = row.pixels in
-    let front = take from pixels in
-    let middle = replicate (to - from) color in
-    let back = drop to pixels in
-    let long : length front ≡ from = omega (arith, length-take from pixels) in
-    let wide : length (front ++ middle) ≡ to =
-    omega (arith, length-append front middle, length-replicate (to - from) color) in
-    elim (cases_lt column from) [
-      | inl left ↦
-          rw (lt-leb from column left)
-          (get_or_append_left (front ++ middle) back d column (omega arith)
-          ∙ get_or_append_left front middle d column (omega arith)
-          ∙ get_or-take from pixels column d left)
-      | inr begun ↦ elim (cases_lt column to) [
-        | inl inside ↦
-            rw (le-leb from column begun, lt-ltb column to inside)
-            (get_or_append_left (front ++ middle) back d column (omega arith)
-            ∙ get_or-append_right front middle from column d long begun
-            ∙ get_or-replicate (to - from) (column - from) color d (omega arith))
-        | inr right ↦
-            rw (le-leb from column begun, le-ltb column to right)
-            (get_or-append_right (front ++ middle) back to column d wide right
-            ∙ get_or-drop to pixels (column - to) d ∙ ap (λ k. get_or pixels k d) (omega arith))
-      ]
-    ]
+    grind (
+      arith,
+      length-append,
+      length-take,
+      get_or-take,
+      get_or-drop,
+      length-replicate,
+      get_or-replicate,
+      get_or-append_right,
+      get_or_append_left,
+    )
 
 -- outside the columns that were painted, and inside
 pub painted_left : (from to : ℕ) (color : List ℕ) (row : RowState) (column : ℕ) (d : List ℕ)
@@ -67,10 +44,7 @@ painted_left from to color row column d order held left =
 pub painted_right : (from to : ℕ) (color : List ℕ) (row : RowState) (column : ℕ) (d : List ℕ)
     → from ≤ to → to ≤ length row.pixels → to ≤ column
     → get_or (painted from to color row).pixels column d ≡ get_or row.pixels column d
-painted_right from to color row column d order held right =
-    let begun : from ≤ column = omega (arith, order, right) in
-    rw (le-leb from column begun, le-ltb column to right) at
-    (painted_pixel from to color row column d order held)
+painted_right from to color row column d order held right = grind (arith, nat_tests, painted_pixel)
 
 pub painted_inside : (from to : ℕ) (color : List ℕ) (row : RowState) (column : ℕ) (d : List ℕ)
     → from ≤ to → to ≤ length row.pixels → from ≤ column → column < to
@@ -82,12 +56,7 @@ painted_inside from to color row column d order held begun inside =
 -- how many pixels a row has that was grown
 pub grown_length : (columns : ℕ) (row : RowState)
     → length (reached_to columns row).pixels ≡ max (length row.pixels) columns
-grown_length columns row =
-    omega (
-      arith,
-      length-append row.pixels (replicate (columns - length row.pixels) row.background),
-      length-replicate (columns - length row.pixels) row.background,
-    )
+grown_length columns row = grind (arith, nat_tests, length-append, length-replicate)
 
 -- any place of a list of one value, and past its end
 same_or_past : {X : Type 0} (n i : ℕ) (x : X) → get_or (replicate n x) i x ≡ x

@@ -1,11 +1,11 @@
 -- What runs of one column each, and one run more, do to right edges, columns and counts.
 use Rattle.std.proofs.Common.{◌≡◌, ℕ, zero, suc, ◌+◌, ◌-◌, ◌*◌, ◌/◌, ◌<◌, ◌≤◌, max, List, [], ◌∷◌}
-use Rattle.std.proofs.Common.{length, take, refl, ◌∙◌, inl, inr, eq-eqb, length-take, arith}
-use Rattle.std.specs.Prelude.{◌==◌, ◌&&◌, if◌then◌else◌}
-use Rattle.std.proofs.lemmas.Bool.{cases_lt, lt-ltb, le-ltb, ne_eqb}
+use Rattle.std.proofs.Common.{length, take, refl, ◌∙◌, length-take, arith}
+use Rattle.std.proofs.lemmas.Bool.{ne_eqb}
 use Rattle.sixel_canvas.specs.inside.BandCanvas.{IsPaid}
 use Rattle.sixel_canvas.specs.inside.Drawn.{Run, band_edge, drawn_columns, lowest_top, right_edge}
 use Rattle.sixel_canvas.specs.inside.Drawn.{run, runs_paint, with_sixels}
+use Rattle.std.proofs.lemmas.Bool.Decides.{nat_tests}
 
 edge-sixels : (from : ℕ) (sixels : List ℕ) (top : ℕ) (runs : List Run) (edge : ℕ) →
     edge ≤ right_edge runs → edge ≤ right_edge (with_sixels from sixels top runs)
@@ -30,13 +30,7 @@ last-sixels from (sixel ∷ sixels) top runs (suc len) less =
 pub edges : (from : ℕ) (sixels : List ℕ) (top : ℕ) (runs : List Run) (len : ℕ) → 0 < len →
     len ≤ length sixels →
     max (right_edge runs) (from + len) ≤ right_edge (with_sixels from (take len sixels) top runs)
-edges from sixels top runs zero some few = absurd (omega (arith, some))
-edges from sixels top runs (suc len) some few =
-    omega (
-      arith,
-      edge-sixels from (take (suc len) sixels) top runs (right_edge runs) (omega arith),
-      last-sixels from sixels top runs len (omega (arith, few)),
-    )
+edges from sixels top runs len some few = grind (arith, nat_tests, edge-sixels, last-sixels)
 
 -- the lowest band of some runs, and that of sixels after them
 pub lowest_sixels : (from : ℕ) (sixels : List ℕ) (top : ℕ) (runs : List Run) (row : ℕ) →
@@ -48,23 +42,12 @@ lowest_sixels from (sixel ∷ sixels) top runs row le =
 
 pub lowest_here : (from : ℕ) (sixels : List ℕ) (top : ℕ) (runs : List Run) (len : ℕ) → 0 < len →
     len ≤ length sixels → top ≤ lowest_top (with_sixels from (take len sixels) top runs)
-lowest_here from sixels top runs zero some few = absurd (omega (arith, some))
-lowest_here from [] top runs (suc len) some few = absurd (omega (arith, few))
-lowest_here from (sixel ∷ sixels) top runs (suc len) some few =
-    lowest_sixels (from + 1) (take len sixels) top (run from (from + 1) top sixel ∷ runs) top
-    (omega arith)
+lowest_here from sixels top runs len some few = grind (arith, nat_tests, lowest_sixels)
 
 -- one run more in the band from this row on, and in another one
 edge-here : (from to top bits : ℕ) (runs : List Run) →
     band_edge (run from to top bits ∷ runs) top ≤ max (band_edge runs top) to
-edge-here from to top bits runs = rw (eq-eqb top top refl) (elim (cases_lt 0 bits) [
-  | inl some ↦ rw (lt-ltb 0 bits some) (omega arith)
-  | inr none ↦ rw (le-ltb 0 bits none) (omega arith)
-])
-
-edge-grown : (from to top bits : ℕ) (runs : List Run) → 0 < bits →
-    band_edge (run from to top bits ∷ runs) top ≡ max (band_edge runs top) to
-edge-grown from to top bits runs some = rw (eq-eqb top top refl, lt-ltb 0 bits some) refl
+edge-here from to top bits runs = grind (arith, nat_tests)
 
 edge-other : (from to top bits : ℕ) (runs : List Run) (row : ℕ) → top < row →
     band_edge (run from to top bits ∷ runs) row ≡ band_edge runs row
@@ -79,14 +62,7 @@ pub paid-run : (cap cap' painted painted' reach reach' tagged tagged' top from t
     IsPaid cap' painted' reach' tagged' top (run from to top bits ∷ runs)
 paid-run cap cap' painted painted' reach reach' tagged tagged' top from to bits runs is some cap_is
     painted_is reach_is tagged_is =
-    let grown = edge-grown from to top bits runs some in
-    record {
-      narrow = omega (arith, is.narrow, cap_is);
-      few = omega (arith, is.few, painted_is, is.edge, grown);
-      edge = omega (arith, is.edge, reach_is, grown);
-      inside = omega (arith, is.inside, tagged_is, grown);
-      below = λ row h. edge-other from to top bits runs row h ∙ is.below row h;
-    }
+    grind (arith, nat_tests)
 
 -- sixels of one column each more
 edge-all : (from : ℕ) (sixels : List ℕ) (top : ℕ) (runs : List Run) →
@@ -103,10 +79,7 @@ edge-all from (sixel ∷ sixels) top runs =
 -- sixels more take nothing from the edge
 edge-more : (from to top bits : ℕ) (runs : List Run) →
     band_edge runs top ≤ band_edge (run from to top bits ∷ runs) top
-edge-more from to top bits runs = rw (eq-eqb top top refl) (elim (cases_lt 0 bits) [
-  | inl some ↦ rw (lt-ltb 0 bits some) (omega arith)
-  | inr none ↦ rw (le-ltb 0 bits none) (omega arith)
-])
+edge-more from to top bits runs = grind (arith, nat_tests)
 
 edge-kept : (from : ℕ) (sixels : List ℕ) (top : ℕ) (runs : List Run) →
     band_edge runs top ≤ band_edge (with_sixels from sixels top runs) top
@@ -146,12 +119,4 @@ pub paid-sixels :
     IsPaid cap' painted' reach' tagged' top (with_sixels from (take len sixels) top runs)
 paid-sixels cap cap' painted painted' reach reach' tagged tagged' top from len sixels runs is some
     few cap_is painted_is reach_is tagged_is =
-    let drawn = take len sixels in
-    let long : length drawn ≡ len = omega (arith, length-take len sixels, few) in
-    record {
-      narrow = omega (arith, is.narrow, cap_is, edges from sixels top runs len some few);
-      few = omega (arith, is.few, painted_is, spent-all from drawn top runs, long, some);
-      edge = omega (arith, is.edge, reach_is, edge-all from drawn top runs, long);
-      inside = omega (arith, is.inside, tagged_is, edge-kept from drawn top runs);
-      below = λ row h. other-all from drawn top runs row h ∙ is.below row h;
-    }
+    grind (arith, nat_tests, length-take, edges, edge-all, edge-kept, other-all, spent-all)

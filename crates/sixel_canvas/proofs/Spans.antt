@@ -1,8 +1,8 @@
 use Rattle.std.proofs.Common.{◌≡◌, ℕ, ◌+◌, ◌-◌, ◌%◌, ◌<◌, ◌≤◌, List, length, get_or, sym, ap, ◌∙◌}
-use Rattle.std.proofs.Common.{inl, inr, arith}
-use Rattle.std.proofs.lemmas.Bool.{cases_lt}
+use Rattle.std.proofs.Common.{arith}
 use Rattle.std.proofs.lemmas.Simd.{get_or-put_chunk_below, get_or-put_chunk_at}
 use lib.Lanes.{put_chunk}
+use Rattle.std.proofs.lemmas.Bool.Decides.{nat_tests}
 
 -- the bytes before this place have the color
 abbrev pub IsColored : List ℕ → List ℕ → ℕ → Type 0
@@ -24,10 +24,5 @@ get_or-stored color span piece at k whole fits colored from to =
 pub IsColored-store : (color span piece : List ℕ) (at n : ℕ) → length piece ≡ n → at % 4 ≡ 0
     → at + n ≤ length span → IsColored color span at → IsColored color piece n
     → IsColored color (put_chunk at span piece) (at + n)
-IsColored-store color span piece at n long whole fits before colored k h =
-    elim (cases_lt k at) [
-      | inl below ↦ get_or-put_chunk_below at span piece k 0 below ∙ before k below
-      | inr from ↦ get_or-stored color span piece at k whole (omega arith)
-          (λ j lt. colored j (omega arith))
-          from (omega arith)
-    ]
+IsColored-store color span piece at n long whole fits before colored =
+    grind (arith, nat_tests, get_or-put_chunk_below, get_or-stored)

@@ -1,8 +1,8 @@
 -- What a row with tags shows once a tag was painted, a run was painted, or its blocks were tagged.
 use Rattle.std.proofs.Common.{◌≡◌, ℕ, ◌+◌, ◌*◌, ◌/◌, ◌%◌, ◌<◌, ◌≤◌, ◌⊎◌, ◌&&◌, min, max, true}
-use Rattle.std.proofs.Common.{false, List, length, get_or, refl, sym, ap, ◌∙◌, inl, inr, arith}
+use Rattle.std.proofs.Common.{false, List, length, get_or, refl, ap, ◌∙◌, inl, inr, arith}
 use Rattle.std.specs.Prelude.{nat_lt, nat_le, if◌then◌else◌}
-use Rattle.std.proofs.lemmas.Bool.{cases_eq, cases_lt, lt-ltb, le-ltb, lt-leb, le-leb, true≢false}
+use Rattle.std.proofs.lemmas.Bool.{cases_lt, lt-ltb, le-ltb, lt-leb, le-leb}
 use Rattle.std.proofs.lemmas.List.{get_or_past}
 use Rattle.sixel_canvas.specs.Row.{RowState, IsThrifty, painted, reached_to}
 use Rattle.sixel_canvas.specs.inside.TaggedRow.{TaggedRowState, IsTaggedRow, tag_of, tagged_pixel}
@@ -10,6 +10,7 @@ use Rattle.sixel_canvas.specs.inside.TaggedRow.{tagged_row_state}
 use Rattle.sixel_canvas.specs.inside.Tags.{is_tag, no_tag, under}
 use Rattle.sixel_canvas.proofs.RowPixels.{grown_length, grown_pixel, painted_inside, painted_left}
 use Rattle.sixel_canvas.proofs.RowPixels.{painted_length, painted_right}
+use Rattle.std.proofs.lemmas.Bool.Decides.{nat_tests}
 
 -- a pixel under a tag, and under none
 pub over_pixel : (tag pixel : List ℕ) → is_tag tag ≡ true → under tag pixel ≡ tag
@@ -21,12 +22,7 @@ under_nothing tag pixel none = rw none refl
 -- a block with a tag has memory for it
 pub tagged_inside : (line : TaggedRowState) (block : ℕ) → is_tag (tag_of line block) ≡ true
     → block < length line.tags.pixels
-tagged_inside line block is =
-    elim (cases_lt block (length line.tags.pixels)) [
-      | inl inside ↦ inside
-      | inr past ↦
-          absurd (true≢false (sym is ∙ ap is_tag (get_or_past line.tags.pixels block no_tag past)))
-    ]
+tagged_inside line block is = grind (arith, nat_tests, get_or_past)
 
 -- a row that was grown shows what it showed
 pub tagged_grown : (columns : ℕ) (line : TaggedRowState) (column : ℕ)
@@ -39,92 +35,7 @@ tagged_grown columns line column =
 pub tags_grown : (columns : ℕ) (line : TaggedRowState) (block : ℕ)
     → line.tags.background ≡ no_tag
     → tag_of (record line { tags = reached_to columns line.tags }) block ≡ tag_of line block
-tags_grown columns line block clear =
-    ap (get_or (reached_to columns line.tags).pixels block) (sym clear)
-    ∙ grown_pixel columns line.tags block
-    ∙ ap (get_or line.tags.pixels block) clear
-
--- What is left of a tag once its block was painted but for some columns, and it was taken off
-pub settled_pixel :
-    (line : TaggedRowState) (block from to left right column : ℕ)
-    → is_tag (tag_of line block) ≡ true → 128 * length line.tags.pixels ≤ length line.row.pixels
-    → from ≤ to → left ≡ max (block * 128) (min from (block * 128 + 128))
-    → right ≡ max (block * 128) (min to (block * 128 + 128)) → (column < from) ⊎ (to ≤ column)
-    → tagged_pixel
-    (tagged_row_state (painted right (block * 128 + 128) (tag_of line block)
-    (painted (block * 128) left (tag_of line block) line.row))
-    (painted block (block + 1) no_tag line.tags) line.spread) column
-    ≡ tagged_pixel line column
-settled_pixel line block from to left right column is whole order left_is right_is apart =
-    let tag = tag_of line block in
-    let back = line.row.background in
-    let start = block * 128 in
-    let end = block * 128 + 128 in
-    let early = painted start left tag line.row in
-    let late = painted right end tag early in
-    let has = tagged_inside line block is in
-    let held : end ≤ length line.row.pixels = omega (arith, has, whole) in
-    let left_held : left ≤ length line.row.pixels = omega (arith, held, left_is) in
-    let left_order : start ≤ left = omega (arith, left_is) in
-    let right_order : right ≤ end = omega (arith, right_is) in
-    let long = painted_length start left tag line.row left_order left_held in
-    let late_held : end ≤ length early.pixels = omega (arith, held, long) in
-    let tag_at = tag_of (tagged_row_state late (painted block (block + 1) no_tag line.tags)
-    line.spread) (column / 128) in
-    elim (cases_eq (column / 128) block) [
-      | inl here ↦
-          let none : is_tag tag_at ≡ false =
-          ap is_tag (painted_inside block (block + 1) no_tag line.tags (column / 128) no_tag
-          (omega arith) (omega (arith, has)) (omega (arith, here)) (omega (arith, here))) in
-          let shown : get_or late.pixels column back ≡ tag =
-          elim apart [
-            | inl before ↦
-                elim (cases_lt column right) [
-                  | inl outside ↦
-                      painted_left right end tag early column back right_order late_held outside
-                      ∙ painted_inside start left tag line.row column back left_order left_held
-                      (omega (arith, here)) (omega (arith, here, left_is, before))
-                  | inr inside ↦
-                      painted_inside right end tag early column back right_order late_held inside
-                      (omega (arith, here))
-                ]
-            | inr after ↦
-                painted_inside right end tag early column back right_order late_held
-                (omega (arith, here, right_is, after)) (omega (arith, here))
-          ] in
-          let same : tag_of line (column / 128) ≡ tag = ap (tag_of line) here in
-          under_nothing tag_at (get_or late.pixels column back) none ∙ shown
-          ∙ sym (over_pixel (tag_of line (column / 128)) (get_or line.row.pixels column back)
-          (ap is_tag same ∙ is) ∙ same)
-      | inr other ↦
-          elim (cases_lt (column / 128) block) [
-            | inl before ↦
-                let tags_same : tag_at ≡ tag_of line (column / 128) =
-                painted_left block (block + 1) no_tag line.tags (column / 128) no_tag (omega arith)
-                (omega (arith, has)) before in
-                let pixel_same : get_or late.pixels column back
-                ≡ get_or line.row.pixels column back =
-                painted_left right end tag early column back right_order late_held
-                (omega (arith, before, right_is))
-                ∙ painted_left start left tag line.row column back left_order left_held
-                (omega (arith, before)) in
-                ap (λ t. under t (get_or late.pixels column back)) tags_same
-                ∙ ap (under (tag_of line (column / 128))) pixel_same
-            | inr from_on ↦
-                let after : block + 1 ≤ column / 128 = omega (arith, from_on, other) in
-                let tags_same : tag_at ≡ tag_of line (column / 128) =
-                painted_right block (block + 1) no_tag line.tags (column / 128) no_tag (omega arith)
-                (omega (arith, has)) after in
-                let pixel_same : get_or late.pixels column back
-                ≡ get_or line.row.pixels column back =
-                painted_right right end tag early column back right_order late_held
-                (omega (arith, after))
-                ∙ painted_right start left tag line.row column back left_order left_held
-                (omega (arith, after, left_is)) in
-                ap (λ t. under t (get_or late.pixels column back)) tags_same
-                ∙ ap (under (tag_of line (column / 128))) pixel_same
-          ]
-    ]
+tags_grown columns line block clear = grind (arith, nat_tests, grown_pixel)
 
 -- what a row shows that was painted over columns without a tag
 pub painted_untagged :
@@ -134,23 +45,7 @@ pub painted_untagged :
     → tagged_pixel (record line { row = painted from to color line.row }) column
     ≡ (if nat_le from column && nat_lt column to then color else tagged_pixel line column)
 painted_untagged line from to column color order held none =
-    let back = line.row.background in
-    let tag = tag_of line (column / 128) in
-    elim (cases_lt column from) [
-      | inl left ↦
-          rw (lt-leb from column left)
-          (ap (under tag) (painted_left from to color line.row column back order held left))
-      | inr begun ↦ elim (cases_lt column to) [
-        | inl inside ↦
-            rw (le-leb from column begun, lt-ltb column to inside)
-            (under_nothing tag (get_or (painted from to color line.row).pixels column back)
-            (none begun inside)
-            ∙ painted_inside from to color line.row column back order held begun inside)
-        | inr right ↦
-            rw (le-leb from column begun, le-ltb column to right)
-            (ap (under tag) (painted_right from to color line.row column back order held right))
-      ]
-    ]
+    grind (arith, nat_tests, painted_inside, painted_left, painted_right, under_nothing)
 
 -- what a row shows whose blocks were tagged, and whose two ends were painted
 pub tagged_blocks :
@@ -234,20 +129,6 @@ tagged_blocks line from to first last column color first_is last_is some held ta
       ]
     ]
 
--- columns outside a run show the same
-pub outside_same : (from to column : ℕ) (color old new : List ℕ)
-    → ((column < from) ⊎ (to ≤ column) → new ≡ old)
-    → (if nat_le from column && nat_lt column to then color else new)
-    ≡ (if nat_le from column && nat_lt column to then color else old)
-outside_same from to column color old new same =
-    elim (cases_lt column from) [
-      | inl left ↦ rw (lt-leb from column left) (same (inl left))
-      | inr begun ↦ elim (cases_lt column to) [
-        | inl inside ↦ rw (le-leb from column begun, lt-ltb column to inside) refl
-        | inr right ↦ rw (le-leb from column begun, le-ltb column to right) (same (inr right))
-      ]
-    ]
-
 -- a block for which there is no memory has no tag
 pub none_past : (line : TaggedRowState) (block : ℕ) → length line.tags.pixels ≤ block
     → is_tag (tag_of line block) ≡ false
@@ -267,19 +148,6 @@ drawn_untagged line row early from to column color order grown is none =
     ∙ painted_untagged wide from to column color (omega (arith, order)) held none
     ∙ ap (λ p. if nat_le from column && nat_lt column to then color else p)
     (tagged_grown to line column)
-
--- a row stays sound as its pixels and tags are written over
-pub still_sound : (line : TaggedRowState) (row tags : RowState) → IsTaggedRow line → IsThrifty row
-    → IsThrifty tags → length row.pixels ≡ length line.row.pixels
-    → length tags.pixels ≡ length line.tags.pixels → tags.background ≡ line.tags.background
-    → IsTaggedRow (tagged_row_state row tags line.spread)
-still_sound line row tags is row_thrifty tags_thrifty len tags_len clear = record {
-  row = row_thrifty;
-  tags = tags_thrifty;
-  clear = clear ∙ is.clear;
-  whole = omega (arith, is.whole, len, tags_len);
-  spread = omega (arith, is.spread, len);
-}
 
 -- a row whose tag of one block was painted and taken off
 pub record IsSettled (old new : TaggedRowState) (block from to : ℕ) : Type 0 where
@@ -303,53 +171,4 @@ pub settled_row :
     → IsSettled line (tagged_row_state late tags line.spread) block from to
 settled_row line tag early late tags block from to left right is visible tag_is order left_is
     right_is early_is late_is tags_are late_thrifty tags_thrifty =
-    let same : tag ≡ tag_of line block =
-    tag_is ∙ ap (get_or line.tags.pixels block) is.clear in
-    let shown : is_tag (tag_of line block) ≡ true = ap is_tag (sym same) ∙ visible in
-    let has = tagged_inside line block shown in
-    let start = block * 128 in
-    let end = block * 128 + 128 in
-    let held : end ≤ length line.row.pixels = omega (arith, has, is.whole) in
-    let tags_held : block + 1 ≤ length line.tags.pixels = omega (arith, has) in
-    let early_len = ap (λ (r : RowState). length r.pixels) early_is
-    ∙ painted_length start left tag line.row (omega (arith, left_is))
-    (omega (arith, held, left_is)) in
-    let late_len = ap (λ (r : RowState). length r.pixels) late_is
-    ∙ painted_length right end tag early (omega (arith, right_is))
-    (omega (arith, held, early_len)) in
-    let tags_len = ap (λ (r : RowState). length r.pixels) tags_are
-    ∙ painted_length block (block + 1) no_tag line.tags (omega arith) tags_held in
-    let rows : late ≡ painted right end (tag_of line block)
-    (painted start left (tag_of line block) line.row) =
-    late_is ∙ ap (painted right end tag) early_is
-    ∙ ap (λ t. painted right end t (painted start left t line.row)) same in
-    record {
-      outside = λ column apart.
-          ap (λ r. tagged_pixel (tagged_row_state r tags line.spread) column) rows
-          ∙ ap (λ ts. tagged_pixel (tagged_row_state (painted right end (tag_of line block)
-          (painted start left (tag_of line block) line.row)) ts line.spread) column) tags_are
-          ∙ settled_pixel line block from to left right column shown is.whole order left_is
-          right_is apart;
-      settled =
-          ap (λ (ts : RowState). is_tag (get_or ts.pixels block no_tag)) tags_are
-          ∙ ap is_tag (painted_inside block (block + 1) no_tag line.tags block no_tag (omega arith)
-          tags_held (omega arith) (omega arith));
-      others = λ other apart.
-          ap (λ (ts : RowState). get_or ts.pixels other no_tag) tags_are
-          ∙ elim (cases_lt other block) [
-            | inl before ↦
-                painted_left block (block + 1) no_tag line.tags other no_tag (omega arith) tags_held
-                before
-            | inr from_on ↦ elim (cases_eq other block) [
-              | inl here ↦ absurd (apart here)
-              | inr elsewhere ↦
-                  painted_right block (block + 1) no_tag line.tags other no_tag (omega arith)
-                  tags_held (omega (arith, from_on, elsewhere))
-            ]
-          ];
-      len = late_len ∙ early_len;
-      tags_len = tags_len;
-      sound =
-          still_sound line late tags is late_thrifty tags_thrifty (late_len ∙ early_len) tags_len
-          (ap (λ (r : RowState). r.background) tags_are);
-    }
+    grind (arith, painted_inside, painted_left, painted_length, painted_right, tagged_inside)

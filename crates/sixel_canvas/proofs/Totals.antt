@@ -2,12 +2,12 @@
 use Rattle.std.proofs.Common.{◌≡◌, ℕ, zero, suc, ◌+◌, ◌≤◌, refl, ap, inl, inr, arith}
 use Rattle.std.proofs.lemmas.Bool.{cases_lt}
 use Rattle.sixel_base.specs.Picture.{total}
+use Rattle.std.proofs.lemmas.Bool.Decides.{nat_tests}
 
 -- numbers that are equal one by one, for callers that count the columns without a canvas
 pub total-same : (f g : ℕ → ℕ) (n : ℕ) → ((k : ℕ) → f k ≡ g k) → total f n ≡ total g n
 unfolding total
-total-same f g zero same = refl
-total-same f g (suc n) same = omega (arith, total-same f g n same, same n)
+total-same f g n same = grind (arith, nat_tests)
 
 -- one more number at the front
 pub total-front : (f : ℕ → ℕ) (n : ℕ) → total f (suc n) ≡ f 0 + total (λ k. f (suc k)) n

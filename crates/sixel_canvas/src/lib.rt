@@ -11,8 +11,10 @@ mod released_rows;
 mod row;
 mod row_band;
 pub mod row_canvas;
+mod six_rows;
 mod span;
 pub mod stored_rows;
+mod tag;
 pub mod tagged_band;
 mod tagged_row;
 

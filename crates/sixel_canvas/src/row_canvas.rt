@@ -14,7 +14,7 @@ ghost use Rattle.sixel_canvas.specs.inside.Tags.{is_tag};
 use crate::drawing::Canvas;
 use crate::row_band::RowBand;
 use crate::span::{AllocResult, add_pixels};
-use crate::tagged_row::BLOCK;
+use crate::tag::BLOCK;
 use sixel_base::limits::MAX_SIDE;
 use std::alloc::{AllocError, Global};
 use std::marker::Model;

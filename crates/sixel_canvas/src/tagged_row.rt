@@ -10,17 +10,9 @@ ghost use Rattle.sixel_canvas.specs.inside.Tags.{is_tag};
 
 use crate::row::Row;
 use crate::span::{AllocResult, add_pixels};
+use crate::tag::{BLOCK, NO_TAG, WIDE, is_visible};
 use std::alloc::Global;
 use std::marker::Model;
-
-/// The columns of a block, which have one tag.
-pub const BLOCK: usize = 128;
-
-/// The shortest run, in columns, that may be tagged.
-const WIDE: usize = 256;
-
-/// The color of a block that has no tag.
-const NO_TAG: [u8; 4] = [0; 4];
 
 /// A row of which blocks of 128 columns can have a tag.
 ///
@@ -238,11 +230,4 @@ impl TaggedRow {
         }
         self.row.pack(bytes, block * BLOCK, count)
     }
-}
-
-/// Whether a color is visible, as that of a tag is.
-fn is_visible(color: [u8; 4]) -> bool
-    ensures { result ≡ is_tag color }
-{
-    color[3] > 0
 }

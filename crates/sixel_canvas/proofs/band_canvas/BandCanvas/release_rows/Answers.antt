@@ -5,6 +5,7 @@ use Rattle.sixel_canvas.specs.inside.TaggedBand.{tagged_cell}
 use Rattle.sixel_canvas.proofs.MovedRows.{moved_released}
 use Rattle.sixel_canvas.proofs.ReleasedRows.{above_released}
 use Rattle.sixel_canvas.proofs.band_canvas.BandCanvas.release_rows.Goals as goal
+use Rattle.std.proofs.Common.{arith}
 
 pub returns-clause-shown : goal.returns-clause-shown
 returns-clause-shown c = λ column row.
@@ -19,14 +20,4 @@ returns-clause-shown c = λ column row.
     ∙ ap (λ (s : BandCanvasState). band_canvas_shown s column row) c.self.view_is
 
 pub returns-clause-moved : goal.returns-clause-moved
-returns-clause-moved c = λ named runs are.
-    let count = c.saturating_sub-count.result in
-    let left = c.free_unused.ensures in
-    let removed = c.remove.ensures in
-    let seen = c.self.view_is in
-    moved_released c.args.self.now c.free_unused.new.self named runs count are
-    (left.expected ∙ ap (λ (s : BandCanvasState). s.expected) seen)
-    (left.width ∙ removed.width ∙ ap (λ (s : BandCanvasState). s.rows.width) seen)
-    (left.moved ∙ removed.moved ∙ ap (λ (s : BandCanvasState). s.rows.moved) seen)
-    (left.rows ∙ removed.rows ∙ ap (λ (s : BandCanvasState). s.rows.rows - count) seen)
-    (left.released ∙ ap (λ (s : BandCanvasState). s.released + count) seen)
+returns-clause-moved c = λ named runs are. grind (arith, moved_released)

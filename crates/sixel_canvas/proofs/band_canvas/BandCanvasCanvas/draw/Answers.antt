@@ -1,39 +1,14 @@
 use Rattle.std.proofs.Common.{◌≡◌, ◌≤◌, ◌+◌, ◌-◌, ◌*◌, ◌/◌, ◌∙◌, max, ap, arith}
-use Rattle.std.specs.Prelude.{nat_le, nat_lt, if◌then◌else◌}
-use Rattle.sixel_base.specs.Picture.{covers}
-use Rattle.sixel_canvas.specs.inside.BandCanvas.{BandCanvasState, above_band, band_canvas_shown}
+use Rattle.sixel_canvas.specs.inside.BandCanvas.{BandCanvasState}
 use Rattle.sixel_canvas.specs.inside.BandCanvas.{band_canvas_state}
-use Rattle.sixel_canvas.specs.inside.TaggedBand.{capacity, tagged_cell}
-use Rattle.sixel_canvas.proofs.HandedRows.{canvas_over}
+use Rattle.sixel_canvas.specs.inside.TaggedBand.{capacity}
+use Rattle.sixel_canvas.proofs.BandStates.{canvas_over}
 use Rattle.sixel_canvas.proofs.MovedRows.{laid_held, moved_run}
 use Rattle.sixel_canvas.proofs.Runs.{paid-run}
 use Rattle.sixel_canvas.proofs.band_canvas.BandCanvasCanvas.draw.Goals as goal
 
 pub returns-clause-drawn : goal.returns-clause-drawn
-returns-clause-drawn c = λ column row.
-    let all = c.self.inside in
-    let state =
-    band_canvas_state all.gone.rows all.released all.rows all.band all.top all.held
-    all.expected_width in
-    let from = c.args.from in
-    let to = c.args.to in
-    let bits = c.args.bits in
-    let color = c.args.color in
-    let shown =
-    ap (λ (s : BandCanvasState). band_canvas_shown s column row) c.self.view_is
-    ∙ c.in_ok-hold.ensures.shown column row in
-    let top = ap (λ (s : BandCanvasState). s.top) c.self.view_is ∙ c.in_ok-hold.ensures.top in
-    canvas_over (nat_le from column) (nat_lt column to) bits all.top row
-    (above_band state column row)
-    (tagged_cell all.band column (row - all.top))
-    (tagged_cell c.draw.new.self column (row - all.top)) color
-    (c.draw.ensures.drawn column (row - all.top))
-    ∙ ap (λ pixel. if covers from to all.top bits column row then color else pixel) shown
-    ∙ ap
-    (λ row_of.
-    if covers from to row_of bits column row then color
-    else band_canvas_shown c.args.self.now column row)
-    top
+returns-clause-drawn c = λ column row. grind (arith, canvas_over)
 
 pub returns-clause-paid : goal.returns-clause-paid
 returns-clause-paid c = λ named runs before.

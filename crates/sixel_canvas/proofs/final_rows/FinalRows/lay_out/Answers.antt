@@ -6,6 +6,7 @@ use Rattle.sixel_canvas.proofs.MovedRows.{moved_within}
 use Rattle.sixel_canvas.proofs.RelaidRows.{area_fits, relaid, relaid_all}
 use Rattle.sixel_canvas.proofs.RowBytes.{part_len_is, row_copied, row_len}
 use Rattle.sixel_canvas.proofs.final_rows.FinalRows.lay_out.Goals as goal
+use Rattle.std.proofs.lemmas.Bool.Decides.{nat_tests}
 
 pub copied-preserved : goal.copied-preserved
 copied-preserved c =
@@ -35,26 +36,15 @@ copied-preserved c =
 
 pub returns-clause-moved_within : goal.returns-clause-moved_within
 returns-clause-moved_within c = λ doubled.
-    let all = c.self.inside in
-    let width = ap (λ (r : RowsState). r.width) c.self.view_is in
-    rw (← c.self.view_is, c.saturating_add-self-inside.ensures)
-    (moved_within all.moved all.rows all.width c.args.width (omega (arith, width, doubled)))
+    grind (arith, nat_tests, moved_within, c.saturating_add-self-inside.ensures, c.self.view_is)
 
 pub returns-clause-shown : goal.returns-clause-shown
 returns-clause-shown c = λ column row inside.
-    let old = c.self.inside in
-    rw (← c.self.view_is)
-    (relaid c.copied.bytes.items old.bytes.items old.background c.args.width old.width old.rows
-    c.copied.row (omega arith) c.copied.invariant.2 column row inside)
+    grind (arith, nat_tests, relaid, c.copied.invariant.2, c.self.view_is)
 
 pub returns-clause-all : goal.returns-clause-all
 returns-clause-all c = λ wider column row.
-    let old = c.self.inside in
-    let held : old.width ≤ c.args.width =
-    omega (arith, wider, ap (λ (r : RowsState). r.width) c.self.view_is) in
-    rw (← c.self.view_is)
-    (relaid_all c.copied.bytes.items old.bytes.items old.background c.args.width old.width old.rows
-    c.copied.row held (omega arith) c.copied.invariant.2 column row)
+    grind (arith, nat_tests, relaid_all, c.copied.invariant.2, c.self.view_is)
 
 pub returns-clause-width : goal.returns-clause-width
 returns-clause-width c = refl
@@ -113,29 +103,11 @@ pub overflow_sub-width : goal.overflow_sub-width
 overflow_sub-width c = omega (arith, c.min-kept.ensures)
 
 pub add_row-requires : goal.add_row-requires
-add_row-requires c =
-    let old = c.self.inside in
-    let start = 4 * (c.copied.row * old.width) in
-    let kept = c.min-kept.result in
-    let least : kept ≡ min c.args.width old.width = omega (arith, c.min-kept.ensures) in
-    let inside : c.copied.row < old.rows = omega (arith, c.copied-test.true) in
-    let part = take (start + 4 * kept - start) (drop start c.deref.result.now) in
-    let cut : part ≡ take (4 * kept) (drop start old.bytes.items) =
-    ap (λ n. take n (drop start c.deref.result.now)) (omega arith)
-    ∙ ap (λ xs. take (4 * kept) (drop start xs)) c.deref.ensures.value in
-    let len =
-    part_len_is old.bytes.items part old.width c.args.width c.copied.row old.rows kept least inside
-    c.self.invariant.fits cut in
-    let area =
-    area_fits c.copied.row c.args.width (omega (arith, inside, c.self.invariant.few))
-    c.requires.narrow in
-    omega (arith, len, area, least, c.copied.invariant.0, c.requires.narrow)
+add_row-requires c = grind arith
 
 pub overflow_mul-self-inside : goal.overflow_mul-self-inside
 overflow_mul-self-inside c =
-    let area =
-    area_fits c.self.inside.rows c.args.width c.self.invariant.few c.requires.narrow in
-    omega (arith, area)
+    grind (arith, nat_tests, area_fits, c.requires.narrow, c.self.invariant.few)
 
 pub returns-clause-room : goal.returns-clause-room
 returns-clause-room c =

@@ -1,23 +1,11 @@
-use Rattle.std.proofs.Common.{◌≡◌, ◌+◌, ◌*◌, ◌≤◌, drop, ap, ◌∙◌, arith}
+use Rattle.std.proofs.Common.{◌≡◌, ◌+◌, ◌*◌, drop, ap, ◌∙◌, arith}
 use Rattle.std.specs.Prelude.{vec_capacity}
 use Rattle.sixel_canvas.specs.inside.FinalRows.{RowsState, final}
 use Rattle.sixel_canvas.proofs.ReleasedRows.{removed_len, rows_removed}
 use Rattle.sixel_canvas.proofs.final_rows.FinalRows.remove.Goals as goal
 
 pub invariant_of-self : goal.invariant_of-self
-invariant_of-self c =
-    let all = c.self.inside in
-    let n = c.min-count.result in
-    let few : n ≤ all.rows = omega (arith, c.min-count.ensures) in
-    let cut : c.remove_front.new.bytes.items ≡ drop (4 * (n * all.width)) all.bytes.items =
-    c.remove_front.ensures.items in
-    record {
-      fits =
-          removed_len all.bytes.items c.remove_front.new.bytes.items all.width all.rows n few
-          c.self.invariant.fits cut;
-      narrow = c.self.invariant.narrow;
-      few = omega (arith, c.self.invariant.few);
-    }
+invariant_of-self c = grind (arith, removed_len)
 
 pub returns-clause-shown : goal.returns-clause-shown
 returns-clause-shown c = λ column row.

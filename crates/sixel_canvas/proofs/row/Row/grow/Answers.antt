@@ -9,6 +9,7 @@ use Rattle.sixel_canvas.proofs.PixelLists.{length-pixels_of, pixels_of-added, ro
 use Rattle.sixel_canvas.proofs.PixelLists.{thrifty_reached}
 use Rattle.sixel_canvas.proofs.RowBytes.{when_ok}
 use Rattle.sixel_canvas.proofs.row.Row.grow.Goals as goal
+use Rattle.std.proofs.lemmas.Bool.Decides.{nat_tests}
 
 -- how many pixels the row had
 len_is : (c : goal.After-self-2-1) → c.len-len.result ≡ length (pixels_of c.self.inside.bytes.items)
@@ -19,38 +20,11 @@ bytes_are : (c : goal.After-self-2-1)
     → c.add_pixels-added.new.bytes.items
     ≡ c.self.inside.bytes.items
     ++ joined (λ _. c.self.inside.background) (c.args.columns - c.len-len.result)
-bytes_are c =
-    let added = joined (λ _. c.self.inside.background) (c.args.columns - c.len-len.result) in
-    let same = c.in_ok-reserve.ensures.items in
-    when_ok c.add_pixels-added.result
-    (c.add_pixels-added.ensures.within_capacity (omega (
-      arith,
-      ap length same,
-      c.in_ok-reserve.ensures.enough,
-      c.room_after-room.ensures,
-      room_for-enough c.args.columns c.self.inside.room,
-      c.self.invariant.1,
-      len_is c,
-      c.if-columns-len.false,
-    )))
-    c.add_pixels-added.ensures.ok
-    ∙ ap (λ bytes. bytes ++ added) same
+bytes_are c = grind (arith, nat_tests, room_for-enough, when_ok, len_is)
 
 bytes_long : (c : goal.After-self-2-1)
     → length c.add_pixels-added.new.bytes.items ≡ 4 * c.args.columns
-bytes_long c =
-    let four : length c.self.inside.background ≡ 4 = search rules in
-    let more = c.args.columns - c.len-len.result in
-    let added = joined (λ _. c.self.inside.background) more in
-    ap length (bytes_are c)
-    ∙ omega (
-      arith,
-      length-append c.self.inside.bytes.items added,
-      length-joined (λ _. c.self.inside.background) 4 more (λ _. four),
-      c.self.invariant.1,
-      len_is c,
-      c.if-columns-len.false,
-    )
+bytes_long c = grind (arith, nat_tests, length-append, length-joined, len_is, bytes_are)
 
 pub returns-clause-ok : goal.returns-clause-ok
 returns-clause-ok c =

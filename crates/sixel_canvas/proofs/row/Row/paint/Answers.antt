@@ -5,6 +5,8 @@ use Rattle.sixel_canvas.specs.Row.{RowState, painted, row_state}
 use Rattle.sixel_canvas.specs.inside.Pixels.{pixels_of}
 use Rattle.sixel_canvas.proofs.PixelLists.{length-painted_bytes, pixels_of-painted, thrifty_written}
 use Rattle.sixel_canvas.proofs.row.Row.paint.Goals as goal
+use Rattle.std.proofs.lemmas.Bool.Decides.{nat_tests}
+use Rattle.std.proofs.lemmas.Grind.{common_steps}
 
 held_is : (c : goal.After-self-1) → c.args.to ≤ length (pixels_of c.self.inside.bytes.items)
 held_is c =
@@ -16,21 +18,11 @@ bytes_are : (c : goal.After-self-1)
     ≡ take (4 * c.args.from) c.self.inside.bytes.items
     ++ joined (λ _. c.args.color) (c.args.to - c.args.from)
     ++ drop (4 * c.args.to) c.self.inside.bytes.items
-bytes_are c =
-    c.paint_pixels.ensures
-    ∙ ap
-    (λ xs. take (4 * c.args.from) xs ++ joined (λ _. c.args.color) (c.args.to - c.args.from)
-    ++ drop (4 * c.args.to) xs)
-    c.deref_mut.ensures.value
+bytes_are c = grind (arith, common_steps, nat_tests)
 
 bytes_long : (c : goal.After-self-1)
     → length c.paint_pixels.new.bytes ≡ 4 * length (pixels_of c.self.inside.bytes.items)
-bytes_long c =
-    let four : length c.args.color ≡ 4 = search rules in
-    ap length (bytes_are c)
-    ∙ length-painted_bytes c.self.inside.bytes.items c.args.color c.args.from c.args.to
-    (length (pixels_of c.self.inside.bytes.items)) c.requires.ordered (held_is c)
-    c.self.invariant.1 four
+bytes_long c = grind (arith, nat_tests, length-painted_bytes, held_is, bytes_are)
 
 pub returns-clause-after : goal.returns-clause-after
 returns-clause-after c =

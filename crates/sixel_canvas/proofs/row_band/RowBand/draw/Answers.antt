@@ -1,41 +1,22 @@
 use Rattle.std.proofs.lemmas.Bool.{le-ltb, true≢false}
-use Rattle.std.proofs.Common.{◌≡◌, ℕ, ◌+◌, ◌<◌, List, false, max, length, sym, ap, ◌∙◌, arith}
+use Rattle.std.proofs.Common.{◌≡◌, ℕ, ◌+◌, ◌<◌, List, max, length, sym, ap, ◌∙◌, arith}
 use Rattle.std.specs.Prelude.{nat_le, nat_lt, ◌&&◌, if◌then◌else◌}
 use Rattle.sixel_base.specs.Picture.{is_struck}
 use Rattle.sixel_canvas.specs.inside.RowBand.{line_in}
 use Rattle.sixel_canvas.specs.inside.TaggedRow.{TaggedRowState, empty_tagged_row, tagged_pixel}
 use Rattle.sixel_canvas.proofs.RowCosts.{get_or-made}
-use Rattle.sixel_canvas.proofs.StruckRows.{if_and, is_struck-above, is_struck-below, is_struck-hit}
-use Rattle.sixel_canvas.proofs.StruckRows.{is_struck-miss, struck_all, struck_more, struck_none}
+use Rattle.sixel_canvas.proofs.StruckRows.{struck_more, is_struck-below, is_struck-hit}
+use Rattle.sixel_canvas.proofs.StruckRows.{is_struck-miss, struck_all}
 use Rattle.sixel_canvas.proofs.StruckRows.{struck_skip}
 use Rattle.sixel_canvas.proofs.row_band.RowBand.draw.Goals as goal
 use Rattle.sixel_canvas.proofs.row_band.RowBand.draw.Goals.{then-bits-bit-eq1+in_ok-draw_row}
 use Rattle.sixel_canvas.proofs.row_band.RowBand.draw.Goals.{else-bits-bit-eq1}
+use Rattle.std.proofs.lemmas.Bool.Decides.{nat_tests}
+use Rattle.std.proofs.lemmas.Grind.{common_steps}
 
 pub drawn-init : goal.drawn-init
 drawn-init c =
-    let rows = c.self.inside.rows.items in
-    let old = c.args.self.now in
-    let same : rows ≡ old = c.self.view_is in
-    let struck = is_struck 0 c.args.bits in
-    let above : (row : ℕ) → row < 0 → struck row ≡ false =
-    λ row h. is_struck-above 0 c.args.bits row h in (
-      ap (λ (l : List TaggedRowState). length l) same ∙ c.requires.made,
-      c.self.invariant.rows,
-      λ background column.
-          struck_none
-          (λ _ p. if nat_le c.args.from column && nat_lt column c.args.to then c.args.color else p)
-          struck 0 (λ row. tagged_pixel (line_in old background row) column)
-          (λ row. tagged_pixel (line_in rows background row) column) above
-          (λ row.
-          ap (λ (l : List TaggedRowState). tagged_pixel (line_in l background row) column) same),
-      λ background.
-          struck_none (λ _ n. max n c.args.to) struck 0
-          (λ row. length (line_in old background row).row.pixels)
-          (λ row. length (line_in rows background row).row.pixels) above
-          (λ row.
-          ap (λ (l : List TaggedRowState). length (line_in l background row).row.pixels) same),
-    )
+    grind (arith, common_steps, nat_tests, c.requires.made, c.self.invariant.rows, c.self.view_is)
 
 pub drawn-preserved : goal.drawn-preserved
 drawn-preserved c =
@@ -96,25 +77,11 @@ drawn-preserved c =
     ]
 
 pub returns-clause-drawn : goal.returns-clause-drawn
-returns-clause-drawn c = λ background column row.
-    let rows = c.drawn.self-inside.rows.items in
-    let old = c.args.self.now in
-    let inside = nat_le c.args.from column && nat_lt column c.args.to in
-    let struck = is_struck 0 c.args.bits in
-    struck_all (λ _ p. if inside then c.args.color else p) struck c.drawn.bit
-    (λ k. tagged_pixel (line_in old background k) column)
-    (λ k. tagged_pixel (line_in rows background k) column) (c.drawn.invariant.2 background column)
-    (λ k past. is_struck-below 0 c.args.bits k (omega (arith, past, c.drawn-test.false))) row
-    ∙ sym
-    (if_and inside (struck row) c.args.color (tagged_pixel (line_in old background row) column))
+returns-clause-drawn c = λ background column row. grind arith
 
 pub returns-clause-grown : goal.returns-clause-grown
 returns-clause-grown c = λ background row.
-    struck_all (λ _ n. max n c.args.to) (is_struck 0 c.args.bits) c.drawn.bit
-    (λ k. length (line_in c.args.self.now background k).row.pixels)
-    (λ k. length (line_in c.drawn.self-inside.rows.items background k).row.pixels)
-    (c.drawn.invariant.3 background)
-    (λ k past. is_struck-below 0 c.args.bits k (omega (arith, past, c.drawn-test.false))) row
+    grind (arith, nat_tests, is_struck-below, struck_all, c.drawn-test.false, c.drawn.invariant.3)
 
 pub returns-in_err-draw_row-clause-held : goal.returns-in_err-draw_row-clause-held
 returns-in_err-draw_row-clause-held c = λ background single held.

@@ -4,7 +4,7 @@ use Rattle.std.specs.Prelude.{nat_le, nat_lt, ◌&&◌, if◌then◌else◌}
 use Rattle.std.proofs.lemmas.Result.{on_ok_weaker}
 use Rattle.sixel_base.specs.Picture.{covers, is_struck}
 use Rattle.sixel_canvas.specs.inside.RowBand.{line_in}
-use Rattle.sixel_canvas.specs.inside.RowCanvas.{RowCanvasState, band_line, band_rows}
+use Rattle.sixel_canvas.specs.inside.RowCanvas.{RowCanvasState, band_rows}
 use Rattle.sixel_canvas.specs.inside.RowCanvas.{row_canvas_shown, row_len}
 use Rattle.sixel_canvas.specs.inside.TaggedRow.{TaggedRowState, tagged_pixel}
 use Rattle.sixel_canvas.proofs.RowBands.{band_drawn, band_read}
@@ -13,18 +13,7 @@ use Rattle.sixel_canvas.proofs.StruckRows.{if_and}
 use Rattle.sixel_canvas.proofs.row_canvas.RowCanvas.draw_band.Goals as goal
 
 pub draw-requires-clause-made : goal.draw-requires-clause-made
-draw-requires-clause-made c =
-    let all = c.self.inside in
-    let bands = all.bands.items in
-    let some : 0 < length (get_or bands all.band []) =
-    omega (
-      arith,
-      c.requires.made,
-      ap (λ (s : RowCanvasState). length (band_rows s)) c.self.view_is,
-    ) in
-    ap (λ (l : List TaggedRowState). length l)
-    (band_read bands all.band c.index_mut.result.now some c.index_mut.ensures.value)
-    ∙ (band_sound bands all.band c.self.invariant.bands).whole some
+draw-requires-clause-made c = grind (arith, band_read, band_sound)
 
 pub returns-clause-drawn : goal.returns-clause-drawn
 returns-clause-drawn c =
@@ -93,21 +82,4 @@ returns-clause-grown c =
     c.draw.ensures.grown
 
 pub returns-clause-held : goal.returns-clause-held
-returns-clause-held c = λ single fits.
-    let all = c.self.inside in
-    let bands = all.bands.items in
-    let some : 0 < length (get_or bands all.band []) =
-    omega (
-      arith,
-      c.requires.made,
-      ap (λ (s : RowCanvasState). length (band_rows s)) c.self.view_is,
-    ) in
-    let here = band_read bands all.band c.index_mut.result.now some c.index_mut.ensures.value in
-    c.draw.ensures.held all.background single
-    (λ k six.
-    omega (
-      arith,
-      fits k six,
-      ap (λ (s : RowCanvasState). length (band_line s k).row.pixels) c.self.view_is,
-      ap (λ (l : List TaggedRowState). length (line_in l all.background k).row.pixels) here,
-    ))
+returns-clause-held c = λ single fits. grind (arith, band_read)

@@ -1,8 +1,10 @@
-use Rattle.std.proofs.Common.{◌+◌, ◌*◌, ◌++◌, sym, ap, ◌∙◌, add-one, arith}
+use Rattle.std.proofs.Common.{◌*◌, ◌++◌, sym, ap, ◌∙◌, add-one, arith}
 use Rattle.std.proofs.Math.Nat.{mul-le-mul_left}
 use Rattle.sixel_canvas.specs.inside.RowCanvas.{row_canvas_shown}
 use Rattle.sixel_base.specs.Picture.{joined, picture}
 use Rattle.sixel_canvas.proofs.row_canvas.RowCanvas.pack.Goals as goal
+use Rattle.std.proofs.lemmas.Bool.Decides.{nat_tests}
+use Rattle.std.proofs.lemmas.Grind.{common_steps}
 
 pub packed-init : goal.packed-init
 unfolding joined
@@ -19,17 +21,11 @@ packed-preserved c =
 
 pub returns-clause-ok : goal.returns-clause-ok
 unfolding picture
-returns-clause-ok c =
-    c.packed.invariant.0
-    ∙ ap
-    (joined (λ row. joined (λ column. row_canvas_shown c.args.self.now column row) c.args.width))
-    (omega arith)
+returns-clause-ok c = grind (arith, common_steps, nat_tests, c.packed.invariant.0)
 
 pub pack_row-requires : goal.pack_row-requires
 pack_row-requires c =
-    let within = mul-le-mul_left {m = c.packed.row + 1} {n = c.args.height} c.args.width
-    (omega (arith, c.packed-test.true)) in
-    omega (arith, within, c.packed.invariant.1, c.requires)
+    grind (arith, nat_tests, mul-le-mul_left, c.packed-test.true, c.packed.invariant.1, c.requires)
 
 pub returns-clause-len : goal.returns-clause-len
 returns-clause-len c =

@@ -5,6 +5,7 @@ use Rattle.sixel_canvas.specs.inside.RowCanvas.{row_canvas_state}
 use Rattle.sixel_canvas.specs.inside.TaggedRow.{TaggedRowState}
 use Rattle.sixel_canvas.proofs.RowCosts.{band_writes_most, few_tags}
 use Rattle.sixel_canvas.proofs.row_canvas.RowCanvas.writes.Goals as goal
+use Rattle.std.proofs.lemmas.Bool.Decides.{nat_tests}
 
 pub overflow_add-writes : goal.overflow_add-writes
 overflow_add-writes c =
@@ -40,8 +41,4 @@ returns-clause-at_most c =
     )
 
 pub returns-clause-tags : goal.returns-clause-tags
-returns-clause-tags c =
-    let canvas = c.self.inside in
-    rw (← c.self.view_is) (few_tags
-    (row_canvas_state canvas.background canvas.bands.items canvas.band canvas.paints)
-    c.self.invariant.bands)
+returns-clause-tags c = grind (arith, nat_tests, few_tags, c.self.invariant.bands, c.self.view_is)

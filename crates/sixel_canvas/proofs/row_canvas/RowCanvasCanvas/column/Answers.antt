@@ -1,30 +1,21 @@
-use Rattle.std.proofs.Common.{◌≡◌, ℕ, ◌+◌, ◌*◌, ◌≤◌, Bool, true, false, max, length, refl, ap}
+use Rattle.std.proofs.Common.{◌≡◌, ℕ, ◌+◌, ◌*◌, ◌≤◌, Bool, true, false, max, length, ap}
 use Rattle.std.proofs.Common.{arith}
 use Rattle.std.specs.Prelude.{IsOk, if◌then◌else◌}
 use Rattle.sixel_base.specs.Picture.{is_struck}
-use Rattle.sixel_canvas.specs.inside.RowCanvas.{band_line, band_rows, row_len}
+use Rattle.sixel_canvas.specs.inside.RowCanvas.{band_line, row_len}
 use Rattle.sixel_canvas.proofs.RowBands.{band_row}
 use Rattle.sixel_canvas.proofs.RowBytes.{when_ok}
 use Rattle.sixel_canvas.proofs.RowCosts.{drawn_run, least-each, least-grown, line_made}
 use Rattle.sixel_canvas.proofs.row_canvas.RowCanvasCanvas.column.Goals as goal
+use Rattle.std.proofs.lemmas.Bool.Decides.{nat_tests}
 
 pub draw_band-drawn-requires-clause-made : goal.draw_band-drawn-requires-clause-made
 draw_band-drawn-requires-clause-made c =
-    let now = c.args.self.now in
-    line_made (band_rows now) now.background 0 (omega (
-      arith,
-      c.requires.held,
-      least-each (λ k. length (band_line now k).row.pixels) 6 0 (omega arith),
-    ))
+    grind (arith, nat_tests, least-each, line_made, c.requires.held)
 
 -- each of the six rows has the column, so that drawing does not fail
 is_ok : (c : goal.After-draw_band-drawn) → IsOk c.draw_band-drawn.result
-is_ok c =
-    c.draw_band-drawn.ensures.held refl (λ k six. omega (
-      arith,
-      c.requires.held,
-      least-each (λ i. length (band_line c.args.self.now i).row.pixels) 6 k six,
-    ))
+is_ok c = grind (arith, nat_tests, least-each)
 
 pub returns-clause-drawn : goal.returns-clause-drawn
 returns-clause-drawn c = λ column row.

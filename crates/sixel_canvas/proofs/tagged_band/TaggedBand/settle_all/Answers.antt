@@ -1,8 +1,9 @@
-use Rattle.std.proofs.Common.{◌/◌, ◌∙◌, sym, ap}
+use Rattle.std.proofs.Common.{◌/◌, ◌∙◌, sym}
 use Rattle.sixel_canvas.specs.inside.Band.{cell}
-use Rattle.sixel_canvas.specs.inside.Tags.{is_tag}
 use Rattle.sixel_canvas.proofs.BandTags.{all_settled, under_none}
 use Rattle.sixel_canvas.proofs.tagged_band.TaggedBand.settle_all.Goals as goal
+use Rattle.std.proofs.lemmas.Bool.Decides.{nat_tests}
+use Rattle.std.proofs.Common.{arith}
 
 pub returns-clause-shown : goal.returns-clause-shown
 returns-clause-shown c = λ column k.
@@ -18,7 +19,4 @@ returns-clause-shown c = λ column k.
 
 pub returns-clause-same : goal.returns-clause-same
 returns-clause-same c = λ column k.
-    let after = c.self-2.inside in
-    let none = ap is_tag (c.clear.ensures.shown (column / 128) k ∙ c.self-2.invariant.clear) in
-    under_none (cell c.clear.new.self (column / 128) k) (cell after.pixels column k) none
-    ∙ returns-clause-shown c column k
+    grind (arith, nat_tests, under_none, c.clear.ensures.shown, c.self-2.invariant.clear)

@@ -5,32 +5,7 @@ use Rattle.sixel_canvas.specs.inside.Tags.{under}
 use Rattle.sixel_canvas.proofs.tagged_band.TaggedBand.widen.Goals as goal
 
 pub invariant_of-self : goal.invariant_of-self
-invariant_of-self c = record {
-  pixels = c.in_ok-pixels.ensures.whole;
-  tags = c.in_ok-self-inside.ensures.whole;
-  clear = c.in_ok-self-inside.ensures.background ∙ c.self.invariant.clear;
-  room =
-      omega (
-        arith,
-        c.in_ok-pixels.ensures.cap,
-        c.in_ok-self-inside.ensures.cap,
-        c.div_ceil.ensures,
-      );
-  few_tags =
-      omega (
-        arith,
-        c.in_ok-pixels.ensures.cap,
-        c.in_ok-self-inside.ensures.cap,
-        c.div_ceil.ensures,
-      );
-  whole =
-      omega (
-        arith,
-        c.in_ok-pixels.ensures.reach,
-        c.in_ok-self-inside.ensures.reach,
-        c.self.invariant.whole,
-      );
-}
+invariant_of-self c = grind arith
 
 pub returns-clause-held : goal.returns-clause-held
 returns-clause-held c =

@@ -1,8 +1,6 @@
 use Rattle.std.proofs.Common.{◌≡◌, ◌/◌, length, sym, ap, ◌∙◌, arith}
 use Rattle.std.specs.Prelude.{nat_le, nat_lt, ◌&&◌, if◌then◌else◌}
 use Rattle.std.proofs.lemmas.Bool.{eqb-true}
-use Rattle.std.proofs.lemmas.Result.{on_ok_weaker}
-use Rattle.sixel_canvas.specs.Row.{RowState}
 use Rattle.sixel_canvas.specs.inside.TaggedRow.{TaggedRowState, tagged_pixel, tagged_row_state}
 use Rattle.sixel_canvas.proofs.TaggedRows.{drawn_untagged, none_past, tagged_grown}
 use Rattle.sixel_canvas.proofs.tagged_row.TaggedRow.draw.Goals as goal
@@ -35,16 +33,4 @@ returns-then-len-from-clause-drawn c = λ column.
     c.self.view_is
 
 pub returns-clause-drawn : goal.returns-clause-drawn
-returns-clause-drawn c =
-    let all = c.self.inside in
-    let line : TaggedRowState = tagged_row_state all.row all.tags all.spread in
-    on_ok_weaker c.draw_over.result
-    (λ drawn column.
-    drawn column
-    ∙ ap
-    (λ p. if nat_le c.args.from column && nat_lt column c.args.to then c.args.color else p)
-    (ap (λ (r : RowState). tagged_pixel (tagged_row_state r all.tags all.spread) column)
-    c.in_ok-grow.ensures.ok
-    ∙ tagged_grown c.args.to line column
-    ∙ ap (λ (s : TaggedRowState). tagged_pixel s column) c.self.view_is))
-    c.draw_over.ensures.drawn
+returns-clause-drawn c = grind (arith, tagged_grown)

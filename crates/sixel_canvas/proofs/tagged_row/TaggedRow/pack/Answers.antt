@@ -4,13 +4,11 @@ use Rattle.sixel_base.specs.Picture.{joined}
 use Rattle.sixel_base.proofs.PictureBytes.{joined-add}
 use Rattle.sixel_canvas.specs.inside.TaggedRow.{tagged_pixel}
 use Rattle.sixel_canvas.proofs.tagged_row.TaggedRow.pack.Goals as goal
+use Rattle.std.proofs.lemmas.Bool.Decides.{nat_tests}
 
 pub segments-init : goal.segments-init
 unfolding joined
-segments-init c =
-    let front = c.args.bytes.now.items in
-    let none : min (0 * 128) c.args.width ≡ 0 = omega arith in
-    rw none (sym (append-nil front), omega arith)
+segments-init c = grind (arith, nat_tests, append-nil)
 
 pub segments-preserved : goal.segments-preserved
 segments-preserved c =

@@ -1,7 +1,7 @@
 use Rattle.std.proofs.Common.{◌+◌, ◌*◌, ◌∙◌}
 use Rattle.std.proofs.lemmas.List.{length-set}
 use Rattle.sixel_canvas.proofs.BandRows.{set_first, set_more}
-use Rattle.sixel_canvas.proofs.band.draw_one.Goals as goal
+use Rattle.sixel_canvas.proofs.six_rows.draw_one.Goals as goal
 
 pub drawn-init : goal.drawn-init
 drawn-init c =

@@ -2,7 +2,7 @@ use Rattle.std.proofs.Common.{◌∙◌, ap}
 use Rattle.std.specs.Prelude.{if◌then◌else◌}
 use Rattle.sixel_canvas.specs.inside.Band.{stored}
 use Rattle.sixel_canvas.proofs.BandSixels.{covers_repeated}
-use Rattle.sixel_canvas.proofs.band.draw_eight.Goals as goal
+use Rattle.sixel_canvas.proofs.six_rows.draw_eight.Goals as goal
 
 pub returns-clause-drawn : goal.returns-clause-drawn
 returns-clause-drawn c = λ d column k inside six.

@@ -1,7 +1,7 @@
 use Rattle.std.proofs.Common.{◌≡◌, ℕ, ◌<◌, List, length}
 use Rattle.std.specs.Prelude.{nat_lt, ◌&&◌, if◌then◌else◌}
 use Rattle.sixel_canvas.specs.inside.Band.{covers_four, stored}
-use Rattle.sixel_canvas.proofs.band.mix_four.Given as goal
+use Rattle.sixel_canvas.proofs.six_rows.mix_four.Given as goal
 
 abbrev pub invariant-mixed : goal.invariant-mixed
 invariant-mixed l =

@@ -3,7 +3,7 @@ use Rattle.std.proofs.lemmas.Nat.Bits.{bit_at-trailing_zeros, bit_at-zero}
 use Rattle.std.specs.Int.{trailing_zeros}
 use Rattle.std.specs.Int.Count.{count_trailing_zeros}
 use Rattle.sixel_base.specs.Picture.{is_set}
-use Rattle.sixel_canvas.proofs.band.first_row.Goals as goal
+use Rattle.sixel_canvas.proofs.six_rows.first_row.Goals as goal
 
 first_set : (bits : ℕ) → bits < 256 → trailing_zeros w8 bits < 6 →
     is_set bits (trailing_zeros w8 bits) ≡ true

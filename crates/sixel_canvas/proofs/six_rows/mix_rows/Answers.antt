@@ -1,7 +1,7 @@
 use Rattle.std.proofs.Common.{◌≡◌, ℕ, ◌<◌, get_or, arith}
 use Rattle.sixel_canvas.proofs.BandSixels.{covers_first, covers_halves}
 use Rattle.sixel_canvas.proofs.Lanes.{each_of_four, four_lanes}
-use Rattle.sixel_canvas.proofs.band.mix_rows.Goals as goal
+use Rattle.sixel_canvas.proofs.six_rows.mix_rows.Goals as goal
 
 pub returns-then-from_le_bytes-gt0-clause-drawn : goal.returns-then-from_le_bytes-gt0-clause-drawn
 returns-then-from_le_bytes-gt0-clause-drawn c = λ d column k inside six.

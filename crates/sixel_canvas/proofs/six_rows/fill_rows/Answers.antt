@@ -1,33 +1,14 @@
 use Rattle.std.proofs.Common.{◌≡◌, ◌<◌, ◌≤◌, [], ◌∙◌, true, sym, eq-eqb, ⊎_elim, arith}
-use Rattle.std.proofs.lemmas.Bool.{cases_lt, ne_eqb, true≢false}
+use Rattle.std.proofs.lemmas.Bool.{cases_lt, true≢false}
 use Rattle.sixel_base.specs.Picture.{is_set}
+use Rattle.sixel_canvas.proofs.BandRows.{struck_more}
 use Rattle.sixel_canvas.proofs.BandCopies.{row_above, row_before, row_colored}
-use Rattle.sixel_canvas.proofs.BandRows.{struck_more, struck_same}
-use Rattle.sixel_canvas.proofs.band.fill_rows.Goals as goal
-use Rattle.sixel_canvas.proofs.band.fill_rows.Goals.{then-bits-bit-eq1, else-bits-bit-eq1}
+use Rattle.sixel_canvas.proofs.six_rows.fill_rows.Goals as goal
+use Rattle.sixel_canvas.proofs.six_rows.fill_rows.Goals.{then-bits-bit-eq1, else-bits-bit-eq1}
+use Rattle.std.proofs.lemmas.Bool.Decides.{nat_tests}
 
 pub drawn-preserved : goal.drawn-preserved
-drawn-preserved c =
-    let before = c.drawn.invariant in
-    elim c.if-bits-bit-eq1.branch [
-      | then-bits-bit-eq1 w ↦
-          rw w.pixels-is (
-            w.fill_row.ensures.len ∙ before.0,
-            λ d column k inside six.
-                struck_more c.args.pixels.now c.drawn.pixels w.fill_row.new.pixels c.args.cap
-                c.args.from c.args.to c.args.bits c.drawn.bit c.args.color d column k inside six
-                c.requires.ordered c.requires.within (eq-eqb _ _ w.if-bits-bit-eq1.true)
-                (before.1 d column k inside six) (w.fill_row.ensures.filled d),
-          )
-      | else-bits-bit-eq1 w ↦
-          rw w.pixels-is (
-            before.0,
-            λ d column k inside six.
-                struck_same c.args.pixels.now c.drawn.pixels c.args.cap c.args.from c.args.to
-                c.args.bits c.drawn.bit c.args.color d column k (ne_eqb _ _ w.if-bits-bit-eq1.false)
-                (before.1 d column k inside six),
-          )
-    ]
+drawn-preserved c = grind (arith, nat_tests, struck_more)
 
 pub fill_row-requires-clause-before : goal.fill_row-requires-clause-before
 fill_row-requires-clause-before c =

@@ -2,7 +2,7 @@ use Rattle.std.proofs.Common.{arith, refl}
 use Rattle.std.specs.Prelude.{nat_lt, if◌then◌else◌}
 use Rattle.std.proofs.lemmas.Bool.{le-ltb}
 use Rattle.sixel_canvas.proofs.Lanes.{get_or-lanes, lane_is}
-use Rattle.sixel_canvas.proofs.band.repeated.Goals as goal
+use Rattle.sixel_canvas.proofs.six_rows.repeated.Goals as goal
 
 pub returns : goal.returns
 returns c =

@@ -1,7 +1,7 @@
 use Rattle.std.proofs.Common.{◌≡◌, ℕ, ◌*◌, ◌<◌, length}
 use Rattle.std.specs.Prelude.{nat_lt, if◌then◌else◌}
 use Rattle.sixel_canvas.specs.inside.Band.{stored}
-use Rattle.sixel_canvas.proofs.band.widened.Given as goal
+use Rattle.sixel_canvas.proofs.six_rows.widened.Given as goal
 
 abbrev pub invariant-copied : goal.invariant-copied
 invariant-copied l =

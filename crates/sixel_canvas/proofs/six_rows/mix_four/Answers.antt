@@ -1,6 +1,6 @@
 use Rattle.std.proofs.Common.{◌∙◌}
 use Rattle.sixel_canvas.proofs.BandSixels.{mixed_more}
-use Rattle.sixel_canvas.proofs.band.mix_four.Goals as goal
+use Rattle.sixel_canvas.proofs.six_rows.mix_four.Goals as goal
 
 pub mixed-preserved : goal.mixed-preserved
 mixed-preserved c =

@@ -2,7 +2,7 @@ use Rattle.std.proofs.Common.{◌≡◌, ℕ, ◌<◌, List, length}
 use Rattle.std.specs.Prelude.{nat_lt, ◌&&◌, if◌then◌else◌}
 use Rattle.sixel_base.specs.Picture.{covers}
 use Rattle.sixel_canvas.specs.inside.Band.{stored}
-use Rattle.sixel_canvas.proofs.band.fill_rows.Given as goal
+use Rattle.sixel_canvas.proofs.six_rows.fill_rows.Given as goal
 
 abbrev pub invariant-drawn : goal.invariant-drawn
 invariant-drawn l =
