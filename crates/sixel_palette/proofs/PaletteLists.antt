@@ -1,13 +1,13 @@
 -- Lists of numbers: one more at the end, one set, a part, and numbers that rise.
-use Rattle.std.proofs.Common.{◌≡◌, ◌≢◌, ℕ, zero, suc, ◌+◌, ◌-◌, ◌<◌, ◌≤◌, List, [], ◌∷◌, ◌++◌}
+use Rattle.std.proofs.Common.{◌≡◌, ℕ, zero, suc, ◌+◌, ◌-◌, ◌<◌, ◌≤◌, List, [], ◌∷◌, ◌++◌}
 use Rattle.std.proofs.Common.{length, get_or, take, drop, replicate, ap, ◌∙◌, inl, inr, ⊎_elim}
 use Rattle.std.proofs.Common.{arith}
-use Rattle.std.specs.List.{All, Contains}
+use Rattle.std.specs.List.{All}
 use Rattle.std.specs.List.Sorted.{IsStrictlyIncreasing}
 use Rattle.std.proofs.lemmas.Bool.{cases_lt}
 use Rattle.std.proofs.lemmas.List.{get_or_append_left, get_or_push, get_or-take, get_or-drop}
 use Rattle.std.proofs.lemmas.List.{get_or-replicate, length_push}
-use Rattle.std.proofs.lemmas.List.{length-take, length-drop, get_or_default}
+use Rattle.std.proofs.lemmas.List.{length-take, length-drop}
 use Rattle.std.proofs.lemmas.List.Kept.{AllPairs-from_increasing}
 
 -- a fact of each of four indices
@@ -71,34 +71,6 @@ increasing-few xs n up below =
       increasing-from xs up (length xs - 1) (omega arith),
       below (length xs - 1) 0 (omega arith),
     ))
-    (λ (none : length xs ≤ 0). omega arith)
-    (cases_lt 0 (length xs))
-
--- rising numbers that are all among others have no earlier positions there
-increasing-later : (xs ys : List ℕ) → IsStrictlyIncreasing xs → IsStrictlyIncreasing ys
-    → All (Contains ys) xs → (k : ℕ) → k < length xs
-    → (j : ℕ) × (j < length ys) × (get_or ys j 0 ≡ get_or xs k 0) × (k ≤ j)
-increasing-later xs ys up rise within zero l =
-    let h = within 0 0 l in
-    (h.0, h.1, get_or_default ys h.0 0 (get_or xs 0 0) h.1 ∙ h.2, omega arith)
-increasing-later xs ys up rise within (suc k) l =
-    let before = increasing-later xs ys up rise within k (omega arith) in
-    let h = within (suc k) 0 l in
-    let same = get_or_default ys h.0 0 (get_or xs (suc k) 0) h.1 ∙ h.2 in
-    let next : k + 1 ≡ suc k = omega arith in
-    let less = rw next at (up k (omega arith)) in
-    ⊎_elim (λ (m : before.0 < h.0). (h.0, h.1, same, omega (arith, m, before.3)))
-    (λ (m : h.0 ≤ before.0).
-    absurd (omega (arith, increasing-le ys rise h.0 before.0 m before.1, before.2, same, less)))
-    (cases_lt before.0 h.0)
-
--- rising numbers that are all among others are at most as many
-pub increasing-among : (xs ys : List ℕ) → IsStrictlyIncreasing xs → IsStrictlyIncreasing ys
-    → All (Contains ys) xs → length xs ≤ length ys
-increasing-among xs ys up rise within =
-    ⊎_elim (λ (some : 0 < length xs).
-    let last = increasing-later xs ys up rise within (length xs - 1) (omega arith) in
-    omega (arith, last.1, last.3))
     (λ (none : length xs ≤ 0). omega arith)
     (cases_lt 0 (length xs))
 
