@@ -40,10 +40,10 @@ def parts(box, channel, value):
 
 
 def gain(box, channel, value):
-    """How much the summed error falls if both parts of a box have an entry."""
+    """How much the summed error falls if both parts of a box have an entry. Green counts twice."""
     (count, *low), (others, *high) = map(total, parts(box, channel, value))
-    gaps = ((256 * a // count - 256 * b // others) ** 2 for a, b in zip(low, high))
-    return sum(gaps) * (16 * count * others // (count + others)) // 65536
+    red, green, blue = ((256 * a // count - 256 * b // others) ** 2 for a, b in zip(low, high))
+    return (red + 2 * green + blue) * (16 * count * others // (count + others)) // 65536
 
 
 def best_cut(box):

@@ -19,7 +19,7 @@ gain-none a b h =
 
 -- the gain of two parts with pixels
 pub gain-some : (a b : ℕ → ℕ) → 0 < a 0 → 0 < b 0 → gain a b
-    ≡ (mean_gap (a 1) (a 0) (b 1) (b 0) + mean_gap (a 2) (a 0) (b 2) (b 0)
+    ≡ (mean_gap (a 1) (a 0) (b 1) (b 0) + 2 * mean_gap (a 2) (a 0) (b 2) (b 0)
     + mean_gap (a 3) (a 0) (b 3) (b 0)) * (16 * a 0 * b 0 / (a 0 + b 0)) / 65536
 unfolding gain
 gain-some a b some other =

@@ -59,11 +59,11 @@ mean_gap sum count other_sum other_count =
     * abs_diff (fine_mean sum count) (fine_mean other_sum other_count)
 
 -- how much the summed squared error falls if both parts have an entry of their own: the weight of
--- the parts times the squared distance of their means
+-- the parts times the squared distance of their means, in which green counts twice
 unfoldable pub gain : (ℕ → ℕ) → (ℕ → ℕ) → ℕ
 gain a b =
     if a 0 == 0 || b 0 == 0 then 0
-    else (mean_gap (a 1) (a 0) (b 1) (b 0) + mean_gap (a 2) (a 0) (b 2) (b 0)
+    else (mean_gap (a 1) (a 0) (b 1) (b 0) + 2 * mean_gap (a 2) (a 0) (b 2) (b 0)
     + mean_gap (a 3) (a 0) (b 3) (b 0)) * (16 * a 0 * b 0 / (a 0 + b 0)) / 65536
 
 -- the gain of a cut of a box

@@ -101,7 +101,8 @@ impl ColorSums {
 
     /// How much the summed squared error falls if `other` gets an entry of its own.
     ///
-    /// It is in units of 1/16, and rounded down: a guide.
+    /// Green counts twice, because eyes tell it apart best. It is in units of 1/16, and rounded
+    /// down: a guide.
     pub fn gain(self, other: ColorSums) -> u64
         ensures { result ≡ gain (total self) (total other) }
     {
@@ -112,7 +113,7 @@ impl ColorSums {
         let red = mean_gap(self.red, self.count, other.red, other.count);
         let green = mean_gap(self.green, self.count, other.green, other.count);
         let blue = mean_gap(self.blue, self.count, other.blue, other.count);
-        scaled(red + green + blue, weight)
+        scaled(red + 2 * green + blue, weight)
     }
 }
 
@@ -165,7 +166,7 @@ fn fine_mean(sum: u64, count: u64) -> u64
 
 /// A squared distance in units of 1/65536 times a weight.
 fn scaled(distance: u64, weight: u64) -> u64
-    requires distance { distance ≤ 12784435200 }
+    requires distance { distance ≤ 17045913600 }
     requires weight { weight ≤ 1073741824 }
     ensures { result ≡ distance * weight / 65536 }
 {
