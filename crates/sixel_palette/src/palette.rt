@@ -28,7 +28,7 @@ mod gain_cut;
 mod indices;
 mod lloyd;
 pub mod nearest;
-mod nearest_entry;
+pub mod nearest_entry;
 pub mod nearest_indices;
 mod positions;
 mod rank_bitmap;

@@ -19,8 +19,7 @@ fn square_gap(a: u8, b: u8) -> u32
     ensures value { result ≡ abs_diff a b * abs_diff a b }
     ensures small { result ≤ 65025 }
 {
-    let gap = u32::from(a.abs_diff(b));
-    gap * gap
+    wrapped_gap(u32::from(a), u32::from(b))
 }
 
 /// Returns whether a color has at least this squared distance to each other one.

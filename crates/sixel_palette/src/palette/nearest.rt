@@ -7,7 +7,7 @@
 ghost use Rattle.std.specs.Prelude.{◌≡◌, ◌+◌, ◌*◌, ◌/◌, ◌%◌, ◌<◌, ◌≤◌, ℕ, List, [], length};
 ghost use Rattle.sixel_palette.specs.declared.palette.nearest_entry.Entry.{Entry};
 ghost use Rattle.std.specs.Prelude.{IfOk, OnOk, slice_index};
-ghost use Rattle.sixel_palette.specs.Palette.{IsNearest, distance};
+ghost use Rattle.sixel_palette.specs.Palette.{IsNearest, distance, nearest};
 ghost use Rattle.sixel_palette.specs.inside.PaletteCells.{IsInInterval};
 ghost use Rattle.sixel_palette.specs.inside.PaletteCodes.{color_of, code_count};
 ghost use Rattle.sixel_palette.specs.inside.PaletteNearest.{IsNearestEntry};
@@ -27,6 +27,9 @@ use std::alloc::{AllocError, Global};
 
 /// How many cubes there are. A side of a cube has 8 colors.
 pub const CUBES: usize = 32_768;
+
+/// The size of a palette without lists, because lanes compare all of its entries at once.
+const SMALL_PALETTE: usize = 16;
 
 /// How many groups of cubes there are. A side of a group has 32 colors.
 const GROUPS: usize = 512;
@@ -70,18 +73,20 @@ impl Search {
         })
     }
 
-    /// The palette index of the entry nearest to a color, the first of equals.
+    /// The entry nearest to a color, the first of equals.
     #[inline(always)]
-    pub fn index_of(&mut self, color: [u8; 3]) -> Result<u8, AllocError>
+    pub fn nearest_to(&mut self, color: [u8; 3]) -> Result<NearestEntry, AllocError>
         requires { IsSearch self.old }
         ensures search { OnOk result ((colors : List (List ℕ))
             → IsSearchOf colors self.old → IsSearchOf colors self.new) }
-        ensures nearest { IfOk result (λ index. (colors : List (List ℕ)) → 0 < length colors
-            → IsSearchOf colors self.old → IsNearest colors color index) }
+        ensures nearest { IfOk result (λ near. (colors : List (List ℕ)) → 0 < length colors
+            → IsSearchOf colors self.old → IsNearest colors color near.index) }
+        ensures squared { IfOk result (λ near. (colors : List (List ℕ))
+            → IsSearchOf colors self.old → near.squared ≡ nearest colors color) }
     {
         let code = code_of(color);
         let near = self.nearest(code)?;
-        Ok(near.index)
+        Ok(near)
     }
 
     /// The nearest entry of the color of a code.
@@ -95,12 +100,28 @@ impl Search {
             → AreNumbered colors self.old.entries.items
             → IsNearestEntry colors (color_of code) near) }
     {
-        let span = self.span_of(code)?;
-        let key = least_key(&self.cubes.entries[span.start..span.end], code);
+        let key = self.least_key(code)?;
         Ok(NearestEntry {
             squared: key / 256,
             index: (key % 256) as u8,
         })
+    }
+
+    /// The least key of all entries for the color of a code.
+    #[inline(always)]
+    fn least_key(&mut self, code: u32) -> Result<u32, AllocError>
+        requires small { code < code_count }
+        requires search { IsSearch self.old }
+        ensures search { OnOk result (IsSearch self.new) }
+        ensures entries { OnOk result (self.new.entries.items ≡ self.old.entries.items) }
+        ensures key { IfOk result (λ key.
+            key ≡ least_key self.old.entries.items (color_of code)) }
+    {
+        if self.entries.len() == SMALL_PALETTE {
+            return Ok(least_key_of_sixteen(&self.entries, code));
+        }
+        let span = self.span_of(code)?;
+        Ok(least_key(&self.cubes.entries[span.start..span.end], code))
     }
 
     /// The span of the cube of a code, which is filled if it is not yet.
@@ -255,6 +276,27 @@ fn push_nearest(list: &mut Vec<Entry>, cube: &Cube, entries: &[Entry]) -> Result
     }
     list.truncate(end);
     Ok(())
+}
+
+/// The least key of sixteen entries for the color of a code.
+///
+/// The keys are found apart from their comparison, so that the compiler finds four at once.
+#[inline(always)]
+fn least_key_of_sixteen(entries: &[Entry], code: u32) -> u32
+    requires small { code < code_count }
+    requires sixteen { length entries.now ≡ 16 }
+    ensures { result ≡ least_key entries.now (color_of code) }
+{
+    let mut keys = [0; SMALL_PALETTE];
+    for lane in 0..SMALL_PALETTE {
+        let entry = entries[lane];
+        keys[lane] = key(distance_to(code, entry.color), entry.index);
+    }
+    let mut least = 256 * NO_ENTRY;
+    for position in 0..SMALL_PALETTE {
+        least = keys[position].min(least);
+    }
+    least
 }
 
 /// The least key of some entries for the color of a code.

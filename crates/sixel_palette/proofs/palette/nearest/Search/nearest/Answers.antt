@@ -1,4 +1,3 @@
-use Rattle.std.proofs.Common.{◌∙◌}
 use Rattle.sixel_palette.specs.inside.PaletteCodes.{color_of}
 use Rattle.sixel_palette.proofs.PaletteKeys.{nearest_from_key}
 use Rattle.sixel_palette.proofs.palette.nearest.Search.nearest.Goals as goal
@@ -6,5 +5,4 @@ use Rattle.sixel_palette.proofs.palette.nearest.Search.nearest.Goals as goal
 pub returns-clause-nearest : goal.returns-clause-nearest
 returns-clause-nearest c = λ colors numbered.
     nearest_from_key colors c.args.self.now.entries.items (color_of c.args.code)
-    c.least_key-key.result numbered
-    ((rw c.deref.ensures.value at c.least_key-key.ensures) ∙ c.in_ok-span.ensures.nearest.nearest)
+    c.in_ok-key.key numbered c.in_ok-key.ensures.key

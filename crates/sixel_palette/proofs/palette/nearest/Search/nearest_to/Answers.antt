@@ -1,5 +1,5 @@
 use Rattle.sixel_palette.proofs.PaletteFarthest.{nearest_from_entry}
-use Rattle.sixel_palette.proofs.palette.nearest.Search.index_of.Goals as goal
+use Rattle.sixel_palette.proofs.palette.nearest.Search.nearest_to.Goals as goal
 
 pub returns-clause-search : goal.returns-clause-search
 returns-clause-search c = λ colors is. record {
@@ -14,3 +14,7 @@ returns-clause-nearest c = λ colors some is.
     nearest_from_entry colors c.args.color c.in_ok-near.near
     (rw code.color at (is.some some c.code_of-code.result code.small))
     (rw code.color at (c.in_ok-near.ensures.nearest colors is.numbered))
+
+pub returns-clause-squared : goal.returns-clause-squared
+returns-clause-squared c = λ colors is.
+    rw c.code_of-code.ensures.color at (c.in_ok-near.ensures.nearest colors is.numbered).gap

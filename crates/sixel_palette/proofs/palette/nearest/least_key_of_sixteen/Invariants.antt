@@ -1,0 +1,15 @@
+use Rattle.std.proofs.Common.{◌≡◌, ℕ, ◌<◌, length, take, get_or}
+use Rattle.sixel_palette.specs.inside.PaletteCodes.{color_of}
+use Rattle.sixel_palette.specs.inside.PaletteKeys.{key_of, least_key}
+use Rattle.sixel_palette.proofs.PaletteKeys.{none}
+use Rattle.sixel_palette.proofs.palette.nearest.least_key_of_sixteen.Given as goal
+
+abbrev pub invariant-loop-lane : goal.invariant-loop-lane
+invariant-loop-lane l = record {
+  size : length l.keys ≡ 16;
+  each : (k : ℕ) → k < l.lane
+      → get_or l.keys k 0 ≡ key_of (get_or l.entries k none) (color_of l.code);
+}
+
+abbrev pub invariant-loop-position : goal.invariant-loop-position
+invariant-loop-position l = l.least ≡ least_key (take l.position l.entries) (color_of l.code)
