@@ -1,8 +1,8 @@
 -- What is known of the bytes of an image once a beginning of them was fed.
 use Rattle.std.proofs.Common.{◌≡◌, ℕ, ◌≤◌, true, false, List, [], ◌++◌, refl, ap, sym, ◌∙◌, inl}
 use Rattle.std.proofs.Common.{inr, subst, arith, Option, Some, None}
-use Rattle.std.specs.Prelude.{◌&&◌, if◌then◌else◌, nat_lt, is_none, is_some, length}
-use Rattle.std.specs.Prelude.{Result, Ok, Err, IfErr}
+use Rattle.std.specs.Prelude.{◌&&◌, if◌then◌else◌, nat_lt, is_none, is_some, length, Result, Ok}
+use Rattle.std.specs.Prelude.{Err, IfErr}
 use Rattle.std.proofs.lemmas.List.{append-nil, append_assoc}
 use Rattle.std.proofs.lemmas.Bool.Decides.{nat_tests}
 use Rattle.sixel_base.specs.declared.error.SixelError.{SixelError}
@@ -28,15 +28,14 @@ use Rattle.icy_sixel.specs.declared.receiver.Open.TheVariants as opened
 use Rattle.icy_sixel.specs.declared.script.Status.TheVariants.{Payload, Dcs}
 use Rattle.sixel_base.specs.Limits.{Limit}
 use Rattle.icy_sixel.specs.Receiver.{Form, Nothing, OfPayload, OfString, count, status, fault}
-use Rattle.icy_sixel.specs.Receiver.{growths, is_over, end_fault, end_wants}
+use Rattle.icy_sixel.specs.Receiver.{growths, is_over, end_fault, end_wants, has_ended}
 use Rattle.icy_sixel.specs.inside.Session.{IsWhole}
-use Rattle.icy_sixel.specs.Receiver.{has_ended}
 use Rattle.sixel_decoder.proofs.ParserSteps.{Faults-along}
-use Rattle.sixel_decoder.proofs.ChunkPlaces.{or_right}
+use Rattle.sixel_decoder.proofs.PayloadFaults.{or_right}
 use Rattle.sixel_decoder.proofs.Chunks.{first_terminator-ended}
 use Rattle.sixel_decoder.proofs.ImageEnds.{accepted_same}
-use Rattle.sixel_decoder.proofs.Finality.{front_ended, count_ended, settled_ended}
-use Rattle.sixel_decoder.proofs.Finality.{status_ended, dcs_count_ended, dcs_fault_ended}
+use Rattle.sixel_decoder.proofs.Finality.{front_ended, count_ended, settled_ended, status_ended}
+use Rattle.sixel_decoder.proofs.Finality.{dcs_count_ended, dcs_fault_ended}
 use Rattle.sixel_decoder.proofs.DcsEnds.{count-fits}
 use Rattle.sixel_decoder.proofs.Sessions.{dcs_count-fits, frame_refused, string_refused}
 

@@ -7,9 +7,9 @@ use Rattle.icy_sixel.specs.Receiver.{Receiver, has_ended}
 use Rattle.icy_sixel.specs.ReceiverCalls.{IsFed}
 use Rattle.icy_sixel.specs.declared.receiver.FailedFeed.{FailedFeed}
 use Rattle.icy_sixel.specs.declared.receiver.Received.{Received}
-use Rattle.icy_sixel.specs.declared.receiver.bands.BandStatus.{BandStatus}
-use Rattle.icy_sixel.specs.declared.receiver.bands.BandStatus.TheVariants.{Rows, Image}
-use Rattle.icy_sixel.specs.declared.receiver.bands.ReceivedBand.{ReceivedBand}
+use Rattle.icy_sixel.specs.declared.receiver.rows.BandStatus.{BandStatus}
+use Rattle.icy_sixel.specs.declared.receiver.rows.BandStatus.TheVariants.{Rows, Image}
+use Rattle.icy_sixel.specs.declared.receiver.rows.ReceivedBand.{ReceivedBand}
 use Rattle.icy_sixel.specs.declared.script.Status.{Status}
 
 -- the bytes up to and with the first graphics new line, or all

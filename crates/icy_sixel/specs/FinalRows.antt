@@ -4,7 +4,6 @@ use Rattle.std.specs.Prelude.{ℕ, ◌≡◌, ◌+◌, ◌*◌, max, nat_lt, if�
 use Rattle.std.specs.Prelude.{Option, Some, None, Result, OnOk, OnErr}
 use Rattle.sixel_base.specs.CallFault.{CallFault, Exactly, RowsNotFinal, RowsReleased, ShortStride}
 use Rattle.sixel_base.specs.CallFault.{IsVerdict}
-use Rattle.sixel_base.specs.Limits.{Limit}
 use Rattle.sixel_base.specs.declared.error.SixelError.{SixelError}
 use Rattle.sixel_base.specs.declared.error.SixelError.TheVariants.{BufferSizeMismatch}
 use Rattle.sixel_base.specs.declared.error.SixelError.TheVariants.{IntegerOverflow}
@@ -12,16 +11,11 @@ use Rattle.sixel_base.specs.declared.state.DecoderState.{DecoderState}
 pub use Rattle.sixel_canvas.specs.Layout.{AreCopied, rows_len}
 pub use Rattle.sixel_canvas.specs.declared.channels.RowLayout.{RowLayout}
 pub use Rattle.sixel_decoder.specs.FinalRows.{found_pixel}
-use Rattle.sixel_decoder.specs.FinalRows.{dcs_final_rows, payload_final_rows, row_count}
-use Rattle.icy_sixel.specs.Receiver.{Form, Nothing, OfPayload, OfString, Receiver, Reception, found}
+use Rattle.sixel_decoder.specs.FinalRows.{row_count}
+pub use Rattle.sixel_decoder.specs.Reception.{final_rows}
+use Rattle.icy_sixel.specs.Receiver.{Form, Receiver, Reception, found}
 
--- how many rows from the top are final
-abbrev pub final_rows : Limit → Form → List ℕ → ℕ
-final_rows limit Nothing bytes = 0
-final_rows limit (OfPayload settings) bytes = payload_final_rows limit bytes
-final_rows limit OfString bytes = dcs_final_rows limit bytes
-
--- how many of these the open image has: none after an error
+-- how many rows of the open image are final: none after an error
 abbrev pub rows_so_far : Reception → ℕ
 rows_so_far image =
     row_count image.is_refused (final_rows image.start.pixel_limit image.form image.bytes)

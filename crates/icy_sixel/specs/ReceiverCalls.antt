@@ -1,14 +1,16 @@
 -- What the calls of a receiver do, by the receiver before and after. Each field is one fact. The
 -- facts are those of a payload session or a DCS session, in the words that Receiver has for both.
-use Rattle.std.specs.Prelude.{ℕ, ◌≡◌, ◌+◌, ◌*◌, ◌≤◌, ◌++◌, List, length, true, false, nat_lt}
-use Rattle.std.specs.Prelude.{Option, None, Result, Ok, Err, OnOk, OnErr, IfOk, IfErr, MatchBool}
+use Rattle.std.specs.Prelude.{ℕ, ◌≡◌, ◌+◌, ◌≤◌, ◌++◌, List, length, true, false, nat_lt}
+use Rattle.std.specs.Prelude.{None, Result, Ok, Err, OnOk, OnErr, IfOk, IfErr, MatchBool}
 use Rattle.sixel_base.specs.declared.error.SixelError.{SixelError}
 use Rattle.sixel_base.specs.Dcs.{dcs_fault, dcs_growths, IsSameString}
 use Rattle.sixel_base.specs.Decoder.{IsSetAs}
 use Rattle.sixel_base.specs.Fault.{Faults, IsFault}
-use Rattle.sixel_base.specs.OneShot.{found_fault, IsFoundImage, AreFoundRegisters, IsDecodedAs}
 use Rattle.sixel_base.specs.Payload.{Image, payload_fault, payload_wants}
 use Rattle.sixel_base.specs.Settings.{Settings}
+pub use Rattle.sixel_decoder.specs.Progress.{IsBandPaintCount, IsBandWriteCount}
+pub use Rattle.sixel_decoder.specs.Progress.{IsDrawnHeight, IsSizeSoFar}
+use Rattle.sixel_decoder.specs.FinishedImages as images
 use Rattle.icy_sixel.specs.FinalRows.{pixel_so_far}
 use Rattle.icy_sixel.specs.ReceivedImages.{whole_value}
 use Rattle.icy_sixel.specs.Receiver.{Form, Receiver, Reception, OfPayload, OfString, no_image}
@@ -116,44 +118,12 @@ pub record IsFinished {A : Type 0} (image_of : A → Image) (old new : Receiver)
     (result : Result A SixelError) : Type 0 where
   -- no image is open then
   pub closed : new.image ≡ no_image
-  -- the image is that of its bytes
-  pub image : IfOk result (λ done. IsFoundImage old.image.start
-      (receivers.found old.image.form old.image.bytes) (image_of done))
-  -- the registers are those that its payload leaves
-  pub registers : OnOk result (AreFoundRegisters old.image.start
-      (receivers.found old.image.form old.image.bytes) new.decoder.registers)
-  -- decoding in one call returns this image, whatever bytes follow a DCS sequence
-  pub as_decoded : (more : List ℕ) → IfOk result (λ done. IsDecodedAs old.image.start
-      (receivers.found_followed old.image.form old.image.bytes more)
-      (image_of done) new.decoder.registers)
-  -- the area is within the limit
-  pub area : IfOk result (λ done.
-      (image_of done).width * (image_of done).height ≤ old.image.start.pixel_limit.pixels)
+  -- the image is that of its bytes, and the registers those that its payload leaves
+  pub finished : images.IsFinished image_of (λ _. new.decoder.registers) old.image result
   -- crop and limit of the decoder stay
   pub set : IsSetAs old.decoder new.decoder
-  -- a payload with an image has no fault
-  pub faultless : OnOk result (found_fault old.image.start.pixel_limit
-      (receivers.found old.image.form old.image.bytes) ≡ None)
-  -- a rejected image is never returned
-  pub accepted : OnOk result (old.image.is_refused ≡ false)
-  -- a DCS sequence has an image only once it has ended, unless it is lenient
-  pub ended : OnOk result (receivers.end_fault old.image.start.pixel_limit
-      old.image.form old.image.bytes ≡ None)
   -- an error leaves the decoder as it was
   pub kept : OnErr result (new.decoder ≡ old.decoder)
-  -- an error is the fault of the bytes, or an allocation failed; a rejected image reports that the
-  -- stream has failed
-  pub error : IfErr result (λ error. MatchBool old.image.is_refused
-      (IsFault error (receivers.failed old.image.form))
-      (Faults error
-      (receivers.end_wants old.image.start.pixel_limit old.image.form old.image.bytes)
-      (receivers.end_fault old.image.start.pixel_limit old.image.form old.image.bytes)))
-  -- decoding the bytes of a payload in one call fails with that error
-  pub refused : (settings : Settings) (error : SixelError)
-      → old.image.form ≡ OfPayload settings → result ≡ Err error → old.image.is_refused ≡ false
-      → Faults error
-      (payload_wants old.image.start.pixel_limit old.image.bytes)
-      (payload_fault old.image.start.pixel_limit old.image.bytes)
 
 -- The open image is aborted.
 pub record IsAborted (old new : Receiver) : Type 0 where
@@ -161,42 +131,3 @@ pub record IsAborted (old new : Receiver) : Type 0 where
   pub decoder : new.decoder ≡ old.decoder
   -- no image is open then
   pub closed : new.image ≡ no_image
-
--- The canvas of the open image has written this number of pixels as its rows became wider.
-pub record IsWriteCount (image : Reception) (writes : ℕ) : Type 0 where
-  -- the number that contracts see of the image
-  pub value : writes ≡ image.writes
-  -- at most four times the pixels of the image so far
-  pub at_most : writes ≤ receivers.most_row_writes
-      * receivers.area_of (receivers.size image.start.pixel_limit image.form image.bytes)
-  -- a rejected image has no canvas
-  pub refused : image.is_refused ≡ true → writes ≡ 0
-
--- Sixels of the open image have painted this number of columns and tags. A tag is the color of 128
--- columns of a row, which are painted once the band moves down.
-pub record IsPaintCount (image : Reception) (paints : ℕ) : Type 0 where
-  -- the number that contracts see of the image
-  pub value : paints ≡ image.paints
-  -- at most twice the columns of all bands, and a constant for each closed sixel
-  pub at_most : paints ≤ 2 * receivers.band_columns image.start.pixel_limit image.form image.bytes
-      + receivers.most_run_paints * receivers.sixels image.form image.bytes
-  -- beside the image its canvas has capacity for at most this number of pixels
-  pub room : image.room ≤ receivers.band_room image.start.pixel_limit image.form image.bytes
-  -- a rejected image has no canvas
-  pub refused : image.is_refused ≡ true → paints ≡ 0
-
--- The open image has this size so far.
-pub record IsSizeSoFar (image : Reception) (answer : Option (ℕ × ℕ)) : Type 0 where
-  -- width and height of the closed sixels and raster attributes, once the payload has begun
-  pub accepted : image.is_refused ≡ false
-      → answer ≡ receivers.size image.start.pixel_limit image.form image.bytes
-  -- a rejected image has none
-  pub refused : image.is_refused ≡ true → answer ≡ None
-
--- The last row of the open image with a set pixel, plus one, or 0 if there is none.
-pub record IsDrawnHeight (image : Reception) (rows : ℕ) : Type 0 where
-  -- that of the finished image, because an open command sets no pixel
-  pub accepted : image.is_refused ≡ false
-      → rows ≡ receivers.drawn_height image.start.pixel_limit image.form image.bytes
-  -- a rejected image has none
-  pub refused : image.is_refused ≡ true → rows ≡ 0

@@ -10,16 +10,13 @@ ghost use Rattle.sixel_decoder.specs.ImageEnds.{Extends, IsEnd};
 ghost use Rattle.sixel_decoder.specs.Report.{found_report};
 ghost use Rattle.icy_sixel.specs.ImageView.{image_value};
 ghost use Rattle.icy_sixel.specs.ReceivedImages.{received_report};
-ghost use Rattle.icy_sixel.specs.Receiver.{OfPayload, OfString, found, idle};
-ghost use Rattle.icy_sixel.specs.Receiver.{is_open};
+ghost use Rattle.icy_sixel.specs.Receiver.{OfPayload, OfString, found, idle, is_open};
 ghost use Rattle.icy_sixel.specs.ReceiverCalls.{IsAborted, IsBegun, IsFed, IsFinished, whole_of};
 ghost use Rattle.icy_sixel.specs.inside.Receiving.{reception_of};
 
-mod bands;
-mod final_rows;
 mod progress;
 mod received_image;
-mod row_buffer;
+mod rows;
 mod settings;
 
 use crate::decoder::{
@@ -28,9 +25,8 @@ use crate::decoder::{
 };
 use crate::script::Status;
 use crate::sixel_image::SixelImage;
-pub use bands::{BandStatus, ReceivedBand, band_len};
-pub use final_rows::stable_rows;
 pub use received_image::{Height, ReceivedImage};
+pub use rows::{BandStatus, ReceivedBand, band_len, stable_rows};
 use sixel_base::{Result, SixelError};
 use sixel_canvas::band_canvas::BandCanvas;
 use sixel_decoder::{DcsReader, PayloadReader, SequenceEnd, payload_end};

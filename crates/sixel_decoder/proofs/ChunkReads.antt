@@ -1,7 +1,7 @@
 -- How much of a chunk a parser has read, and what stays true of the chunk's whole history.
-use Rattle.std.proofs.Common.{◌≡◌, ℕ, ◌+◌, ◌<◌, ◌≤◌, true, false, cond, List, []}
-use Rattle.std.proofs.Common.{◌∷◌, ◌++◌, refl, ap, ◌∙◌, arith, Some}
-use Rattle.std.specs.Prelude.{fold, ◌||◌}
+use Rattle.std.proofs.Common.{◌≡◌, ℕ, ◌≤◌, true, false, cond, List, []}
+use Rattle.std.proofs.Common.{◌∷◌, refl, ap, ◌∙◌, arith, Some}
+use Rattle.std.specs.Prelude.{fold}
 use Rattle.sixel_base.specs.Fault.{Fault}
 use Rattle.sixel_base.specs.History.{Token, Sixel, Repeat, Raster, Color, Return, Newline, Skip}
 use Rattle.sixel_base.specs.History.{History, begun, longer, goes_on, read}

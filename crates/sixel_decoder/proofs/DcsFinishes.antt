@@ -25,6 +25,8 @@ use Rattle.sixel_decoder.specs.Session.{Session}
 use Rattle.sixel_decoder.proofs.Finality.{found_fault_ended, found_image_ended}
 use Rattle.sixel_decoder.proofs.Finality.{found_registers_ended}
 use Rattle.sixel_decoder.proofs.DcsPayloads.{found_reading}
+use Rattle.sixel_decoder.specs.FinishedImages.{found_followed}
+use Rattle.sixel_decoder.specs.Reception.{OfString}
 
 has_come-ended : (o : Option ℕ) (rest : List ℕ)
     → has_ended (payload_status_by o rest) ≡ has_come (ended_by o rest)
@@ -157,3 +159,19 @@ string_decoded (Ok picture) image_of reader decoder ended bytes more is over sou
           (sym at) (defined ∙ ap (λ (o : Origin). payload_registers o reader.bytes) is.start)),
     )
 string_decoded (Err e) image_of reader decoder ended bytes more is over sound image defined = tt
+
+-- and without that end what is decoded at once is the same image
+pub string_followed : (result : Result DecodedPayload SixelError)
+    (image_of : DecodedPayload → Image) (decoder : DecoderState) (bytes more : List ℕ)
+    → (has_ended (dcs_status bytes) ≡ true → IfOk result (λ picture.
+    IsDecodedAs decoder (found (bytes ++ more)) (image_of picture) picture.registers))
+    → OnOk result (found_fault decoder.pixel_limit (found bytes) ≡ None)
+    → IfOk result (λ picture. IsFoundImage decoder (found bytes) (image_of picture))
+    → IfOk result (λ picture. AreFoundRegisters decoder (found bytes) picture.registers)
+    → IfOk result (λ picture. IsDecodedAs decoder (found_followed OfString bytes more)
+    (image_of picture) picture.registers)
+string_followed (Ok picture) image_of decoder bytes more over faultless image registers =
+    (elim (has_ended (dcs_status bytes)) as (λ t. has_ended (dcs_status bytes) ≡ t
+    → IsDecodedAs decoder (found (if t then bytes ++ more else bytes)) (image_of picture)
+    picture.registers) [ true ↦ over | false ↦ λ on. (faultless, image, registers) ]) refl
+string_followed (Err e) image_of decoder bytes more over faultless image registers = tt

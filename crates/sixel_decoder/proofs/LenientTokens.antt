@@ -2,7 +2,7 @@
 use Rattle.std.proofs.Common.{◌≡◌, ℕ, ◌-◌, ◌<◌, ◌≤◌, Bool, true, false, cond, List, [], ◌∷◌, refl}
 use Rattle.std.proofs.Common.{ap, sym, ◌∙◌, subst, length, take, get_or, Option, Some, None, Result}
 use Rattle.std.proofs.Common.{Ok, Err, arith}
-use Rattle.std.specs.Prelude.{IfErr, fold, is_none, min, ◌+◌, ◌&&◌}
+use Rattle.std.specs.Prelude.{IfErr, fold, is_none, min, ◌+◌}
 use Rattle.sixel_base.specs.declared.error.SixelError.{SixelError}
 use Rattle.sixel_base.specs.declared.error.SixelError.TheVariants.{InvalidDimensions}
 use Rattle.sixel_base.specs.declared.error.SixelError.TheVariants.{BufferSizeMismatch, InvalidData}

@@ -3,6 +3,7 @@ pub mod RowExtents
 pub mod RunCosts
 pub mod BandCosts
 pub mod ParserSteps
+pub mod PayloadFaults
 pub mod OpenCommands
 pub mod ChunkReads
 pub mod ChunkPlaces
@@ -20,6 +21,7 @@ pub mod DcsChunks
 pub mod DcsPayloads
 pub mod Finality
 pub mod FinalRows
+pub mod FinishedImages
 pub mod Sessions
 pub mod DcsFinishes
 pub mod Feeds

@@ -46,7 +46,7 @@ use Rattle.sixel_decoder.proofs.Finality.{count_ended, settled_ended, status_end
 use Rattle.sixel_decoder.proofs.Finality.{growths_stay, dcs_count_ended, dcs_fault_ended}
 use Rattle.sixel_decoder.proofs.Finality.{dcs_growths_ended, dcs_fault_stays, dcs_growths_stay}
 use Rattle.sixel_decoder.proofs.Terminators.{drop-count, escape_waits, failing_stays}
-use Rattle.sixel_decoder.proofs.ChunkPlaces.{payload_refused}
+use Rattle.sixel_decoder.proofs.PayloadFaults.{payload_refused}
 use Rattle.sixel_decoder.proofs.ParserSteps.{Faults-along}
 use Rattle.sixel_decoder.proofs.DcsEnds.{count-fits, count_open, count_at, status_at}
 

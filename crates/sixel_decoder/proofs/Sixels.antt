@@ -15,7 +15,7 @@ use Rattle.sixel_canvas.specs.declared.drawing.Canvas.{Ghosts}
 use Rattle.sixel_decoder.specs.declared.painter.Painter.{Painter}
 use Rattle.sixel_decoder.specs.inside.Painter.{Shows, IsExtended}
 use Rattle.sixel_decoder.specs.inside.Sizes.{IsTooLarge}
-use Rattle.sixel_decoder.proofs.ChunkPlaces.{or_right}
+use Rattle.sixel_decoder.proofs.PayloadFaults.{or_right}
 use Rattle.sixel_decoder.proofs.FoundPayloads.{Faults-named}
 
 -- a side above a million

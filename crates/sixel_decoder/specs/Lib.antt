@@ -1,10 +1,13 @@
 pub mod DcsCalls
 pub mod FinalRows
+pub mod FinishedImages
 pub mod ImageEnds
 pub mod OneShotCalls
 pub mod Paints
 pub mod PayloadCalls
 pub mod PictureView
+pub mod Progress
+pub mod Reception
 pub mod Report
 pub mod Session
 pub mod inside

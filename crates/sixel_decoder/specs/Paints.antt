@@ -9,7 +9,7 @@ use Rattle.sixel_base.specs.History.{Sixel, History}
 use Rattle.sixel_base.specs.Limits.{Limit}
 use Rattle.sixel_base.specs.Payload.{settled, settled_tokens}
 use Rattle.sixel_base.specs.Place.{across, down, span}
-use Rattle.sixel_base.specs.Dcs.{Stage, Heading, Failing, Reading, stage}
+use Rattle.sixel_base.specs.Dcs.{Stage, Heading, Failing, Reading}
 
 -- how many of the tokens are sixels
 abbrev pub sixels : History → ℕ
@@ -93,17 +93,11 @@ stage_sixels Heading = 0
 stage_sixels (Failing fault) = 0
 stage_sixels (Reading settings payload) = sixels (settled payload)
 
-abbrev pub dcs_sixels : List ℕ → ℕ
-dcs_sixels bytes = stage_sixels (stage bytes)
-
 -- what these are counted as at least
 abbrev pub stage_least_count : Limit → Stage → ℕ
 stage_least_count limit Heading = 0
 stage_least_count limit (Failing fault) = 0
 stage_least_count limit (Reading settings payload) = payload_least_count limit payload
-
-abbrev pub dcs_least_count : Limit → List ℕ → ℕ
-dcs_least_count limit bytes = stage_least_count limit (stage bytes)
 
 -- the columns of its bands
 abbrev pub stage_band_columns : Limit → Stage → ℕ
@@ -111,14 +105,8 @@ stage_band_columns limit Heading = 0
 stage_band_columns limit (Failing fault) = 0
 stage_band_columns limit (Reading settings payload) = payload_band_columns limit payload
 
-abbrev pub dcs_band_columns : Limit → List ℕ → ℕ
-dcs_band_columns limit bytes = stage_band_columns limit (stage bytes)
-
 -- the capacity beside its image
 abbrev pub stage_band_room : Limit → Stage → ℕ
 stage_band_room limit Heading = 0
 stage_band_room limit (Failing fault) = 0
 stage_band_room limit (Reading settings payload) = payload_band_room limit payload
-
-abbrev pub dcs_band_room : Limit → List ℕ → ℕ
-dcs_band_room limit bytes = stage_band_room limit (stage bytes)

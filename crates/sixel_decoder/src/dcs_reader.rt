@@ -2,29 +2,24 @@
 //!
 //! The contracts of its calls are the records of `DcsCalls`.
 
-ghost use Rattle.std.specs.Prelude.{◌≡◌, ◌∷◌, [], true, false, min, IsTrue, IfOk};
-ghost use Rattle.sixel_base.specs.Dcs.{dcs_in_payload, dcs_status, has_ended};
-ghost use Rattle.sixel_base.specs.OneShot.{found};
+ghost use Rattle.std.specs.Prelude.{◌≡◌, ◌≤◌, ◌<◌, ◌∷◌, [], true, false, max, None, IsTrue, IfSome};
+ghost use Rattle.sixel_base.specs.Dcs.{dcs_status, has_ended};
 ghost use Rattle.sixel_decoder.specs.ImageEnds.{IsEnd};
-ghost use Rattle.sixel_decoder.specs.FinalRows.{found_pixel};
-ghost use Rattle.sixel_decoder.specs.DcsCalls.{begun, byte_read, IsFed, IsFinished, IsSizeSoFar};
-ghost use Rattle.sixel_decoder.specs.DcsCalls.{IsDrawnHeight, IsWriteCount, IsPaintCount};
-ghost use Rattle.sixel_decoder.specs.DcsCalls.{IsBandPaintCount, IsBandWriteCount};
-ghost use Rattle.sixel_decoder.specs.PictureView.{picture_report, whole_image};
-ghost use Rattle.sixel_decoder.specs.Report.{found_report};
-
-mod final_rows;
+ghost use Rattle.sixel_decoder.specs.FinalRows.{dcs_final_rows};
+ghost use Rattle.sixel_decoder.specs.FinishedImages.{IsTaken};
+ghost use Rattle.sixel_decoder.specs.DcsCalls.{begun, byte_read, IsFed};
+ghost use Rattle.sixel_decoder.specs.Reception.{of_sequence, HasNoPayload, IsPayloadOf};
 
 use crate::dcs_parser::{DcsParser, DcsState};
 use crate::decoded_payload::DecodedPayload;
 use crate::image_end::SequenceEnd;
 use crate::log::Log;
+use crate::payload_reader::PayloadReader;
 use sixel_base::state::DecoderState;
 use sixel_base::status::SixelDcsFeedResult;
 use sixel_base::{Result, SixelError};
 use sixel_canvas::band_canvas::BandCanvas;
 use sixel_canvas::drawing::Canvas;
-use sixel_canvas::row_canvas::RowCanvas;
 use std::alloc::Global;
 use std::marker::Model;
 
@@ -103,31 +98,15 @@ impl<C: Canvas + Drop> DcsReader<C> {
         }
     }
 
-    /// Whether the payload has begun and no feed has failed.
-    pub fn in_payload(&self) -> bool
-        ensures accepted { self.now.is_refused ≡ false → result ≡ dcs_in_payload self.now.bytes }
-        ensures refused { self.now.is_refused ≡ true → result ≡ false }
-    {
-        matches!(self.parser.state, DcsState::Payload(_))
-    }
-
-    /// Returns the width and the height of the image so far, unless a feed has failed.
-    pub fn size_so_far(&self) -> Option<(usize, usize)>
-        ensures { IsSizeSoFar self.now result }
+    /// Lends the reader of the payload, once it has begun and unless a feed has failed.
+    pub fn payload(&self) -> Option<&PayloadReader<C>>
+        ensures lent { IfSome result (λ reader.
+            IsPayloadOf reader.now (of_sequence self.now)) }
+        ensures none { result ≡ None → HasNoPayload (of_sequence self.now) }
     {
         match &self.parser.state {
-            DcsState::Payload(reader) => reader.size_so_far(),
+            DcsState::Payload(reader) => Some(reader),
             _ => None,
-        }
-    }
-
-    /// Returns the last row with a set pixel, plus one, or 0 if there is none.
-    pub fn drawn_height(&self) -> usize
-        ensures { IsDrawnHeight self.now result }
-    {
-        match &self.parser.state {
-            DcsState::Payload(reader) => reader.drawn_height(),
-            _ => 0,
         }
     }
 
@@ -147,12 +126,7 @@ impl<C: Canvas + Drop> DcsReader<C> {
     ///
     /// The DCS sequence has ended, or is lenient.
     pub fn finish(self) -> Result<DecodedPayload>
-        ensures finished { IsFinished (whole_image (found_pixel self.decoder (found self.bytes)))
-            (λ picture. picture.registers) self result }
-        ensures first { IfOk result (λ picture.
-            picture.first_row ≡ min self.released picture.height) }
-        ensures report { IfOk result (λ picture.
-            picture_report picture ≡ found_report self.decoder (found self.bytes)) }
+        ensures { IsTaken (of_sequence self) result }
     {
         let DcsReader { parser, .. } = self;
         let can_finish = parser.can_finish();
@@ -173,56 +147,16 @@ impl<C: Canvas + Drop> DcsReader<C> {
     }
 }
 
-impl DcsReader<RowCanvas> {
-    /// States that no row of its canvas is released.
-    pub fn stores_all_rows(&self)
-        ensures { self.now.released ≡ 0 }
-    {
-        match &self.parser.state {
-            DcsState::Payload(reader) => reader.stores_all_rows(),
-            _ => {}
-        }
-    }
-
-    /// Returns how many pixels were copied or filled to grow the canvas of the payload.
-    pub fn writes(&self) -> u64
-        ensures { IsWriteCount self.now result }
-    {
-        match &self.parser.state {
-            DcsState::Payload(reader) => reader.writes(),
-            _ => 0,
-        }
-    }
-
-    /// Returns how many pixels sixels of the payload have painted at most.
-    pub fn paints(&self) -> u64
-        ensures { IsPaintCount self.now result }
-    {
-        let DcsState::Payload(reader) = &self.parser.state else {
-            return 0;
-        };
-        reader.paints()
-    }
-}
-
 impl DcsReader<BandCanvas> {
-    /// Returns how many pixels were written as the rows of the payload's canvas became wider.
-    pub fn writes(&self) -> u64
-        ensures { IsBandWriteCount self.now result }
+    /// Releases the rows above row `rows`, which are final.
+    pub fn release_rows(&mut self, rows: usize)
+        requires above { rows ≤ dcs_final_rows self.old.decoder.pixel_limit self.old.bytes }
+        requires accepted { 0 < rows → self.old.is_refused ≡ false }
+        ensures { self.new ≡ record self.old { released = max self.old.released rows } }
     {
-        let DcsState::Payload(reader) = &self.parser.state else {
-            return 0;
+        let DcsState::Payload(reader) = &mut self.parser.state else {
+            return;
         };
-        reader.writes()
-    }
-
-    /// Returns how many columns and tags sixels of the payload have painted at most.
-    pub fn paints(&self) -> u64
-        ensures { IsBandPaintCount self.now result }
-    {
-        let DcsState::Payload(reader) = &self.parser.state else {
-            return 0;
-        };
-        reader.paints()
+        reader.release_rows(rows);
     }
 }

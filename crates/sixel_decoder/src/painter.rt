@@ -18,7 +18,7 @@ ghost use Rattle.sixel_decoder.specs.inside.Runs.{IsSixelByte};
 ghost use Rattle.sixel_decoder.specs.inside.Ready.{IsReady};
 ghost use Rattle.sixel_decoder.specs.inside.Sizes.{IsTooLarge};
 
-mod final_rows;
+mod ready;
 
 use crate::colors::{background, define, opaque};
 use crate::decoded_payload::DecodedPayload;
@@ -225,45 +225,6 @@ impl<C: Canvas + Drop> Painter<C> {
             }
             Err(error) => Err(error),
         }
-    }
-
-    /// Finds the columns in which drawing a sixel cannot fail, near the end of a chunk.
-    ///
-    /// If eight bytes or more are left, it finds none, because sixels are drawn eight at once.
-    #[inline(always)]
-    fn find_ready(&mut self, left: usize)
-        ensures shows { (o : Origin) (h : History) → Shows o self.old h → Shows o self.new h }
-        ensures released { C.released self.new.canvas ≡ C.released self.old.canvas }
-    {
-        self.ready = if left < 8 && self.is_single_above_bottom() {
-            self.clipped_width.min(self.canvas.held())
-        } else {
-            0
-        };
-    }
-
-    /// Whether the next sixel fits in one column for which the canvas has memory.
-    ///
-    /// That column lies inside the clipped image, so drawing the sixel cannot fail.
-    #[inline(always)]
-    pub fn fits_column(&self) -> bool
-        ensures { IsTrue result → FitsColumn self.now }
-    {
-        self.column < self.ready
-    }
-
-    /// Draws a sixel that fits in such a column.
-    #[inline(always)]
-    pub fn draw_column(&mut self, bits: u8)
-        requires fits { FitsColumn self.old }
-        requires six { bits < 64 }
-        ensures shows { (o : Origin) (h : History) → Shows o self.old h
-            → Shows o self.new (Sixel bits ∷ h) }
-        ensures released { C.released self.new.canvas ≡ C.released self.old.canvas }
-    {
-        self.canvas.column(self.column, bits, self.color);
-        self.drawn.add(bits);
-        self.column += 1;
     }
 
     /// Sets how many columns the next sixel has, where 0 means 1.

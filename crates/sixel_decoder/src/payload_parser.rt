@@ -4,7 +4,7 @@
 //! terminator, or by the end. So a chunk may end within a command.
 
 ghost use Rattle.std.specs.Prelude.{◌≡◌, ◌<◌, ◌≤◌, ◌+◌, ◌∷◌, ℕ, true, false, []};
-ghost use Rattle.std.specs.Prelude.{length, min, slice_index, fold, take, IfOk};
+ghost use Rattle.std.specs.Prelude.{length, max, min, slice_index, fold, take, IfOk};
 ghost use Rattle.std.specs.Prelude.{IsTrue, OnOk, ◌⊎◌, Bool, if◌then◌else◌};
 ghost use Rattle.sixel_canvas.specs.inside.Drawn.{no_work};
 ghost use Rattle.sixel_base.specs.Bytes.{is_sixel as sixel};
@@ -18,8 +18,6 @@ ghost use Rattle.sixel_decoder.specs.declared.payload_parser.OpenCommand.TheVari
 ghost use Rattle.sixel_decoder.specs.declared.payload_parser.OpenCommand.TheVariants.{InRepeat};
 ghost use Rattle.sixel_decoder.specs.declared.payload_parser.OpenCommand.TheVariants.{InColor};
 
-mod final_rows;
-
 use crate::bytes::{is_ignored, is_numbered, is_parameter, is_sixel, is_terminator, tail};
 use crate::decoded_payload::DecodedPayload;
 use crate::painter::Painter;
@@ -28,6 +26,7 @@ use sixel_base::parameters::{Digits, KEPT_FIELDS, Parameters};
 use sixel_base::settings::DcsSettings;
 use sixel_base::state::DecoderState;
 use sixel_base::status::{SixelFeedResult, SixelFeedStatus};
+use sixel_canvas::band_canvas::BandCanvas;
 use sixel_canvas::drawing::Canvas;
 use std::alloc::Global;
 
@@ -352,5 +351,22 @@ impl<C: Canvas + Drop> PayloadParser<C> {
             Ok(()) => self.painter.take_image(self.ignored),
             Err(error) => Err(error),
         }
+    }
+}
+
+impl PayloadParser<BandCanvas> {
+    ghost use Rattle.sixel_decoder.specs.inside.PayloadParser.{StandsAfter};
+
+    /// Releases the rows above row `rows`, which are final.
+    pub fn release_rows(&mut self, rows: usize)
+        requires above { rows ≤ self.old.painter.canvas.top }
+        ensures stands { (o : Origin) (h : History) (ended : Bool)
+            → StandsAfter ended o self.old h → StandsAfter ended o self.new h }
+        ensures released { self.new.painter.canvas.released
+            ≡ max self.old.painter.canvas.released rows }
+        ensures band { self.new.painter.canvas.band ≡ self.old.painter.canvas.band }
+        ensures writes { self.new.painter.canvas.rows.moved ≡ self.old.painter.canvas.rows.moved }
+    {
+        self.painter.release_rows(rows);
     }
 }

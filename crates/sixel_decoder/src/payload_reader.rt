@@ -2,31 +2,33 @@
 //!
 //! The contracts of its calls are the records of `PayloadCalls`.
 
-ghost use Rattle.std.specs.Prelude.{◌≡◌, ◌∷◌, [], true, false, min, IsTrue, IfOk};
+ghost use Rattle.std.specs.Prelude.{◌≡◌, ◌≤◌, ◌<◌, ◌+◌, ◌∷◌, [], true, false, length, max, min};
+ghost use Rattle.std.specs.Prelude.{None, IsTrue, IfSome};
 ghost use Rattle.sixel_base.specs.Bytes.{first_terminator, is_terminated};
+ghost use Rattle.sixel_base.specs.Clip.{clipped_pixel};
 ghost use Rattle.sixel_base.specs.Decoder.{origin_of};
-ghost use Rattle.sixel_base.specs.OneShot.{Payload};
-ghost use Rattle.sixel_decoder.specs.FinalRows.{found_pixel};
-ghost use Rattle.sixel_decoder.specs.PayloadCalls.{begun, byte_read, IsFed, IsFinished};
-ghost use Rattle.sixel_decoder.specs.PayloadCalls.{IsSizeSoFar, IsDrawnHeight};
-ghost use Rattle.sixel_decoder.specs.PayloadCalls.{IsWriteCount, IsPaintCount, IsBandPaintCount};
-ghost use Rattle.sixel_decoder.specs.PayloadCalls.{IsBandWriteCount};
-ghost use Rattle.sixel_decoder.specs.PictureView.{picture_report, whole_image};
-ghost use Rattle.sixel_decoder.specs.Report.{payload_report};
-ghost use Rattle.sixel_decoder.specs.Session.{decoder_of};
+ghost use Rattle.sixel_base.specs.Payload.{tokens};
+ghost use Rattle.sixel_canvas.specs.Layout.{AreCopied, AreRowsIn};
+ghost use Rattle.sixel_decoder.specs.FinalRows.{payload_final_rows, row_count};
+ghost use Rattle.sixel_decoder.specs.FinishedImages.{IsTaken};
+ghost use Rattle.sixel_decoder.specs.PayloadCalls.{begun, byte_read, IsFed};
+ghost use Rattle.sixel_decoder.specs.Progress.{IsBandPaintCount, IsBandWriteCount, IsDrawnHeight};
+ghost use Rattle.sixel_decoder.specs.Progress.{IsPaintCount, IsSizeSoFar, IsWriteCount};
+ghost use Rattle.sixel_decoder.specs.Reception.{of_payload};
+ghost use Rattle.sixel_decoder.specs.inside.PayloadReader.{IsLost, IsPainterOf};
 ghost use Rattle.sixel_decoder.specs.declared.payload_reader.PayloadState.TheVariants.{Failed};
-
-mod final_rows;
 
 use crate::decoded_payload::DecodedPayload;
 use crate::image_end::payload_end;
 use crate::log::Log;
+use crate::painter::Painter;
 use crate::payload_parser::PayloadParser;
 use sixel_base::settings::DcsSettings;
 use sixel_base::state::DecoderState;
 use sixel_base::status::{SixelFeedResult, SixelFeedStatus};
 use sixel_base::{Result, SixelError};
 use sixel_canvas::band_canvas::BandCanvas;
+use sixel_canvas::channels::RowLayout;
 use sixel_canvas::drawing::Canvas;
 use sixel_canvas::row_canvas::RowCanvas;
 use std::alloc::Global;
@@ -140,25 +142,31 @@ impl<C: Canvas + Drop> PayloadReader<C> {
 
     /// Returns the width and the height of the image so far, unless a feed has failed.
     pub fn size_so_far(&self) -> Option<(usize, usize)>
-        ensures { IsSizeSoFar self.now result }
+        ensures { IsSizeSoFar (of_payload self.now) result }
     {
-        match &self.state {
-            PayloadState::Reading(parser) => Some((
-                parser.painter.clipped_width,
-                parser.painter.clipped_height,
-            )),
-            PayloadState::Failed => None,
-        }
+        let painter = self.painter()?;
+        Some((painter.clipped_width, painter.clipped_height))
     }
 
     /// Returns the last row with a set pixel, plus one, or 0 if there is none.
     pub fn drawn_height(&self) -> usize
-        ensures { IsDrawnHeight self.now result }
+        ensures { IsDrawnHeight (of_payload self.now) result }
     {
-        match &self.state {
-            PayloadState::Reading(parser) => parser.painter.drawn_height(),
-            PayloadState::Failed => 0,
-        }
+        let Some(painter) = self.painter() else {
+            return 0;
+        };
+        painter.drawn_height()
+    }
+
+    /// Returns how many rows from the top are final, and 0 after a failed feed.
+    pub fn rows_so_far(&self) -> usize
+        ensures { result ≡ row_count self.now.is_refused
+            (payload_final_rows self.now.origin.pixel_limit self.now.bytes) }
+    {
+        let Some(painter) = self.painter() else {
+            return 0;
+        };
+        painter.canvas.top().min(painter.clipped_height)
     }
 
     /// Returns the terminator that was fed, also after an error.
@@ -181,19 +189,23 @@ impl<C: Canvas + Drop> PayloadReader<C> {
 
     /// Returns the rows of the image that are left, and the registers after it.
     pub fn finish(self) -> Result<DecodedPayload>
-        ensures finished { IsFinished
-            (whole_image (found_pixel (decoder_of self.origin)
-            (Payload self.origin.settings self.bytes)))
-            (λ picture. picture.registers) self result }
-        ensures first { IfOk result (λ picture.
-            picture.first_row ≡ min self.released picture.height) }
-        ensures report { IfOk result (λ picture.
-            picture_report picture ≡ payload_report self.origin self.bytes) }
+        ensures { IsTaken (of_payload self) result }
     {
         let PayloadReader { state, .. } = self;
         match state {
             PayloadState::Reading(parser) => parser.finish(),
             PayloadState::Failed => Err(SixelError::stream_failed()),
+        }
+    }
+
+    /// Lends the painter, unless a feed has failed.
+    fn painter(&self) -> Option<&Painter<C>>
+        ensures lent { IfSome result (λ painter. IsPainterOf painter.now self.now) }
+        ensures lost { result ≡ None → IsLost self.now }
+    {
+        match &self.state {
+            PayloadState::Reading(parser) => Some(&parser.painter),
+            PayloadState::Failed => None,
         }
     }
 }
@@ -211,43 +223,83 @@ impl PayloadReader<RowCanvas> {
 
     /// Returns how many pixels were copied or filled to grow the canvas.
     pub fn writes(&self) -> u64
-        ensures { IsWriteCount self.now result }
+        ensures { IsWriteCount (of_payload self.now) result }
     {
-        match &self.state {
-            PayloadState::Reading(parser) => parser.painter.canvas.writes(),
-            PayloadState::Failed => 0,
-        }
+        let Some(painter) = self.painter() else {
+            return 0;
+        };
+        painter.canvas.writes()
     }
 
     /// Returns how many pixels sixels have painted at most.
     pub fn paints(&self) -> u64
-        ensures { IsPaintCount self.now result }
+        ensures { IsPaintCount (of_payload self.now) result }
     {
-        let PayloadState::Reading(parser) = &self.state else {
+        let Some(painter) = self.painter() else {
             return 0;
         };
-        parser.painter.canvas.paints()
+        painter.canvas.paints()
     }
 }
 
 impl PayloadReader<BandCanvas> {
     /// Returns how many pixels were written as the rows of the canvas became wider.
     pub fn writes(&self) -> u64
-        ensures { IsBandWriteCount self.now result }
+        ensures { IsBandWriteCount (of_payload self.now) result }
     {
-        let PayloadState::Reading(parser) = &self.state else {
+        let Some(painter) = self.painter() else {
             return 0;
         };
-        parser.painter.canvas.writes()
+        painter.canvas.writes()
     }
 
     /// Returns how many columns and tags sixels have painted at most.
     pub fn paints(&self) -> u64
-        ensures { IsBandPaintCount self.now result }
+        ensures { IsBandPaintCount (of_payload self.now) result }
     {
-        let PayloadState::Reading(parser) = &self.state else {
+        let Some(painter) = self.painter() else {
             return 0;
         };
-        parser.painter.canvas.paints()
+        painter.canvas.paints()
+    }
+
+    /// Copies final rows to a caller's memory.
+    pub fn copy_rows(&self, first: usize, rows: usize, layout: RowLayout, out: &mut [u8])
+        requires stored { self.now.released ≤ first }
+        requires above { first + rows
+            ≤ payload_final_rows self.now.origin.pixel_limit self.now.bytes }
+        requires accepted { 0 < rows → self.now.is_refused ≡ false }
+        requires fits { AreRowsIn layout rows (length out.old) }
+        ensures len { length out.new ≡ length out.old }
+        ensures copied { AreCopied
+            (clipped_pixel self.now.origin (tokens self.now.origin.pixel_limit self.now.bytes))
+            first rows layout out.old out.new }
+    {
+        let Some(painter) = self.painter() else {
+            return;
+        };
+        painter.canvas.copy_rows(first, rows, layout, out);
+    }
+
+    /// Returns how many rows from the top are released.
+    pub fn released_rows(&self) -> usize
+        ensures { result ≡ self.now.released }
+    {
+        let Some(painter) = self.painter() else {
+            return 0;
+        };
+        painter.canvas.released()
+    }
+
+    /// Releases the rows above row `rows`, which are final.
+    pub fn release_rows(&mut self, rows: usize)
+        requires above { rows ≤ payload_final_rows self.old.origin.pixel_limit self.old.bytes }
+        requires accepted { 0 < rows → self.old.is_refused ≡ false }
+        ensures { self.new ≡ record self.old { released = max self.old.released rows } }
+    {
+        let PayloadState::Reading(parser) = &mut self.state else {
+            return;
+        };
+        parser.release_rows(rows);
     }
 }

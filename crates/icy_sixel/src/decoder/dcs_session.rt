@@ -5,8 +5,11 @@
 ghost use Rattle.std.specs.Prelude.{◌≡◌, ◌*◌, true, false, OnErr, IfOk, length};
 ghost use Rattle.sixel_base.specs.Dcs.{dcs_in_payload};
 ghost use Rattle.sixel_base.specs.Decoder.{IsSetAs};
-ghost use Rattle.sixel_decoder.specs.DcsCalls.{begun, IsFed, IsFinished, IsSizeSoFar};
-ghost use Rattle.sixel_decoder.specs.DcsCalls.{IsDrawnHeight, IsWriteCount, IsPaintCount};
+ghost use Rattle.sixel_decoder.specs.DcsCalls.{begun, IsFed};
+ghost use Rattle.sixel_decoder.specs.FinishedImages.{IsFinished};
+ghost use Rattle.sixel_decoder.specs.Progress.{IsDrawnHeight, IsPaintCount, IsSizeSoFar};
+ghost use Rattle.sixel_decoder.specs.Progress.{IsWriteCount};
+ghost use Rattle.sixel_decoder.specs.Reception.{of_sequence};
 ghost use Rattle.icy_sixel.specs.ImageView.{image_value};
 
 use crate::decoder::{SixelDcsFeedResult, SixelDecoder};
@@ -79,9 +82,12 @@ impl<'a> SixelDcsStreamDecoder<'a> {
     /// The bounds are those of a payload session, by
     /// [`canvas_writes`](crate::SixelStreamDecoder::canvas_writes).
     pub fn canvas_writes(&self) -> u64
-        ensures { IsWriteCount (sequence self.now) result }
+        ensures { IsWriteCount (of_sequence (sequence self.now)) result }
     {
-        self.reader.writes()
+        let Some(payload) = self.reader.payload() else {
+            return 0;
+        };
+        payload.writes()
     }
 
     /// Returns an upper bound of the pixels that sixels of the payload have painted.
@@ -91,9 +97,12 @@ impl<'a> SixelDcsStreamDecoder<'a> {
     /// The bounds are those of a payload session, by
     /// [`canvas_paints`](crate::SixelStreamDecoder::canvas_paints).
     pub fn canvas_paints(&self) -> u64
-        ensures { IsPaintCount (sequence self.now) result }
+        ensures { IsPaintCount (of_sequence (sequence self.now)) result }
     {
-        self.reader.paints()
+        let Some(payload) = self.reader.payload() else {
+            return 0;
+        };
+        payload.paints()
     }
 
     /// Whether the payload has begun and no feed has failed.
@@ -105,7 +114,7 @@ impl<'a> SixelDcsStreamDecoder<'a> {
             → result ≡ dcs_in_payload (sequence self.now).bytes }
         ensures refused { (sequence self.now).is_refused ≡ true → result ≡ false }
     {
-        self.reader.in_payload()
+        self.size_so_far().is_some()
     }
 
     /// Returns the width and the height of the image so far, as a payload session does.
@@ -113,9 +122,9 @@ impl<'a> SixelDcsStreamDecoder<'a> {
     /// See [`size_so_far`](crate::SixelStreamDecoder::size_so_far). It is `None` before the payload
     /// and after an error. The call does not allocate.
     pub fn size_so_far(&self) -> Option<(usize, usize)>
-        ensures { IsSizeSoFar (sequence self.now) result }
+        ensures { IsSizeSoFar (of_sequence (sequence self.now)) result }
     {
-        self.reader.size_so_far()
+        self.reader.payload()?.size_so_far()
     }
 
     /// Returns the last row with a set pixel, plus one, or 0 if there is none.
@@ -123,9 +132,12 @@ impl<'a> SixelDcsStreamDecoder<'a> {
     /// See [`drawn_height`](crate::SixelStreamDecoder::drawn_height). It is 0 before the payload
     /// and after an error. The call does not allocate.
     pub fn drawn_height(&self) -> usize
-        ensures { IsDrawnHeight (sequence self.now) result }
+        ensures { IsDrawnHeight (of_sequence (sequence self.now)) result }
     {
-        self.reader.drawn_height()
+        let Some(payload) = self.reader.payload() else {
+            return 0;
+        };
+        payload.drawn_height()
     }
 
     /// Returns the image of a sequence that has ended, and stores its registers.
@@ -137,14 +149,16 @@ impl<'a> SixelDcsStreamDecoder<'a> {
     /// is unchanged.
     pub fn finish(self) -> Result<SixelImage>
         ensures finished { IsFinished image_value (λ _. self.exit.0.now.registers)
-            (sequence self.entry) result }
+            (of_sequence (sequence self.entry)) result }
         ensures pixels { IfOk result (λ image.
             length image.pixels.items ≡ 4 * (image.width * image.height)) }
         ensures set { IsSetAs (sequence_owner self.entry).now self.exit.0.now }
         ensures kept { OnErr result (self.exit.0.now ≡ (sequence_owner self.entry).now) }
     {
         let SixelDcsStreamDecoder { owner, reader } = self;
-        reader.stores_all_rows();
+        if let Some(payload) = reader.payload() {
+            payload.stores_all_rows();
+        }
         let picture = reader.finish()?;
         owner.state.registers = picture.registers;
         Ok(SixelImage::from_picture(picture))

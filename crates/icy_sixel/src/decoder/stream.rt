@@ -5,8 +5,11 @@
 ghost use Rattle.std.specs.Prelude.{◌≡◌, ◌<◌, ◌+◌, ◌*◌, ◌≤◌, OnErr, IfOk, length};
 ghost use Rattle.sixel_base.specs.Decoder.{IsSetAs, origin_of};
 ghost use Rattle.sixel_base.specs.Payload.{payload_area};
-ghost use Rattle.sixel_decoder.specs.PayloadCalls.{begun, IsFed, IsFinished, IsSizeSoFar};
-ghost use Rattle.sixel_decoder.specs.PayloadCalls.{IsDrawnHeight, IsWriteCount, IsPaintCount};
+ghost use Rattle.sixel_decoder.specs.FinishedImages.{IsFinished};
+ghost use Rattle.sixel_decoder.specs.PayloadCalls.{begun, IsFed};
+ghost use Rattle.sixel_decoder.specs.Progress.{IsDrawnHeight, IsPaintCount, IsSizeSoFar};
+ghost use Rattle.sixel_decoder.specs.Progress.{IsWriteCount};
+ghost use Rattle.sixel_decoder.specs.Reception.{of_payload};
 ghost use Rattle.icy_sixel.specs.ImageView.{image_value};
 
 use crate::decoder::{DcsSettings, SixelDecoder, SixelFeedResult, SixelFeedStatus};
@@ -78,7 +81,7 @@ impl<'a> SixelStreamDecoder<'a> {
     /// the sum over all rows of the greatest right edge of a sixel that covers a pixel of the row.
     /// The rows together have capacity for at most twice that area.
     pub fn canvas_writes(&self) -> u64
-        ensures { IsWriteCount (payload self.now) result }
+        ensures { IsWriteCount (of_payload (payload self.now)) result }
     {
         self.reader.writes()
     }
@@ -93,7 +96,7 @@ impl<'a> SixelStreamDecoder<'a> {
     /// The number is at most three times the painted area of the closed sixels, and 4602 for each
     /// of them, which is two ends and 511 blocks in six rows. It saturates.
     pub fn canvas_paints(&self) -> u64
-        ensures { IsPaintCount (payload self.now) result }
+        ensures { IsPaintCount (of_payload (payload self.now)) result }
     {
         self.reader.paints()
     }
@@ -103,7 +106,7 @@ impl<'a> SixelStreamDecoder<'a> {
     /// They are those of the closed sixels and raster attributes, at least 1 each. The image of the
     /// whole payload is at least as large, unless it is cropped. The call does not allocate.
     pub fn size_so_far(&self) -> Option<(usize, usize)>
-        ensures { IsSizeSoFar (payload self.now) result }
+        ensures { IsSizeSoFar (of_payload (payload self.now)) result }
     {
         self.reader.size_so_far()
     }
@@ -116,7 +119,7 @@ impl<'a> SixelStreamDecoder<'a> {
     ///
     /// It is 0 after an error. The call does not allocate.
     pub fn drawn_height(&self) -> usize
-        ensures { IsDrawnHeight (payload self.now) result }
+        ensures { IsDrawnHeight (of_payload (payload self.now)) result }
     {
         self.reader.drawn_height()
     }
@@ -127,7 +130,7 @@ impl<'a> SixelStreamDecoder<'a> {
     /// the decoder is unchanged.
     pub fn finish(self) -> Result<SixelImage>
         ensures finished { IsFinished image_value (λ _. self.exit.0.now.registers)
-            (payload self.entry) result }
+            (of_payload (payload self.entry)) result }
         ensures pixels { IfOk result (λ image.
             length image.pixels.items ≡ 4 * (image.width * image.height)) }
         ensures set { IsSetAs (payload_owner self.entry).now self.exit.0.now }
@@ -146,7 +149,7 @@ impl<'a> SixelStreamDecoder<'a> {
     /// are packed. It is at most four times the number of pixels of the uncropped image.
     pub fn finish_counted(self) -> Result<(SixelImage, u64)>
         ensures finished { IsFinished (λ counted. image_value counted.0)
-            (λ _. self.exit.0.now.registers) (payload self.entry) result }
+            (λ _. self.exit.0.now.registers) (of_payload (payload self.entry)) result }
         ensures pixels { IfOk result (λ counted.
             length counted.0.pixels.items ≡ 4 * (counted.0.width * counted.0.height)) }
         ensures counted { IfOk result (λ counted. counted.1

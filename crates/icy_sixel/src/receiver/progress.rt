@@ -2,8 +2,8 @@
 
 ghost use Rattle.std.specs.Prelude.{◌≡◌, true, false};
 ghost use Rattle.icy_sixel.specs.Receiver.{in_payload, is_over};
-ghost use Rattle.icy_sixel.specs.ReceiverCalls.{IsDrawnHeight, IsPaintCount, IsSizeSoFar};
-ghost use Rattle.icy_sixel.specs.ReceiverCalls.{IsWriteCount};
+ghost use Rattle.icy_sixel.specs.ReceiverCalls.{IsBandPaintCount, IsBandWriteCount};
+ghost use Rattle.icy_sixel.specs.ReceiverCalls.{IsDrawnHeight, IsSizeSoFar};
 
 use crate::receiver::{Open, SixelReceiver};
 
@@ -19,13 +19,12 @@ impl SixelReceiver {
     ///
     /// It saturates, and is at most four times the pixels of the image so far, released or not.
     pub fn canvas_writes(&self) -> u64
-        ensures { IsWriteCount self.now.image result }
+        ensures { IsBandWriteCount self.now.image result }
     {
-        match &self.open {
-            Open::Nothing => 0,
-            Open::Payload(reader) => reader.writes(),
-            Open::ControlString(reader) => reader.writes(),
-        }
+        let Some(payload) = self.open.payload() else {
+            return 0;
+        };
+        payload.writes()
     }
 
     /// Returns how many columns and tags were painted so far.
@@ -41,13 +40,12 @@ impl SixelReceiver {
     /// Beside the image the canvas has capacity for six rows of at most twice the width and 16
     /// columns, whatever the height.
     pub fn canvas_paints(&self) -> u64
-        ensures { IsPaintCount self.now.image result }
+        ensures { IsBandPaintCount self.now.image result }
     {
-        match &self.open {
-            Open::Nothing => 0,
-            Open::Payload(reader) => reader.paints(),
-            Open::ControlString(reader) => reader.paints(),
-        }
+        let Some(payload) = self.open.payload() else {
+            return 0;
+        };
+        payload.paints()
     }
 
     /// Whether the payload of the open image has begun and no feed has failed.
@@ -59,11 +57,7 @@ impl SixelReceiver {
             → result ≡ in_payload self.now.image.form self.now.image.bytes }
         ensures refused { self.now.image.is_refused ≡ true → result ≡ false }
     {
-        match &self.open {
-            Open::Nothing => false,
-            Open::Payload(reader) => reader.size_so_far().is_some(),
-            Open::ControlString(reader) => reader.in_payload(),
-        }
+        self.size_so_far().is_some()
     }
 
     /// Returns the width and the height of the image so far, as a payload session does.
@@ -73,11 +67,7 @@ impl SixelReceiver {
     pub fn size_so_far(&self) -> Option<(usize, usize)>
         ensures { IsSizeSoFar self.now.image result }
     {
-        match &self.open {
-            Open::Nothing => None,
-            Open::Payload(reader) => reader.size_so_far(),
-            Open::ControlString(reader) => reader.size_so_far(),
-        }
+        self.open.payload()?.size_so_far()
     }
 
     /// Returns the last row with a set pixel, plus one, or 0 if there is none.
@@ -87,11 +77,10 @@ impl SixelReceiver {
     pub fn drawn_height(&self) -> usize
         ensures { IsDrawnHeight self.now.image result }
     {
-        match &self.open {
-            Open::Nothing => 0,
-            Open::Payload(reader) => reader.drawn_height(),
-            Open::ControlString(reader) => reader.drawn_height(),
-        }
+        let Some(payload) = self.open.payload() else {
+            return 0;
+        };
+        payload.drawn_height()
     }
 
     /// Whether the end of the open image was fed: the terminator of a payload or of a DCS sequence.

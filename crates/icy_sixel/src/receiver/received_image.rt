@@ -7,7 +7,7 @@ ghost use Rattle.sixel_canvas.specs.Layout.{in_order};
 ghost use Rattle.sixel_canvas.specs.inside.FinalRows.{pixel_at};
 ghost use Rattle.sixel_decoder.specs.PictureView.{picture_report, picture_value, whole_image};
 
-use crate::receiver::row_buffer::check_rows;
+use crate::receiver::rows::check_rows;
 use crate::sixel_image::{BackgroundMode, PixelAspectRatio, SixelImage};
 use sixel_base::{Result, SixelError};
 use sixel_canvas::channels::{ChannelOrder, RowLayout, reorder};

@@ -1,11 +1,11 @@
 -- What contracts see of a payload reader, and what its parser has read: the bytes so far, up to
 -- their first terminator. An invariant of this library's own: contracts speak of the bytes alone.
-use Rattle.std.specs.Prelude.{◌≡◌, ◌+◌, ◌++◌, nat_lt, List, ℕ, Option, Some, None, is_some, is_none}
-use Rattle.std.specs.Prelude.{Result, MatchResult}
+use Rattle.std.specs.Prelude.{◌≡◌, ◌+◌, ◌++◌, nat_lt, true, false, List, ℕ, Option, Some}
+use Rattle.std.specs.Prelude.{None, Result, MatchResult, is_some, is_none}
 use Rattle.sixel_base.specs.declared.error.SixelError.{SixelError}
 use Rattle.sixel_base.specs.Fault.{Faults}
 use Rattle.sixel_base.specs.Bytes.{front, count, first_terminator}
-use Rattle.sixel_base.specs.Payload.{fed_fault, settled, growths}
+use Rattle.sixel_base.specs.Payload.{fed_fault, settled, settled_tokens, growths}
 use Rattle.sixel_canvas.specs.declared.drawing.Canvas.{Ghosts}
 use Rattle.sixel_canvas.specs.inside.Drawn.{Work, no_work}
 use Rattle.sixel_base.specs.History.{history_of}
@@ -13,8 +13,10 @@ use Rattle.sixel_base.specs.Stroke.{Origin}
 use Rattle.sixel_base.specs.Decoder.{origin_of}
 use Rattle.sixel_base.specs.declared.status.SixelFeedResult.{SixelFeedResult}
 use Rattle.sixel_base.specs.Status.{status_of}
+use Rattle.sixel_decoder.specs.inside.Painter.{Shows}
 use Rattle.sixel_decoder.specs.inside.PayloadParser.{StandsAfter}
 use Rattle.sixel_decoder.specs.Session.{Session}
+use Rattle.sixel_decoder.specs.declared.painter.Painter.{Painter}
 use Rattle.sixel_decoder.specs.declared.payload_parser.PayloadParser.{PayloadParser}
 use Rattle.sixel_decoder.specs.declared.payload_reader.PayloadReader.TheInside.{Inside}
 use Rattle.sixel_decoder.specs.declared.payload_reader.PayloadState.{PayloadState}
@@ -59,6 +61,26 @@ HasRead (Some parser) origin terminator bytes =
 abbrev pub IsReading : {C : Type 0} {canvas : Ghosts C} → Inside C canvas → Type 0
 IsReading reader =
     HasRead (parser_of reader.state) (session_of reader).origin reader.terminator reader.log.bytes
+
+-- The painter of a session that was not rejected shows its closed tokens.
+pub record IsPainterOf {C : Type 0} {canvas : Ghosts C} (painter : Painter C canvas)
+    (session : Session) : Type 0 where
+  pub accepted : session.is_refused ≡ false
+  pub shows : Shows session.origin painter
+      (settled_tokens session.origin.pixel_limit session.bytes)
+  -- what its canvas has cost, and how many rows it has released
+  pub writes : (canvas.work painter.canvas).writes ≡ session.writes
+  pub room : (canvas.work painter.canvas).room ≡ session.room
+  pub paints : (canvas.work painter.canvas).paints ≡ session.paints
+  pub released : canvas.released painter.canvas ≡ session.released
+
+-- A session that was rejected has no painter.
+pub record IsLost (session : Session) : Type 0 where
+  pub refused : session.is_refused ≡ true
+  pub writes : session.writes ≡ 0
+  pub room : session.room ≡ 0
+  pub paints : session.paints ≡ 0
+  pub released : session.released ≡ 0
 
 -- The parser has read these bytes and the chunk after them, or all are rejected by their first
 -- fault.

@@ -14,7 +14,7 @@ returns-in_err-image-clause-refused c =
     let p = err_from_is_err_and c.from_residual-in_err-image.result
     c.from_residual-in_err-image.ensures.1 in
     let stored = s.released ∙ ap (λ i. i.released) c.begin_dcs.ensures.image in
-    let wrong = (c.in_err-image.ensures.finished stored).error in
+    let wrong = (c.in_err-image.ensures.finished stored).finished.error in
     rw (p.1, p.2) (refused_at_end _ c.args.receiver.now.decoder.pixel_limit
     c.feed_chunks.new.receiver.image.bytes c.args.bytes.now c.requires.some
     (rw c.begin_dcs.ensures.image at s.faultless) s.chunks.enough
@@ -33,7 +33,7 @@ finishes c =
     finishes_faultless c.args.receiver.now.decoder.pixel_limit
     c.feed_chunks.new.receiver.image.bytes
     (rw (s.form, s.start, c.begin_dcs.ensures.image) at
-    (c.in_ok-image.ensures.finished (stored c)).ended)
+    (c.in_ok-image.ensures.finished (stored c)).finished.ended)
 
 -- the bytes of the sequence that was fed are those of the sequence that all begin with
 same : (c : goal.In_ok-image)
@@ -56,14 +56,14 @@ pub returns-clause-image : goal.returns-clause-image
 returns-clause-image c =
     let s = c.in_ok-fed.ensures in
     let begins : Begins _ c.args.bytes.now = chunks_begin _ _ _ s.chunks in
-    let decoded = (c.in_ok-image.ensures.finished (stored c)).as_decoded begins.rest in
+    let decoded = (c.in_ok-image.ensures.finished (stored c)).finished.as_decoded begins.rest in
     (rw (s.start, c.begin_dcs.ensures.image, s.form, joined c begins) at decoded).1
 
 pub returns-clause-registers : goal.returns-clause-registers
 returns-clause-registers c =
     let s = c.in_ok-fed.ensures in
     let begins : Begins _ c.args.bytes.now = chunks_begin _ _ _ s.chunks in
-    let decoded = (c.in_ok-image.ensures.finished (stored c)).as_decoded begins.rest in
+    let decoded = (c.in_ok-image.ensures.finished (stored c)).finished.as_decoded begins.rest in
     let left = (rw (s.start, c.begin_dcs.ensures.image, s.form, joined c begins) at decoded).2 in
     search (rules, left)
 

@@ -1,4 +1,4 @@
-use Rattle.sixel_decoder.proofs.ChunkPlaces.{payload_refused, payload_ends}
+use Rattle.sixel_decoder.proofs.PayloadFaults.{payload_refused, payload_ends}
 use Rattle.sixel_decoder.proofs.one_shot.read_whole.Goals as goal
 
 pub returns-in-Ok-clause-decodes : goal.returns-in-Ok-clause-decodes

@@ -1,11 +1,16 @@
-use Rattle.std.proofs.Common.{◌≡◌, ◌+◌, false, refl, arith}
+use Rattle.std.proofs.Common.{◌≡◌, ◌+◌, ◌∙◌, false, ℕ, List, ap, sym, subst, refl, arith, rules}
 use Rattle.std.specs.Prelude.{nat_lt}
 use Rattle.std.proofs.lemmas.Bool.Decides.{nat_tests}
+use Rattle.sixel_base.specs.Clip.{clipped_pixel}
+use Rattle.sixel_base.specs.Payload.{tokens}
+use Rattle.sixel_base.specs.Stroke.{Origin}
+use Rattle.sixel_canvas.specs.Layout.{AreCopied}
+use Rattle.sixel_decoder.specs.FinalRows.{found_pixel}
+use Rattle.sixel_decoder.specs.Reception.{HasNoPayload, IsPayloadOf}
 use Rattle.icy_sixel.specs.FinalRows.{rows_so_far}
-use Rattle.icy_sixel.specs.Receiver.{Reception}
+use Rattle.icy_sixel.specs.Receiver.{Receiver, Reception}
 use Rattle.icy_sixel.proofs.receiver.SixelReceiver.copy_rows.Goals as goal
-use Rattle.icy_sixel.proofs.receiver.SixelReceiver.copy_rows.Goals.{in-Nothing, in-Payload}
-use Rattle.icy_sixel.proofs.receiver.SixelReceiver.copy_rows.Goals.{in-ControlString}
+use Rattle.icy_sixel.proofs.receiver.SixelReceiver.copy_rows.Goals.{in-Some, in_default}
 
 pub returns-clause-copied : goal.returns-clause-copied
 returns-clause-copied c =
@@ -14,18 +19,26 @@ returns-clause-copied c =
     grind (arith, nat_tests, c.are_final.ensures, c.if-not-are_final.false) in
     let kept : nat_lt c.args.first image.released ≡ false =
     grind (arith, nat_tests, c.released_rows.ensures, c.if-first-released_rows.false) in
+    let held = ap (λ (r : Receiver). r.image) c.self.view_is in
     record {
       verdict = rw (above, kept) c.in_ok-check_rows.ensures.verdict;
-      pixels = elim c.match-self.branch [
-        | in-Nothing w ↦
-            let none : rows_so_far image ≡ 0 = rw (← c.self.view_is, w.in-Nothing.is) refl in
+      pixels = elim c.match-payload.branch [
+        | in-Some w ↦
+            let payload = w.in-Some.payload.now in
+            let is = subst (IsPayloadOf payload) held w.in-Some.ensures.lent in
+            rw w.out-is
+            (subst (λ (shown : ℕ → ℕ → List ℕ). AreCopied shown c.args.first c.args.rows
+            c.args.layout c.args.out.now w.copy_rows.new.out)
+            (ap (λ (o : Origin). clipped_pixel o (tokens o.pixel_limit payload.bytes)) is.start
+            ∙ sym (ap (found_pixel image.start) is.drawn))
+            w.copy_rows.ensures.copied)
+        | in_default w ↦
+            let lost = subst HasNoPayload held (w.in_default.ensures.none refl) in
+            let none : rows_so_far image ≡ 0 = search (rules, lost.heading) in
             let no_row : c.args.rows ≡ 0 = grind (arith, nat_tests, above, none) in
             λ row byte inside.
             let past : nat_lt row c.args.rows ≡ false = grind (arith, nat_tests, no_row) in
             rw (w.out-is, past) refl
-        | in-Payload w ↦ rw (← c.self.view_is, w.in-Payload.is, w.out-is) w.copy_rows.ensures.copied
-        | in-ControlString w ↦ rw (← c.self.view_is, w.in-ControlString.is, w.out-is)
-            w.copy_rows-in-ControlString.ensures.copied
       ];
       untouched = tt;
     }

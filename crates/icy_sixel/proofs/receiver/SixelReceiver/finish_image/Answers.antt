@@ -1,11 +1,11 @@
-use Rattle.std.proofs.Common.{◌≡◌, ℕ, List, refl, subst, arith}
-use Rattle.sixel_base.specs.OneShot.{IsDecodedAs, IsFoundImage}
-use Rattle.sixel_base.specs.Payload.{Image}
+use Rattle.std.proofs.Common.{◌≡◌, ℕ, List, refl, arith}
 use Rattle.sixel_base.specs.Picture.{joined, picture}
+use Rattle.sixel_decoder.proofs.FinishedImages.{finished_as}
 use Rattle.icy_sixel.specs.FinalRows.{pixel_so_far}
 use Rattle.icy_sixel.specs.ImageView.{image_value}
 use Rattle.icy_sixel.specs.ReceivedImages.{left_image, whole_value}
-use Rattle.icy_sixel.specs.Receiver.{Reception, found, found_followed}
+use Rattle.icy_sixel.specs.ReceiverCalls.{whole_of}
+use Rattle.icy_sixel.specs.Receiver.{Reception}
 use Rattle.icy_sixel.specs.declared.receiver.received_image.ReceivedImage.{ReceivedImage}
 use Rattle.icy_sixel.proofs.receiver.SixelReceiver.finish_image.Goals as goal
 
@@ -25,20 +25,9 @@ returns-in-Ok-clause-finished c = λ stored.
     whole_received (pixel_so_far open_image.start open_image.form open_image.bytes) done none in
     rw (c.into_image.ensures.whole none) (record {
       closed = is.closed;
-      image =
-          subst (λ (i : Image).
-          IsFoundImage open_image.start (found open_image.form open_image.bytes) i) same is.image;
-      registers = is.registers;
-      as_decoded = λ more.
-          subst (λ (i : Image). IsDecodedAs open_image.start
-          (found_followed open_image.form open_image.bytes more) i
-          c.finish.new.self.decoder.registers) same (is.as_decoded more);
-      area = is.area;
+      finished =
+          finished_as (whole_of open_image) _ image_value _ open_image done (left_image done) same
+          refl is.finished;
       set = is.set;
-      faultless = is.faultless;
-      accepted = is.accepted;
-      ended = is.ended;
       kept = tt;
-      error = tt;
-      refused = λ settings error form failed. absurd cc;
     })

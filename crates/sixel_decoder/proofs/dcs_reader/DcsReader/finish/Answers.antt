@@ -1,4 +1,4 @@
-use Rattle.std.proofs.Common.{◌≡◌, ◌*◌, ◌≤◌, ℕ, List, Bool, true, false, ap, subst, sym, ◌∙◌}
+use Rattle.std.proofs.Common.{◌≡◌, ◌*◌, ◌≤◌, ℕ, List, true, ap, subst, sym, ◌∙◌, refl, None}
 use Rattle.std.specs.Prelude.{IfOk, OnOk}
 use Rattle.std.proofs.lemmas.Result.{on_ok_weaker}
 use Rattle.sixel_base.specs.Clip.{clipped_pixel}
@@ -14,12 +14,12 @@ use Rattle.sixel_decoder.specs.inside.DcsParser.{HasFollowed, IsInPayload}
 use Rattle.sixel_decoder.specs.declared.dcs_parser.DcsState.{DcsState}
 use Rattle.sixel_decoder.proofs.DcsPayloads.{found_image, found_reading, found_registers}
 use Rattle.sixel_decoder.proofs.DcsPayloads.{found_reported}
-use Rattle.sixel_decoder.proofs.DcsFinishes.{finish_told, string_decoded, string_image}
-use Rattle.sixel_decoder.proofs.DcsFinishes.{string_refused_at_end, string_registers}
+use Rattle.sixel_decoder.proofs.DcsFinishes.{finish_told, string_decoded, string_followed}
+use Rattle.sixel_decoder.proofs.DcsFinishes.{string_image, string_refused_at_end, string_registers}
 use Rattle.sixel_decoder.proofs.dcs_reader.DcsReader.finish.Goals as goal
 
-pub returns-then-can_finish-clause-finished : goal.returns-then-can_finish-clause-finished
-returns-then-can_finish-clause-finished g c =
+pub returns-then-can_finish : goal.returns-then-can_finish
+returns-then-can_finish g c =
     let inside = c.self.inside in
     let reader = c.in-Payload.reader in
     let result = c.finish.result in
@@ -45,34 +45,29 @@ returns-then-can_finish-clause-finished g c =
     let image : IfOk result
     (λ picture. view picture ≡ payload_image reader.origin reader.bytes) =
     rw shown told.image in
-    record {
-      image = rw (← c.self.view_is) (string_image result view reader _ _ _ is image);
-      registers = rw (← c.self.view_is)
-          (string_registers result reader _ _ _ is told.registers);
-      found_image = rw (← c.self.view_is) (found_image result view reader _ _ _ is image);
-      found_registers = rw (← c.self.view_is)
-          (found_registers result reader _ _ _ is told.registers);
-      as_decoded = λ more. rw (← c.self.view_is) (λ over.
-          string_decoded result view reader _ _ _ more is over
-          told.faultless image told.registers);
-      area = rw (← c.self.view_is)
-          (subst (λ (o : Origin). IfOk result (λ it. it.width * it.height ≤ o.pixel_limit.pixels))
-          is.start told.area);
-      faultless = rw (← c.self.view_is, same) told.faultless;
-      accepted = rw (← c.self.view_is, c.in-Payload.is)
-          (subst (λ (b : Bool). OnOk result (b ≡ false)) is.accepted told.accepted);
-      ended = rw (← c.self.view_is) (on_ok_weaker result (λ _. finishes) told.accepted);
-      error = rw (← c.self.view_is, c.in-Payload.is)
-          (string_refused_at_end result reader _ _ _ is finishes told.error);
-    }
-
-pub returns-then-can_finish-clause-report : goal.returns-then-can_finish-clause-report
-returns-then-can_finish-clause-report g c =
-    let inside = c.self.inside in
-    let is : IsInPayload c.in-Payload.reader inside.parser.decoder inside.parser.ended
-    inside.log.bytes =
-    subst (λ (p : DcsState _).
-    HasFollowed p inside.parser.decoder inside.parser.ended inside.log.bytes)
-    c.in-Payload.is c.self.invariant in
-    rw (← c.self.view_is)
-    (found_reported c.finish.result c.in-Payload.reader _ _ _ is c.finish.ensures.report)
+    let drawn = found_image result view reader _ _ _ is image in
+    let left = found_registers result reader _ _ _ is told.registers in
+    let faultless : OnOk result (found_fault limit (found bytes) ≡ None) = rw same told.faultless in
+    rw (← c.self.view_is, c.in-Payload.is) (record {
+      finished = record {
+        image = string_image result view reader _ _ _ is image;
+        registers = string_registers result reader _ _ _ is told.registers;
+        found_image = drawn;
+        found_registers = left;
+        as_decoded = λ more.
+            string_followed result view inside.parser.decoder bytes more
+            (λ over. string_decoded result view reader _ _ _ more is over told.faultless image
+            told.registers)
+            faultless drawn left;
+        area =
+            subst (λ (o : Origin). IfOk result (λ it. it.width * it.height ≤ o.pixel_limit.pixels))
+            is.start told.area;
+        faultless = faultless;
+        accepted = on_ok_weaker result (λ _. refl) told.accepted;
+        ended = on_ok_weaker result (λ _. rw finishes refl) told.accepted;
+        error = string_refused_at_end result reader _ _ _ is finishes told.error;
+        refused = λ settings error form. absurd cc;
+      };
+      first = c.finish.ensures.first;
+      report = found_reported result reader _ _ _ is c.finish.ensures.report;
+    })

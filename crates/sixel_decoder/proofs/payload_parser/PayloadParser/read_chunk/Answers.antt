@@ -11,8 +11,8 @@ use Rattle.sixel_decoder.specs.inside.Runs.{IsPrintable}
 use Rattle.sixel_decoder.proofs.ChunkPlaces.{feeds_refused, feeds_refused_end}
 use Rattle.sixel_decoder.proofs.ChunkPlaces.{feeds_refused_printable, feeds_terminated, feeds_whole}
 use Rattle.sixel_decoder.proofs.ChunkPlaces.{first_ahead, printable_from_sixel, reaches_ignored}
-use Rattle.sixel_decoder.proofs.ChunkPlaces.{reaches_pushed, reaches_read}
-use Rattle.sixel_decoder.proofs.ChunkPlaces.{reads_before, reads_whole, sixel_from_test, splits_at}
+use Rattle.sixel_decoder.proofs.ChunkPlaces.{reaches_pushed, reaches_read, reads_before}
+use Rattle.sixel_decoder.proofs.ChunkPlaces.{reads_whole, sixel_from_test, splits_at}
 use Rattle.sixel_decoder.proofs.ParserSteps.{refused_close}
 use Rattle.sixel_decoder.proofs.OpenCommands.{goes_on_numbered}
 use Rattle.sixel_decoder.proofs.SixelRuns.{Stands-run, goes_on_byte, refused_sixel}

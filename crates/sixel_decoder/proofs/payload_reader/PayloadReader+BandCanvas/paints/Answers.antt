@@ -1,33 +1,24 @@
-use Rattle.std.proofs.Common.{ℕ, List, Some, arith, refl, subst}
+use Rattle.std.proofs.Common.{◌∙◌, arith, rules}
 use Rattle.sixel_base.specs.Payload.{settled_tokens}
-use Rattle.sixel_base.specs.Stroke.{Origin}
 use Rattle.sixel_canvas.specs.inside.TaggedBand.{capacity}
-use Rattle.sixel_decoder.specs.declared.payload_reader.PayloadState.{PayloadState}
-use Rattle.sixel_decoder.specs.inside.PayloadReader.{session_of, parser_of, HasRead}
 use Rattle.sixel_decoder.proofs.BandCosts.{band_cost}
-use Rattle.sixel_decoder.proofs.Chunks.{shown_settled}
 use Rattle.sixel_decoder.proofs.LenientTokens.{sixels-settled}
 use Rattle.sixel_decoder.proofs.payload_reader.PayloadReader+BandCanvas.paints.Goals as goal
 
 pub returns : goal.returns
 returns c =
-    let inside = c.self.inside in
-    let origin : Origin = (session_of inside).origin in
-    let parser = c.in-Reading.parser in
-    let canvas = parser.painter.canvas in
-    let bytes : List ℕ = inside.log.bytes in
-    let read : HasRead (Some parser) origin inside.terminator bytes =
-    subst (λ (w : PayloadState _ _). HasRead (parser_of w) origin inside.terminator bytes)
-    c.in-Reading.is c.self.invariant in
-    let shows = (shown_settled origin parser inside.terminator bytes read).shows in
+    let session = c.args.self.now in
+    let limit = session.origin.pixel_limit in
+    let is = c.in-Some.ensures.lent in
+    let canvas = c.in-Some.painter.now.canvas in
     let cost =
-    band_cost origin.pixel_limit (capacity canvas.band) canvas.band.painted
-    canvas.band.pixels.reach canvas.band.tags.reach canvas.top
-    (settled_tokens origin.pixel_limit bytes) shows.faultless
-    shows.paid.0 in
-    rw (← c.self.view_is, c.in-Reading.is, c.paints.ensures) (record {
-      value = refl;
-      at_most = omega (arith, cost.0, sixels-settled origin.pixel_limit bytes);
-      room = cost.1;
-      refused = λ is. absurd cc;
-    })
+    band_cost limit (capacity canvas.band) canvas.band.painted canvas.band.pixels.reach
+    canvas.band.tags.reach canvas.top (settled_tokens limit session.bytes) is.shows.faultless
+    is.shows.paid.0 in
+    let value = c.paints.ensures ∙ is.paints in
+    record {
+      value = value;
+      at_most = omega (arith, cost.0, sixels-settled limit session.bytes, c.paints.ensures);
+      room = omega (arith, cost.1, is.room);
+      refused = λ lost. search (rules, is.accepted);
+    }

@@ -41,4 +41,5 @@ returns-clause-image c =
     let whole : c.chunks.self.receiver.image.bytes ≡ c.args.bytes.now =
     sym (append-nil c.chunks.self.receiver.image.bytes)
     ∙ (ap (λ w. c.chunks.self.receiver.image.bytes ++ w) (sym none) ∙ now.bytes) in
-    rw (now.form, now.start, whole) at (c.finish_image.ensures.finished now.whole).image
+    rw (now.form, now.start, whole)
+    at (c.finish_image.ensures.finished now.whole).finished.found_image

@@ -1,0 +1,70 @@
+//! The columns in which drawing a sixel cannot fail.
+//!
+//! They are found near the end of a chunk, and lost as rows are released.
+
+ghost use Rattle.std.specs.Prelude.{◌≡◌, ◌<◌, ◌≤◌, ◌∷◌, max, IsTrue};
+ghost use Rattle.sixel_base.specs.History.{History, Sixel};
+ghost use Rattle.sixel_base.specs.Stroke.{Origin};
+
+use crate::painter::Painter;
+use sixel_canvas::band_canvas::BandCanvas;
+use sixel_canvas::drawing::Canvas;
+
+impl<C: Canvas + Drop> Painter<C> {
+    ghost use Rattle.sixel_decoder.specs.inside.Painter.{FitsColumn, Shows};
+
+    /// Finds the columns in which drawing a sixel cannot fail, near the end of a chunk.
+    ///
+    /// If eight bytes or more are left, it finds none, because sixels are drawn eight at once.
+    #[inline(always)]
+    pub(super) fn find_ready(&mut self, left: usize)
+        ensures shows { (o : Origin) (h : History) → Shows o self.old h → Shows o self.new h }
+        ensures released { C.released self.new.canvas ≡ C.released self.old.canvas }
+    {
+        self.ready = if left < 8 && self.is_single_above_bottom() {
+            self.clipped_width.min(self.canvas.held())
+        } else {
+            0
+        };
+    }
+
+    /// Whether the next sixel fits in one column for which the canvas has memory.
+    ///
+    /// That column lies inside the clipped image, so drawing the sixel cannot fail.
+    #[inline(always)]
+    pub fn fits_column(&self) -> bool
+        ensures { IsTrue result → FitsColumn self.now }
+    {
+        self.column < self.ready
+    }
+
+    /// Draws a sixel that fits in such a column.
+    #[inline(always)]
+    pub fn draw_column(&mut self, bits: u8)
+        requires fits { FitsColumn self.old }
+        requires six { bits < 64 }
+        ensures shows { (o : Origin) (h : History) → Shows o self.old h
+            → Shows o self.new (Sixel bits ∷ h) }
+        ensures released { C.released self.new.canvas ≡ C.released self.old.canvas }
+    {
+        self.canvas.column(self.column, bits, self.color);
+        self.drawn.add(bits);
+        self.column += 1;
+    }
+}
+
+impl Painter<BandCanvas> {
+    ghost use Rattle.sixel_decoder.specs.inside.Painter.{Shows};
+
+    /// Releases the rows above row `rows`, which are final.
+    pub fn release_rows(&mut self, rows: usize)
+        requires above { rows ≤ self.old.canvas.top }
+        ensures shows { (o : Origin) (h : History) → Shows o self.old h → Shows o self.new h }
+        ensures released { self.new.canvas.released ≡ max self.old.canvas.released rows }
+        ensures band { self.new.canvas.band ≡ self.old.canvas.band }
+        ensures writes { self.new.canvas.rows.moved ≡ self.old.canvas.rows.moved }
+    {
+        self.ready = 0;
+        self.canvas.release_rows(rows);
+    }
+}
