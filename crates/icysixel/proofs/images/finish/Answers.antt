@@ -15,7 +15,8 @@ code_of-requires c =
     let image = c.store_image.new.self.receiver.image in
     received_known c.in-Err.error image.is_refused
     (end_wants image.start.pixel_limit image.form image.bytes) (failed image.form)
-    (end_fault image.start.pixel_limit image.form image.bytes) c.in-Err.ensures.finished.error
+    (end_fault image.start.pixel_limit image.form image.bytes)
+    c.in-Err.ensures.finished.finished.error
 
 pub returns-in-Ok-clause-finished : goal.returns-in-Ok-clause-finished
 returns-in-Ok-clause-finished c =
@@ -30,9 +31,9 @@ returns-in-Ok-clause-finished c =
     let first : whole.first_row ≡ min old.image.released whole.height =
     rw (← c.store_image.ensures.receiver) c.in-Ok.ensures.first in
     let received : IsReceived old.image new.receiver.decoder.registers whole = record {
-      is_image = done.image;
+      is_image = done.finished.found_image;
       report = rw (← c.store_image.ensures.receiver) c.in-Ok.ensures.report;
-      as_decoded = done.as_decoded;
+      as_decoded = done.finished.as_decoded;
     } in
     let cropped : (image : ReceivedImage) → new.image ≡ Some image
     → IsCropped whole image c.args.state.now.height =
@@ -48,19 +49,19 @@ returns-in-Ok-clause-finished c =
           record { whole = whole; is_whole = received; is_cropped = cropped image is };
       first = λ image is.
           omega (arith, first, (cropped image is).first, (cropped image is).height);
-      shape = λ image is. stored.shape image is ∙ ap (shape_of image) (over done.accepted);
+      shape = λ image is. stored.shape image is ∙ ap (shape_of image) (over done.finished.accepted);
       bytes = λ _. stored.bytes;
-      area = λ _. stored.area old.image.start.pixel_limit.pixels done.area;
-      registers = λ _. done.registers;
-      accepted = λ _. done.accepted;
-      faultless = λ _. done.ended;
+      area = λ _. stored.area old.image.start.pixel_limit.pixels done.finished.area;
+      registers = λ _. done.finished.found_registers;
+      accepted = λ _. done.finished.accepted;
+      faultless = λ _. done.finished.ended;
       set = done.set;
       text = grind arith;
       height = grind arith;
       kept = λ error. absurd (error refl);
       dropped = λ error. absurd (error refl);
       refused = λ _ _ error. absurd (error refl);
-      again = λ _ was. absurd (grind (arith, was, done.accepted));
+      again = λ _ was. absurd (grind (arith, was, done.finished.accepted));
     }
 
 pub returns-in-Err-clause-finished : goal.returns-in-Err-clause-finished
@@ -93,9 +94,9 @@ returns-in-Err-clause-finished c =
       refused = λ _ accepted _.
           code.told wants fault
           (subst (λ was. MatchBool was (IsFault c.in-Err.error (failed image.form))
-          (Faults c.in-Err.error wants fault)) accepted done.error);
+          (Faults c.in-Err.error wants fault)) accepted done.finished.error);
       again = λ _ was.
           code.fault (failed image.form)
           (subst (λ was. MatchBool was (IsFault c.in-Err.error (failed image.form))
-          (Faults c.in-Err.error wants fault)) was done.error);
+          (Faults c.in-Err.error wants fault)) was done.finished.error);
     }

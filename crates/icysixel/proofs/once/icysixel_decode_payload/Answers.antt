@@ -7,15 +7,6 @@ use Rattle.icysixel.proofs.Known.{found_known, result_known}
 use Rattle.icysixel.proofs.Stored.{of_stored}
 use Rattle.icysixel.proofs.once.icysixel_decode_payload.Goals as goal
 
-pub returns-then-not-is_held : goal.returns-then-not-is_held
-returns-then-not-is_held c = grind arith
-
-pub state-state-requires : goal.state-state-requires
-state-state-requires c = grind arith
-
-pub store_decoded-requires-clause-whole : goal.store_decoded-requires-clause-whole
-store_decoded-requires-clause-whole c = grind arith
-
 pub store_decoded-requires-clause-known : goal.store_decoded-requires-clause-known
 store_decoded-requires-clause-known c =
     let limit = c.replace_decoder-decoder.result.pixel_limit in
@@ -26,27 +17,12 @@ store_decoded-requires-clause-known c =
     (λ error. found_known error wants fault)
     c.decode_from_dcs_drawn-answer.ensures.decoded.refused
 
-pub returns-clause-held : goal.returns-clause-held
-returns-clause-held c = grind arith
-
-pub returns-clause-none : goal.returns-clause-none
-returns-clause-none c = grind arith
-
-pub returns-clause-dropped : goal.returns-clause-dropped
-returns-clause-dropped c = grind arith
-
 pub returns-clause-refused : goal.returns-clause-refused
 returns-clause-refused c = λ before is refused.
     let same : c.replace_decoder-decoder.result ≡ before.receiver.decoder =
     grind (arith, c.state-state.ensures.value) in
     let decoded = c.decode_from_dcs_drawn-answer.ensures.decoded in
     rw (← same) (c.store_decoded.ensures.code _ _ refused decoded.refused)
-
-pub returns-clause-closed : goal.returns-clause-closed
-returns-clause-closed c = grind arith
-
-pub returns-clause-found : goal.returns-clause-found
-returns-clause-found c = grind arith
 
 pub returns-clause-image : goal.returns-clause-image
 returns-clause-image c = λ before after image is is_now kept.
@@ -64,15 +40,6 @@ returns-clause-image c = λ before after image is is_now kept.
     answer.ensures.decoded.image answer.ensures.first answer.ensures.report stored.ensures.image
     stored.ensures.dropped image now)
 
-pub returns-clause-shape : goal.returns-clause-shape
-returns-clause-shape c = grind arith
-
-pub returns-clause-first : goal.returns-clause-first
-returns-clause-first c = grind arith
-
-pub returns-clause-height : goal.returns-clause-height
-returns-clause-height c = grind arith
-
 pub returns-clause-area : goal.returns-clause-area
 returns-clause-area c = λ before is done.
     let same : c.replace_decoder-decoder.result ≡ before.receiver.decoder =
@@ -80,21 +47,3 @@ returns-clause-area c = λ before is done.
     rw (← same)
     (c.store_decoded.ensures.area c.replace_decoder-decoder.result.pixel_limit.pixels done
     c.decode_from_dcs_drawn-answer.ensures.decoded.area)
-
-pub returns-clause-registers : goal.returns-clause-registers
-returns-clause-registers c = grind arith
-
-pub returns-clause-faultless : goal.returns-clause-faultless
-returns-clause-faultless c = grind arith
-
-pub returns-clause-set : goal.returns-clause-set
-returns-clause-set c = grind arith
-
-pub returns-clause-text : goal.returns-clause-text
-returns-clause-text c = grind arith
-
-pub returns-clause-kept : goal.returns-clause-kept
-returns-clause-kept c = grind arith
-
-pub returns-clause-told : goal.returns-clause-told
-returns-clause-told c = grind arith

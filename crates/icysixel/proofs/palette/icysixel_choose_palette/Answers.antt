@@ -2,9 +2,6 @@ use Rattle.std.proofs.Common.{length, ap, sym, ◌∙◌, arith}
 use Rattle.icysixel.proofs.Witnesses.{length-entries, length-witnesses}
 use Rattle.icysixel.proofs.palette.icysixel_choose_palette.Goals as goal
 
-pub returns-then-code : goal.returns-then-code
-returns-then-code c = grind arith
-
 pub write_choice-requires : goal.write_choice-requires
 write_choice-requires c =
     let few = length-entries c.args.pixels.now c.args.max_colors _ c.in-Ok.ensures.palette in
@@ -18,21 +15,6 @@ write_choice-requires c =
       indices =
           omega (arith, c.in-Ok.ensures.indices.one_each, c.buffers_code-code.ensures.indices done);
     }
-
-pub returns-in-Ok-clause-mismatch : goal.returns-in-Ok-clause-mismatch
-returns-in-Ok-clause-mismatch c = grind arith
-
-pub returns-in-Ok-clause-few_colors : goal.returns-in-Ok-clause-few_colors
-returns-in-Ok-clause-few_colors c = grind arith
-
-pub returns-in-Ok-clause-few_witnesses : goal.returns-in-Ok-clause-few_witnesses
-returns-in-Ok-clause-few_witnesses c = grind arith
-
-pub returns-in-Ok-clause-few_indices : goal.returns-in-Ok-clause-few_indices
-returns-in-Ok-clause-few_indices c = grind arith
-
-pub returns-in-Ok-clause-memory : goal.returns-in-Ok-clause-memory
-returns-in-Ok-clause-memory c = grind arith
 
 pub returns-in-Ok-clause-palette : goal.returns-in-Ok-clause-palette
 returns-in-Ok-clause-palette c = λ _. rw c.write_choice.ensures.colors c.in-Ok.ensures.palette
@@ -95,18 +77,3 @@ returns-in-Ok-clause-colors_after c = λ _. c.write_choice.ensures.colors_after
 
 pub returns-in-Ok-clause-witnesses_after : goal.returns-in-Ok-clause-witnesses_after
 returns-in-Ok-clause-witnesses_after c = λ _. c.write_choice.ensures.witnesses_after
-
-pub returns-in-Ok-clause-no_colors : goal.returns-in-Ok-clause-no_colors
-returns-in-Ok-clause-no_colors c = grind arith
-
-pub returns-in-Ok-clause-no_witnesses : goal.returns-in-Ok-clause-no_witnesses
-returns-in-Ok-clause-no_witnesses c = grind arith
-
-pub returns-in-Ok-clause-no_indices : goal.returns-in-Ok-clause-no_indices
-returns-in-Ok-clause-no_indices c = grind arith
-
-pub returns-in-Ok-clause-told : goal.returns-in-Ok-clause-told
-returns-in-Ok-clause-told c = grind arith
-
-pub returns-in-Err : goal.returns-in-Err
-returns-in-Err c = grind arith

@@ -24,21 +24,6 @@ one_more place buf color colors inside fits is before =
     ∙ (ap (λ xs. xs ++ channels color ∷ []) before
     ∙ (ap (λ x. take place colors ++ x ∷ []) is ∙ sym (take_more colors place [] inside))))
 
-pub offset_bounds-colors-place : goal.offset_bounds-colors-place
-offset_bounds-colors-place c = grind arith
-
-pub bounds-colors-place : goal.bounds-colors-place
-bounds-colors-place c = grind arith
-
-pub bounds-colors-place-in-loop-place : goal.bounds-colors-place-in-loop-place
-bounds-colors-place-in-loop-place c = grind arith
-
-pub bounds-colors-place-in-loop-place-2 : goal.bounds-colors-place-in-loop-place-2
-bounds-colors-place-in-loop-place-2 c = grind arith
-
-pub bounds-buf-place : goal.bounds-buf-place
-bounds-buf-place c = grind arith
-
 pub loop-place-preserved : goal.loop-place-preserved
 loop-place-preserved c =
     let place = c.loop-place.place in

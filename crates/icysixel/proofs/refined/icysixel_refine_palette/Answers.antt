@@ -1,4 +1,4 @@
-use Rattle.std.proofs.Common.{◌≡◌, ℕ, ◌+◌, ◌/◌, ◌<◌, ◌≤◌, ◌++◌, List, length, map, refl, sym, ap}
+use Rattle.std.proofs.Common.{◌≡◌, ℕ, ◌+◌, ◌/◌, ◌<◌, ◌≤◌, List, length, map, refl, sym, ap}
 use Rattle.std.proofs.Common.{◌∙◌, take, ⊎_elim, arith}
 use Rattle.std.specs.Prelude.{◌==◌, ◌||◌, Some, nat_lt}
 use Rattle.std.proofs.lemmas.Bool.{cases_lt}

@@ -2,12 +2,6 @@ use Rattle.std.proofs.Common.{arith}
 use Rattle.icysixel.proofs.Known.{received_known}
 use Rattle.icysixel.proofs.sessions.feed_chunk.Goals as goal
 
-pub returns-then-not-is_receiving : goal.returns-then-not-is_receiving
-returns-then-not-is_receiving c = grind arith
-
-pub returns-in-Ok : goal.returns-in-Ok
-returns-in-Ok c = grind arith
-
 pub code_of-requires : goal.code_of-requires
 code_of-requires c = received_known c.in-Err.field-0.error _ _ _ _ c.in-Err.ensures.error
 

@@ -2,12 +2,6 @@ use Rattle.std.proofs.Common.{◌≡◌, ◌++◌, length, set, drop, ap, ◌∙
 use Rattle.icysixel.proofs.Ended.{zero_first, zero_after}
 use Rattle.icysixel.proofs.words.write_text.Goals as goal
 
-pub bounds-buf-text : goal.bounds-buf-text
-bounds-buf-text c = grind arith
-
-pub bounds-buf-0 : goal.bounds-buf-0
-bounds-buf-0 c = grind arith
-
 pub returns-then-text-buf-clause-text : goal.returns-then-text-buf-clause-text
 returns-then-text-buf-clause-text c = λ fits.
     let text = c.args.text.now in
@@ -16,11 +10,5 @@ returns-then-text-buf-clause-text c = λ fits.
     ap (λ first. set (first ++ drop (length text) buf) (length text) 0) same
     ∙ zero_after text buf fits
 
-pub returns-then-text-buf-clause-empty : goal.returns-then-text-buf-clause-empty
-returns-then-text-buf-clause-empty c = grind arith
-
 pub returns-then-not-is_empty-clause-empty : goal.returns-then-not-is_empty-clause-empty
 returns-then-not-is_empty-clause-empty c = λ some small. zero_first c.args.buf.now some
-
-pub returns-else-not-is_empty : goal.returns-else-not-is_empty
-returns-else-not-is_empty c = grind arith

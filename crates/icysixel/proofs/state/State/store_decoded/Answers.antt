@@ -32,6 +32,3 @@ returns-in-Ok-clause-area c = λ limit _ fits.
     c.store_ended.ensures.area limit
     (subst (λ (w : Result ReceivedImage SixelError). IfOk w (λ i. i.width * i.height ≤ limit))
     c.in-Ok.is fits)
-
-pub returns-in-Err : goal.returns-in-Err
-returns-in-Err c = grind arith

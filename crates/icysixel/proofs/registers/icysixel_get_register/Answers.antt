@@ -1,8 +1,0 @@
-use Rattle.std.proofs.Common.{arith}
-use Rattle.icysixel.proofs.registers.icysixel_get_register.Goals as goal
-
-pub returns-then-not-is_held : goal.returns-then-not-is_held
-returns-then-not-is_held c = grind arith
-
-pub returns : goal.returns
-returns c = grind arith
