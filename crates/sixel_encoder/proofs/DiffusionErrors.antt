@@ -4,13 +4,14 @@ use Rattle.std.proofs.Common.{◌≡◌, ℕ, zero, suc, ◌+◌, ◌-◌, ◌*�
 use Rattle.std.proofs.Common.{cond, length, get_or, set, refl, ap, sym, subst, ◌∙◌, arith, inl, inr}
 use Rattle.std.proofs.Common.{nat_le, replicate}
 use Rattle.std.specs.Prelude.{slice_index, slice_index_or}
-use Rattle.std.proofs.lemmas.Bool.{cases_lt}
+use Rattle.std.proofs.lemmas.Bool.{cases_eq, cases_lt}
 use Rattle.std.proofs.lemmas.List.{get_or-replicate, get_or-set_other, get_or-set_same}
 use Rattle.std.proofs.lemmas.List.{length-replicate, length-set}
 use Rattle.sixel_encoder.specs.Dithering.{Mapped, HasTarget, column_of_step, error_back, errors_of}
 use Rattle.sixel_encoder.specs.Dithering.{no_error, opaque_error, serpentine, target_of_visit}
 use Rattle.sixel_encoder.specs.Dithering.{visit_error}
-use Rattle.sixel_encoder.specs.inside.Diffusion.{AreVisited, IsLine, IsVisit}
+use Rattle.sixel_encoder.specs.inside.Diffusion.{AreErrors, AreVisited, IsLine, IsVisit, channels}
+use Rattle.sixel_encoder.specs.inside.Diffusion.{no_error_lanes}
 use Rattle.sixel_encoder.proofs.DitheredIndices.{HasTarget-same}
 use Rattle.sixel_encoder.proofs.Serpentine.{column-apart, column-lt, column-next_row}
 use Rattle.sixel_encoder.proofs.Serpentine.{serpentine-apart}
@@ -46,7 +47,7 @@ errors_of-visit m old new error n k some most is =
 -- and its own is the newest
 pub errors_of-more : (m : Mapped) (old new error : List ℕ) (n : ℕ) → 0 < m.width
     → IsVisit m (errors_of m old n) n old new error
-    → errors_of m new (n + 1) ≡ error ∷ errors_of m old n
+    → errors_of m new (n + 1) ≡ channels error ∷ errors_of m old n
 unfolding errors_of
 errors_of-more m old new error n some is =
     let next : n + 1 ≡ suc n = omega arith in
@@ -83,10 +84,10 @@ error_back-suc m error errors k j same = ap (error_back m (error ∷ errors)) sa
 
 -- the line after a step has its error
 pub IsLine-more : (m : Mapped) (errors line : List (List ℕ)) (row step : ℕ) (error : List ℕ)
-    → step < m.width → IsLine m errors row step line
-    → IsLine m (error ∷ errors) row (step + 1)
+    → step < m.width → AreErrors error → IsLine m errors row step line
+    → IsLine m (channels error ∷ errors) row (step + 1)
     (set line (column_of_step m.width row step) error)
-IsLine-more m errors line row step error inside is =
+IsLine-more m errors line row step error inside lanes is =
     let place = column_of_step m.width row step in
     let there : place < length line = omega (arith, is.whole, column-lt m.width row step inside) in
     record {
@@ -94,23 +95,31 @@ IsLine-more m errors line row step error inside is =
       this = λ j l.
           elim (cases_lt j step) [
             | inl before ↦
-                get_or-set_other line place (column_of_step m.width row j) error []
-                (column-apart m.width row j step (omega arith) inside (omega arith))
+                ap channels (get_or-set_other line place (column_of_step m.width row j) error []
+                (column-apart m.width row j step (omega arith) inside (omega arith)))
                 ∙ (is.this j before
-                ∙ sym (error_back-suc m error errors (step + 1 - 1 - j) (step - 1 - j)
+                ∙ sym (error_back-suc m (channels error) errors (step + 1 - 1 - j) (step - 1 - j)
                 (omega arith)))
             | inr last ↦
                 let same : j ≡ step = omega arith in
                 let none : step + 1 - 1 - j ≡ 0 = omega arith in
-                ap (λ i. get_or (set line place error) (column_of_step m.width row i) []) same
-                ∙ (get_or-set_same line place error [] there
-                ∙ ap (error_back m (error ∷ errors)) (sym none))
+                ap
+                (λ i. channels (get_or (set line place error) (column_of_step m.width row i) []))
+                same
+                ∙ (ap channels (get_or-set_same line place error [] there)
+                ∙ ap (error_back m (channels error ∷ errors)) (sym none))
           ];
       above = λ j l lj.
-          get_or-set_other line place (column_of_step m.width row j) error []
-          (column-apart m.width row j step lj inside (omega arith))
+          ap channels (get_or-set_other line place (column_of_step m.width row j) error []
+          (column-apart m.width row j step lj inside (omega arith)))
           ∙ (is.above j (omega arith) lj
-          ∙ sym (error_back-suc m error errors (step + 1 + j) (step + j) (omega arith)));
+          ∙ sym (error_back-suc m (channels error) errors (step + 1 + j) (step + j)
+          (omega arith)));
+      lanes = λ k l.
+          elim (cases_eq k place) [
+            | inl here ↦ rw (here, get_or-set_same line place error [] there) lanes
+            | inr apart ↦ rw (get_or-set_other line place k error [] apart) (is.lanes k l)
+          ];
     }
 
 -- after its last step it is the line above the next row
@@ -121,19 +130,23 @@ IsLine-next_row m errors line row is = record {
   this = λ j l. absurd (omega arith);
   above = λ j l lj.
       let back : m.width - 1 - (m.width - 1 - j) ≡ 0 + j = omega arith in
-      ap (λ column. get_or line column []) (column-next_row m.width row j lj)
+      ap (λ column. channels (get_or line column [])) (column-next_row m.width row j lj)
       ∙ (is.this (m.width - 1 - j) (omega arith) ∙ ap (error_back m errors) back);
+  lanes = is.lanes;
 }
 
 -- before the first row there is no error
 pub IsLine-none : (m : Mapped) (indices : List ℕ) (line : List (List ℕ))
-    → line ≡ replicate m.width (no_error m.strength)
-    → IsLine m (errors_of m indices 0) 0 0 line
+    → line ≡ replicate m.width (no_error_lanes m.strength)
+    → AreErrors (no_error_lanes m.strength) → IsLine m (errors_of m indices 0) 0 0 line
 unfolding errors_of
-IsLine-none m indices line same = rw same (record {
-  whole = length-replicate m.width (no_error m.strength);
-  this = λ j l. absurd (omega arith);
-  above = λ j l lj.
-      get_or-replicate m.width (column_of_step m.width 0 j) (no_error m.strength) []
-      (column-lt m.width 0 j lj);
-})
+IsLine-none m indices line same lanes =
+    let none = no_error_lanes m.strength in
+    rw same (record {
+      whole = length-replicate m.width none;
+      this = λ j l. absurd (omega arith);
+      above = λ j l lj.
+          ap channels (get_or-replicate m.width (column_of_step m.width 0 j) none []
+          (column-lt m.width 0 j lj));
+      lanes = λ k l. rw (get_or-replicate m.width k none [] l) lanes;
+    })

@@ -6,16 +6,19 @@ use Rattle.std.proofs.lemmas.Bool.{cases_eq, cases_lt}
 use Rattle.std.proofs.lemmas.Bool.Decides.{nat_tests}
 use Rattle.std.proofs.lemmas.List.{get_or-set_other, get_or-set_same}
 use Rattle.sixel_palette.specs.Palette.{IsOpaque}
+use Rattle.sixel_palette.proofs.PaletteDistance.{below_three}
 use Rattle.sixel_encoder.specs.declared.indices.mapped.MappedImage.{MappedImage}
 use Rattle.sixel_encoder.specs.declared.indices.diffusion.Neighbors.{Neighbors}
 use Rattle.sixel_encoder.specs.Dithering.{Mapped, channel_error, column_of_step, error_above}
 use Rattle.sixel_encoder.specs.Dithering.{error_back, error_before, error_behind, error_beyond}
 use Rattle.sixel_encoder.specs.Dithering.{no_error, opaque_error, passed_on, rounded_sixteenths}
 use Rattle.sixel_encoder.specs.Dithering.{serpentine, sixteenths, target_of_visit, visit_error}
-use Rattle.sixel_encoder.specs.inside.Diffusion.{AreReceived, AreSixteenths, IsBeyond, IsLine}
-use Rattle.sixel_encoder.specs.inside.Diffusion.{IsVisit, color_error, received_of, rounded_color}
+use Rattle.sixel_encoder.specs.inside.Diffusion.{AreReceived, AreSixteenths, AreErrors, IsBeyond}
+use Rattle.sixel_encoder.specs.inside.Diffusion.{IsLine, IsVisit, channels, color_error}
+use Rattle.sixel_encoder.specs.inside.Diffusion.{no_error_lanes, received_of, rounded_color}
 use Rattle.sixel_encoder.specs.inside.Mapped.{IsIndexAt, mapped_value}
 use Rattle.sixel_encoder.proofs.DitheredIndices.{HasTarget-set}
+use Rattle.sixel_encoder.proofs.Serpentine.{column-lt}
 
 -- the error of an opaque pixel is that of its entry
 pub visit_error-opaque : (m : Mapped) (indices : List ℕ) (errors : List (List ℕ)) (n : ℕ)
@@ -90,10 +93,11 @@ pub IsVisit-set : (m : Mapped) (errors : List (List ℕ)) (n index : ℕ) (old e
     → 0 < m.width → serpentine m.width n < length old
     → IsIndexAt m (target_of_visit m errors n) old n index
     → (IsOpaque m.pixels (serpentine m.width n)
-    → error ≡ opaque_error m errors n (slice_index_or m.colors index []))
-    → (slice_index m.pixels (4 * serpentine m.width n + 3) < 128 → error ≡ no_error m.strength)
-    → IsVisit m errors n old (set old (serpentine m.width n) index) error
-IsVisit-set m errors n index old error some inside is light dark =
+    → channels error ≡ opaque_error m errors n (slice_index_or m.colors index []))
+    → (slice_index m.pixels (4 * serpentine m.width n + 3) < 128
+    → channels error ≡ no_error m.strength)
+    → AreErrors error → IsVisit m errors n old (set old (serpentine m.width n) index) error
+IsVisit-set m errors n index old error some inside is light dark lanes =
     let place = serpentine m.width n in
     let stored = get_or-set_same old place index 0 inside in
     record {
@@ -109,6 +113,7 @@ IsVisit-set m errors n index old error some inside is light dark =
                 ∙ (ap (λ i. opaque_error m errors n (slice_index_or m.colors i [])) (sym stored)
                 ∙ sym (visit_error-opaque m (set old place index) errors n opaque))
           ];
+      lanes = lanes;
     }
 
 -- ---- what a pixel receives
@@ -116,7 +121,8 @@ IsVisit-set m errors n index old error some inside is light dark =
 -- the error above it
 pub above-line : (m : Mapped) (errors line : List (List ℕ)) (row step : ℕ) → step < m.width
     → IsLine m errors row step line
-    → slice_index_or line (column_of_step m.width row step) [] ≡ error_above m errors step
+    → channels (slice_index_or line (column_of_step m.width row step) [])
+    ≡ error_above m errors step
 above-line m errors line row step inside is =
     let twice : step + step ≡ 2 * step = omega arith in
     is.above step (omega arith) inside ∙ ap (error_back m errors) twice
@@ -124,31 +130,59 @@ above-line m errors line row step inside is =
 -- the error above the next one
 pub beyond-line : (m : Mapped) (errors line : List (List ℕ)) (row step : ℕ) (error : List ℕ)
     → step < m.width → IsLine m errors row step line → IsBeyond m line row step error
-    → error ≡ error_beyond m errors step
+    → channels error ≡ error_beyond m errors step
 beyond-line m errors line row step error inside is beyond =
     elim (cases_eq (step + 1) m.width) [
       | inl last ↦
           let test : step + 1 == m.width ≡ true = grind (arith, nat_tests) in
-          beyond ∙ rw test refl
+          ap channels beyond ∙ rw test refl
       | inr more ↦
           let test : step + 1 == m.width ≡ false = grind (arith, nat_tests) in
           let twice : step + (step + 1) ≡ 2 * step + 1 = omega arith in
-          beyond
+          ap channels beyond
           ∙ rw test (is.above (step + 1) (omega arith) (omega arith)
           ∙ ap (error_back m errors) twice)
     ]
 
+-- and its lanes
+pub beyond-lanes : (m : Mapped) (errors line : List (List ℕ)) (row step : ℕ) (error : List ℕ)
+    → step < m.width → AreErrors (no_error_lanes m.strength) → IsLine m errors row step line
+    → IsBeyond m line row step error → AreErrors error
+beyond-lanes m errors line row step error inside none is beyond =
+    rw beyond (elim (cases_eq (step + 1) m.width) [
+      | inl last ↦
+          let test : step + 1 == m.width ≡ true = grind (arith, nat_tests) in rw test none
+      | inr more ↦
+          let test : step + 1 == m.width ≡ false = grind (arith, nat_tests) in
+          rw test (is.lanes (column_of_step m.width row (step + 1))
+          (column-lt m.width row (step + 1) (omega arith)))
+    ])
+
+-- a channel is that of its lane
+lane-channel : (lanes error : List ℕ) → channels lanes ≡ error → (k : ℕ) → k < 3
+    → slice_index lanes k ≡ slice_index error k
+lane-channel lanes error same k l =
+    below_three (λ k. slice_index lanes k ≡ slice_index (channels lanes) k) refl refl refl k l
+    ∙ ap (λ e. slice_index e k) same
+
 -- all four
 pub AreReceived-neighbors : (m : Mapped) (errors : List (List ℕ)) (n step : ℕ)
     (neighbors : Neighbors) (numbers : List ℕ) → n % m.width ≡ step
-    → neighbors.before ≡ error_before m errors step
-    → neighbors.behind ≡ error_behind m errors step
-    → neighbors.above ≡ error_above m errors step
-    → neighbors.beyond ≡ error_beyond m errors step
+    → channels neighbors.before ≡ error_before m errors step
+    → channels neighbors.behind ≡ error_behind m errors step
+    → channels neighbors.above ≡ error_above m errors step
+    → channels neighbors.beyond ≡ error_beyond m errors step
     → ((k : ℕ) → k < 3 → slice_index numbers k ≡ received_of neighbors k)
     → AreReceived m errors n numbers
 AreReceived-neighbors m errors n step neighbors numbers at before behind above beyond each =
-    λ k l. each k l ∙ rw (before, behind, above, beyond, at) refl
+    λ k l. each k l
+    ∙ rw (
+      lane-channel neighbors.before _ before k l,
+      lane-channel neighbors.behind _ behind k l,
+      lane-channel neighbors.above _ above k l,
+      lane-channel neighbors.beyond _ beyond k l,
+      at,
+    ) refl
 
 -- ---- the next step
 

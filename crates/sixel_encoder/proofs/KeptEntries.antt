@@ -41,6 +41,16 @@ nearer-first colors c (Some a) (Some b) inside l =
     grind (arith, nat_tests) in
     ap (λ t. cond t (Some b) (Some a)) test
 
+-- and where none can be nearer
+nearer-zero : (colors : List (List ℕ)) (c : List ℕ) (a b : Option ℕ)
+    → (kept_value colors c a).squared ≡ 0 → nearer_entry colors c a b ≡ a
+nearer-zero colors c None b zero = absurd (omega (arith, zero))
+nearer-zero colors c (Some a) None zero = refl
+nearer-zero colors c (Some a) (Some b) zero =
+    let test : nat_lt (entry_distance colors c b) (entry_distance colors c a) ≡ false =
+    grind (arith, nat_tests) in
+    ap (λ t. cond t (Some b) (Some a)) test
+
 -- an entry with its distance may be kept
 IsKept-value : (m : Mapped) (c : List ℕ) (neighbor : Option ℕ) → IsInside m.colors c neighbor
     → IsKept m c neighbor (kept_value m.colors c neighbor)
@@ -70,6 +80,13 @@ IsKept-first m c a b x y first second here there l =
     let nearer : (kept_value m.colors c a).squared ≤ (kept_value m.colors c b).squared =
     rw (sym first, sym second) l in
     rw (nearer-first m.colors c a b there nearer, first) (IsKept-value m c a here)
+
+pub IsKept-zero : (m : Mapped) (c : List ℕ) (a b : Option ℕ) (x : Kept)
+    → x ≡ kept_value m.colors c a → IsInside m.colors c a → x.squared ≡ 0
+    → IsKept m c (nearer_entry m.colors c a b) x
+IsKept-zero m c a b x first here zero =
+    let none : (kept_value m.colors c a).squared ≡ 0 = rw (sym first) zero in
+    rw (nearer-zero m.colors c a b none, first) (IsKept-value m c a here)
 
 -- ---- entries of the palette
 

@@ -4,7 +4,6 @@ pub mod JoinedLists
 pub mod Cells
 pub mod Masks
 pub mod RowParts
-pub mod Ok
 pub mod Dots
 pub mod Progress
 pub mod IndexedDrawing
@@ -57,9 +56,12 @@ pub mod DiffusionLaws
 pub mod PaletteText
 pub mod SameVisits
 pub mod SameDithering
+pub mod GraySource
+pub mod GrayErrors
 pub mod Verdicts
 pub mod DitheredIndices
 pub mod DiffusionVisit
+pub mod DiffusionLanes
 pub mod IndexedText
 pub mod Counts
 pub mod SegmentSteps

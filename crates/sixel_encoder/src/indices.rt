@@ -1,18 +1,25 @@
 //! Palette indices of an image's pixels in a given palette.
 
 ghost use Rattle.std.specs.Prelude.{◌≡◌, ◌⊎◌, ℕ, ◌+◌, ◌*◌, ◌/◌, ◌<◌, ◌≤◌, All, Contains, IfOk};
-ghost use Rattle.std.specs.Prelude.{List, length, slice_index};
+ghost use Rattle.std.specs.Prelude.{List, length, slice_index, true};
+ghost use Rattle.std.specs.Int.{abs_diff};
 ghost use Rattle.sixel_base.specs.CallFault.{FailsBy};
 ghost use Rattle.sixel_base.specs.Size.{verdict};
 ghost use Rattle.sixel_palette.specs.Palette.{AreIndices, IsOpaque, color_at};
 ghost use Rattle.sixel_palette.specs.Refined.{opaque_pixels, summed_error};
-ghost use Rattle.sixel_encoder.specs.Dithering.{AreDithered, index_error, indices_fault};
-ghost use Rattle.sixel_encoder.specs.Dithering.{rows_fault, tolerance_of, Mapped, before_share};
-ghost use Rattle.sixel_encoder.specs.Dithering.{below_share, next_share, no_error, passed_on};
-ghost use Rattle.sixel_encoder.specs.Dithering.{rest_share, serpentine, visit_error, whole_rows};
+ghost use Rattle.sixel_encoder.specs.Dithering.{AreDithered, HasTarget, HaveTargets, Mapped};
+ghost use Rattle.sixel_encoder.specs.Dithering.{before_share, below_share, errors_of, index_error};
+ghost use Rattle.sixel_encoder.specs.Dithering.{indices_fault, mapped_of, next_share, no_error};
+ghost use Rattle.sixel_encoder.specs.Dithering.{passed_on, rest_share, rounded_sixteenths};
+ghost use Rattle.sixel_encoder.specs.Dithering.{rows_fault, serpentine, target_of_visit};
+ghost use Rattle.sixel_encoder.specs.Dithering.{tolerance_of, visit_error, whole_rows};
+ghost use Rattle.sixel_encoder.specs.Gray.{is_gray, maps_grays, source_pixels};
+ghost use Rattle.sixel_encoder.specs.GrayDiffusion.{AreGrays, level_gap};
 ghost use Rattle.sixel_encoder.specs.inside.Mapped.{IsMappable, IsPlain};
+ghost use Rattle.sixel_encoder.specs.inside.PaletteError.{IsKnown};
 
 mod diffusion;
+mod gray;
 pub mod mapped;
 mod ordered;
 mod palette_error;
@@ -20,6 +27,7 @@ mod undithered;
 
 use crate::dither::{Amplitude, Dither};
 use crate::indices::diffusion::diffused_indices;
+use crate::indices::gray::{gray_pixels, maps_grays};
 use crate::indices::mapped::MappedImage;
 use crate::indices::ordered::ordered_indices;
 use crate::indices::palette_error::{amplitude_of, tolerance_of};
@@ -43,6 +51,9 @@ use std::alloc::{AllocError, Global};
 /// above it in the same band of six rows. Of two entries the nearer one is kept, that of the pixel
 /// before it on ties. Without dithering the summed squared error is at most the least one plus the
 /// tolerance for each opaque pixel.
+///
+/// In a palette of grays, error diffusion maps the brightness of the pixels, because no gray repays
+/// the difference of a hue. What pixels pass on is gray then.
 ///
 /// A transparent pixel, whose alpha is below 128, has index 0. Its color has no effect: it neither
 /// receives nor passes on a difference.
@@ -73,6 +84,7 @@ pub fn palette_indices(
 ) -> Result<Vec<u8>>
     ensures fault { FailsBy
         (indices_fault (length pixels.now) width (length colors.now)) result }
+    ensures count { IfOk result (λ indices. length indices.items ≡ length pixels.now / 4) }
     ensures indices { IfOk result
         (λ indices. AreDithered mapping width pixels.now colors.now indices.items) }
     ensures nearest { mapping.dither ≡ Dither.Off → mapping.tolerance ≡ Tolerance.Squared 0
@@ -106,6 +118,60 @@ pub fn dithered_indices(
         AreDithered mapping image.now.width image.now.pixels.now image.now.colors.now
         indices.items) }
 {
+    if !maps_grays(mapping.dither, image.colors) {
+        return searched_indices(alloc, image, mapping);
+    }
+    let grays = gray_pixels(alloc, image.pixels)?;
+    let image = MappedImage {
+        pixels: &grays,
+        ..*image
+    };
+    searched_indices(alloc, &image, mapping)
+}
+
+/// Returns the palette index of each pixel of whole rows, whose nearest entries are known.
+///
+/// The summed squared error of the palette may be `known`, too.
+pub fn indices_from(
+    alloc: Global,
+    image: &MappedImage<'_>,
+    nearest: Vec<u8>,
+    known: Option<u64>,
+    mapping: Mapping,
+) -> std::result::Result<Vec<u8>, AllocError>
+    requires width { 0 < image.now.width }
+    requires rows { length image.now.pixels.now
+        ≡ whole_rows (length image.now.pixels.now) image.now.width }
+    requires few { length image.now.colors.now ≤ 256 }
+    requires plain { IsPlain image.now }
+    requires nearest { AreIndices image.now.pixels.now image.now.colors.now nearest.items }
+    requires known { IsKnown image.now.colors.now image.now.pixels.now known }
+    ensures { IfOk result (λ indices.
+        AreDithered mapping image.now.width image.now.pixels.now image.now.colors.now
+        indices.items) }
+{
+    if image.colors.is_empty() {
+        return Ok(nearest);
+    }
+    if maps_grays(mapping.dither, image.colors) {
+        dithered_indices(alloc, image, mapping)
+    } else {
+        mapped_indices(alloc, image, nearest, known, mapping)
+    }
+}
+
+/// Returns the index of each pixel for its target.
+fn searched_indices(
+    alloc: Global,
+    image: &MappedImage<'_>,
+    mapping: Mapping,
+) -> std::result::Result<Vec<u8>, AllocError>
+    requires image { IsMappable image.now }
+    requires plain { IsPlain image.now }
+    ensures { IfOk result (λ indices.
+        HaveTargets mapping image.now.width image.now.pixels.now image.now.colors.now
+        indices.items) }
+{
     match (mapping.dither, mapping.tolerance) {
         (Dither::Diffusion { strength }, Tolerance::Squared(tolerance)) => {
             let image = MappedImage {
@@ -130,33 +196,31 @@ pub fn dithered_indices(
         }
         _ => {
             let nearest = nearest_indices(alloc, image.pixels, image.colors)?;
-            indices_from(alloc, image, nearest, mapping)
+            mapped_indices(alloc, image, nearest, None, mapping)
         }
     }
 }
 
-/// Returns the palette index of each pixel of whole rows, whose nearest entries are known.
-pub fn indices_from(
+/// Returns the index of each pixel for its target, if the nearest entries are known.
+///
+/// The summed squared error of the palette may be `known`, too.
+fn mapped_indices(
     alloc: Global,
     image: &MappedImage<'_>,
     nearest: Vec<u8>,
+    known: Option<u64>,
     mapping: Mapping,
 ) -> std::result::Result<Vec<u8>, AllocError>
-    requires width { 0 < image.now.width }
-    requires rows { length image.now.pixels.now
-        ≡ whole_rows (length image.now.pixels.now) image.now.width }
-    requires few { length image.now.colors.now ≤ 256 }
+    requires image { IsMappable image.now }
     requires plain { IsPlain image.now }
     requires nearest { AreIndices image.now.pixels.now image.now.colors.now nearest.items }
+    requires known { IsKnown image.now.colors.now image.now.pixels.now known }
     ensures { IfOk result (λ indices.
-        AreDithered mapping image.now.width image.now.pixels.now image.now.colors.now
+        HaveTargets mapping image.now.width image.now.pixels.now image.now.colors.now
         indices.items) }
 {
-    if image.colors.is_empty() {
-        return Ok(nearest);
-    }
     channel_bytes(image.pixels, image.colors);
-    let tolerance = tolerance_of(image, &nearest, mapping.tolerance);
+    let tolerance = tolerance_of(image, &nearest, known, mapping.tolerance);
     let image = MappedImage {
         tolerance,
         ..*image
@@ -164,7 +228,7 @@ pub fn indices_from(
     match mapping.dither {
         Dither::Off => Ok(keep_entries(&image, nearest)),
         Dither::Ordered { amplitude } => {
-            let amplitude = amplitude_of(&image, &nearest, amplitude);
+            let amplitude = amplitude_of(&image, &nearest, known, amplitude);
             ordered_indices(alloc, &MappedImage { amplitude, ..image })
         }
         // Each pixel's color is an entry, so there is nothing to pass on.
@@ -197,6 +261,30 @@ pub fn error_diffusion()
     ensures transparent { (m : Mapped) (indices : List ℕ) (errors : List (List ℕ)) (n : ℕ)
         → slice_index m.pixels (4 * serpentine m.width n + 3) < 128
         → visit_error m indices errors n ≡ no_error m.strength }
+{}
+
+/// States laws of error diffusion in a palette of grays. It does nothing.
+///
+/// Grays are mapped then, so each pixel passes on the same in each channel, never the difference
+/// of a hue. No entry is nearer to a target than its own one, apart from the tolerance: between two
+/// entries, the target differs by at most half of their difference. For each eighth of the
+/// strength, a pixel passes on at most twice that and one sixteenth, in either direction.
+pub fn gray_diffusion()
+    ensures grays { (mapping : Mapping) (width : ℕ) (pixels : List ℕ) (colors : List (List ℕ))
+        → maps_grays mapping.dither colors ≡ true
+        → AreGrays (mapped_of mapping width (source_pixels mapping.dither colors pixels) colors) }
+    ensures gray { (m : Mapped) (indices : List ℕ) (n : ℕ) → AreGrays m
+        → All (λ error. is_gray error ≡ true) (errors_of m indices n) }
+    ensures near { (m : Mapped) (indices : List ℕ) (n entry : ℕ) → AreGrays m
+        → HasTarget m (target_of_visit m (errors_of m indices n) n) indices n
+        → IsOpaque m.pixels (serpentine m.width n) → entry < length m.colors
+        → let gap = level_gap m indices n (slice_index indices (serpentine m.width n)) in
+        let other = level_gap m indices n entry in
+        3 * (gap * gap) ≤ 3 * (other * other) + m.tolerance }
+    ensures passed { (strength value entry : ℕ) → value ≤ 4080 → entry < 256
+        → let gap = abs_diff (rounded_sixteenths value) entry in
+        (512 * strength ≤ passed_on strength value entry + (2 * gap + 1) * strength)
+        × (passed_on strength value entry ≤ 512 * strength + (2 * gap + 1) * strength) }
 {}
 
 /// Returns an error unless the bytes are whole rows of some pixels.

@@ -41,9 +41,10 @@ pub fn encode_refined(
     let RefinedPalette {
         colors,
         indices,
+        error,
         ..
     } = palette;
     let image = MappedImage::plain(source.pixels, source.width, &colors);
-    let indices = indices_from(alloc, &image, indices, mapping)?;
+    let indices = indices_from(alloc, &image, indices, Some(error), mapping)?;
     encode_drawing(alloc, source, &colors, &indices, form)
 }

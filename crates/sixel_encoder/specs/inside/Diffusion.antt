@@ -6,7 +6,7 @@ use Rattle.sixel_encoder.specs.declared.indices.mapped.MappedImage.{MappedImage}
 use Rattle.sixel_encoder.specs.declared.indices.diffusion.Neighbors.{Neighbors}
 use Rattle.sixel_encoder.specs.Dithering.{Mapped, HasTarget, before_share, below_share}
 use Rattle.sixel_encoder.specs.Dithering.{column_of_step, error_back, errors_of, next_share}
-use Rattle.sixel_encoder.specs.Dithering.{no_error, passed_on, received, rest_share}
+use Rattle.sixel_encoder.specs.Dithering.{passed_on, received, rest_share}
 use Rattle.sixel_encoder.specs.Dithering.{rounded_sixteenths, serpentine, target_of_visit}
 use Rattle.sixel_encoder.specs.Dithering.{visit_error, with_received}
 
@@ -15,21 +15,46 @@ abbrev pub AreVisited : Mapped → List ℕ → ℕ → Type 0
 AreVisited m indices n =
     (k : ℕ) → k < n → HasTarget m (target_of_visit m (errors_of m indices k) k) indices k
 
+-- there are four lanes, and each is that of the function
+pub record AreLanes (lanes : List ℕ) (f : ℕ → ℕ) : Type 0 where
+  pub four : length lanes ≡ 4
+  pub each : (k : ℕ) → k < 4 → slice_index lanes k ≡ f k
+
+-- the channels of four lanes, of which the last one has no meaning
+abbrev pub channels : List ℕ → List ℕ
+channels lanes = slice_index lanes 0 ∷ slice_index lanes 1 ∷ slice_index lanes 2 ∷ []
+
+-- no error is greater: that of a channel of 4080 sixteenths and an entry of 0
+abbrev pub error_limit : ℕ
+error_limit = 8176
+
+pub record AreErrors (lanes : List ℕ) : Type 0 where
+  pub four : length lanes ≡ 4
+  pub small : (k : ℕ) → slice_index lanes k ≤ error_limit
+
+-- no error in each lane
+abbrev pub no_error_lanes : ℕ → List ℕ
+no_error_lanes strength =
+    512 * strength ∷ 512 * strength ∷ 512 * strength ∷ 512 * strength ∷ []
+
 -- Before a step of a row the line has the errors of this row's earlier steps, and in the other
 -- columns those of the row above.
 pub record IsLine (m : Mapped) (errors : List (List ℕ)) (row step : ℕ) (line : List (List ℕ))
     : Type 0 where
   pub whole : length line ≡ m.width
   pub this : (j : ℕ) → j < step
-      → slice_index_or line (column_of_step m.width row j) [] ≡ error_back m errors (step - 1 - j)
+      → channels (slice_index_or line (column_of_step m.width row j) [])
+      ≡ error_back m errors (step - 1 - j)
   pub above : (j : ℕ) → step ≤ j → j < m.width
-      → slice_index_or line (column_of_step m.width row j) [] ≡ error_back m errors (step + j)
+      → channels (slice_index_or line (column_of_step m.width row j) [])
+      ≡ error_back m errors (step + j)
+  pub lanes : (k : ℕ) → k < m.width → AreErrors (slice_index_or line k [])
 
 -- the error is that above the next pixel of the row, in a line
 abbrev pub IsBeyond : Mapped → List (List ℕ) → ℕ → ℕ → List ℕ → Type 0
 IsBeyond m line row step error =
     error
-    ≡ (if step + 1 == m.width then no_error m.strength
+    ≡ (if step + 1 == m.width then no_error_lanes m.strength
     else slice_index_or line (column_of_step m.width row (step + 1)) [])
 
 -- what neighbors pass on in a channel
@@ -40,9 +65,9 @@ received_of neighbors channel =
     + below_share (slice_index neighbors.above channel)
     + rest_share (slice_index neighbors.beyond channel)
 
--- no pixel receives more, as four errors of 16 bits are below it
+-- no pixel receives more
 abbrev pub received_limit : ℕ
-received_limit = 262144
+received_limit = 8192
 
 -- these are received by the pixel of a visit
 abbrev pub AreReceived : Mapped → List (List ℕ) → ℕ → List ℕ → Type 0
@@ -52,11 +77,12 @@ AreReceived m errors n numbers =
 -- the channels of a pixel with these numbers received
 pub record AreSixteenths (image : MappedImage) (pixel : ℕ) (numbers values : List ℕ)
     : Type 0 where
+  pub four : length values ≡ 4
   pub each : (k : ℕ) → k < 3
       → slice_index values k
       ≡ with_received image.strength (slice_index image.pixels.now (4 * pixel + k))
       (slice_index numbers k)
-  pub small : (k : ℕ) → k < 3 → slice_index values k ≤ 4080
+  pub small : (k : ℕ) → slice_index values k ≤ 4080
 
 -- sixteenths as a color
 abbrev pub rounded_color : List ℕ → List ℕ
@@ -76,4 +102,5 @@ pub record IsVisit (m : Mapped) (errors : List (List ℕ)) (n : ℕ) (old new er
     : Type 0 where
   pub others : (k : ℕ) → k ≢ serpentine m.width n → slice_index new k ≡ slice_index old k
   pub target : HasTarget m (target_of_visit m errors n) new n
-  pub passed : error ≡ visit_error m new errors n
+  pub passed : channels error ≡ visit_error m new errors n
+  pub lanes : AreErrors error

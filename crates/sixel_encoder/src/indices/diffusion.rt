@@ -6,18 +6,19 @@
 ghost use Rattle.std.specs.Prelude.{◌≡◌, ℕ, ◌<◌, ◌≤◌, ◌+◌, ◌*◌, ◌/◌, IfOk, List, OnOk, length};
 ghost use Rattle.std.specs.Prelude.{slice_index};
 ghost use Rattle.sixel_palette.specs.inside.PaletteKeys.{IsSearchOf};
-ghost use Rattle.sixel_encoder.specs.Dithering.{AreMapped, errors_of, no_error, passed_on};
-ghost use Rattle.sixel_encoder.specs.Dithering.{next_share, before_share, below_share, rest_share};
-ghost use Rattle.sixel_encoder.specs.Dithering.{target_of_visit, with_received};
-ghost use Rattle.sixel_encoder.specs.inside.Diffusion.{IsLine, AreReceived, AreVisited, IsVisit};
-ghost use Rattle.sixel_encoder.specs.inside.Diffusion.{AreSixteenths, received_of, IsBeyond};
-ghost use Rattle.sixel_encoder.specs.inside.Diffusion.{color_error, received_limit, rounded_color};
+ghost use Rattle.sixel_encoder.specs.Dithering.{AreMapped, errors_of, target_of_visit};
+ghost use Rattle.sixel_encoder.specs.inside.Diffusion.{AreErrors, AreLanes, AreReceived};
+ghost use Rattle.sixel_encoder.specs.inside.Diffusion.{AreSixteenths, AreVisited, IsBeyond, IsLine};
+ghost use Rattle.sixel_encoder.specs.inside.Diffusion.{IsVisit, channels, color_error};
+ghost use Rattle.sixel_encoder.specs.inside.Diffusion.{no_error_lanes, received_limit, received_of};
+ghost use Rattle.sixel_encoder.specs.inside.Diffusion.{rounded_color};
 ghost use Rattle.sixel_encoder.specs.inside.Mapped.{AreEntries, IsMappable, IsPlace, mapped_value};
 
 use crate::band::is_opaque;
 use crate::indices::mapped::{MappedImage, Place, column_of_step};
 use sixel_palette::palette::nearest::Search;
 use std::alloc::{AllocError, Global};
+use std::simd::prelude::*;
 
 /// Returns the palette index of each pixel, whose target has the errors that it receives.
 pub fn diffused_indices(alloc: Global, image: &MappedImage<'_>) -> Result<Vec<u8>, AllocError>
@@ -39,8 +40,8 @@ pub fn diffused_indices(alloc: Global, image: &MappedImage<'_>) -> Result<Vec<u8
     Ok(indices)
 }
 
-/// An error of each channel, in sixteenths above the lowest one.
-type PixelError = [u16; 3];
+/// An error of each channel, in sixteenths above the lowest one. The fourth lane has no meaning.
+type PixelError = u16x4;
 
 impl MappedImage<'_> {
     /// Visits the pixels of a row.
@@ -87,9 +88,8 @@ impl MappedImage<'_> {
                 above,
                 beyond: self.error_beyond(line, row, step),
             };
-            let error = self.visit(indices, search, place, neighbors.received())?;
-            line[column] = error;
-            before = error;
+            self.visit(indices, search, place, neighbors.received(), &mut before)?;
+            line[column] = before;
             behind = above;
         }
         Ok(())
@@ -110,82 +110,86 @@ impl MappedImage<'_> {
         }
     }
 
-    /// Stores the index of a place that receives these numbers, and returns its error.
+    /// Stores the index and the error of a place that receives these numbers.
     #[inline(always)]
     fn visit(
         &self,
         indices: &mut [u8],
         search: &mut Search,
         place: Place,
-        received: [u32; 3],
-    ) -> Result<PixelError, AllocError>
+        received: u16x4,
+        error: &mut PixelError,
+    ) -> Result<(), AllocError>
         requires image { IsMappable self.now }
         requires indices { length indices.old ≡ length self.now.pixels.now / 4 }
         requires entries { AreEntries self.now.colors.now indices.old }
         requires place { IsPlace (mapped_value self.now) place }
-        requires small { (k : ℕ) → k < 3 → slice_index received k ≤ received_limit }
+        requires four { length received ≡ 4 }
+        requires small { (k : ℕ) → slice_index received k ≤ received_limit }
         requires search { IsSearchOf self.now.colors.now search.old }
         ensures indices { OnOk result (length indices.new ≡ length self.now.pixels.now / 4) }
         ensures entries { OnOk result (AreEntries self.now.colors.now indices.new) }
-        ensures visit { IfOk result (λ error. (errors : List (List ℕ))
+        ensures visit { OnOk result ((errors : List (List ℕ))
             → AreReceived (mapped_value self.now) errors
             (place.row * self.now.width + place.step) received
             → IsVisit (mapped_value self.now) errors (place.row * self.now.width + place.step)
-            indices.old indices.new error) }
+            indices.old indices.new error.new) }
         ensures search { OnOk result (IsSearchOf self.now.colors.now search.new) }
     {
         if !is_opaque(self.pixels, place.pixel) {
             indices[place.pixel] = 0;
-            return Ok(self.no_error());
+            *error = self.no_error();
+            return Ok(());
         }
         let values = self.sixteenths(place.pixel, received);
         let target = rounded(values);
         let kept = self.kept(indices, place, target);
         let index = self.index_of(search, kept, target)?;
         indices[place.pixel] = index;
-        Ok(self.error(values, self.colors[usize::from(index)]))
+        *error = self.error(values, self.colors[usize::from(index)]);
+        Ok(())
     }
 
     /// Returns the channels of a pixel with what it receives, in sixteenths.
     #[inline(always)]
-    fn sixteenths(&self, pixel: usize, received: [u32; 3]) -> [u32; 3]
+    fn sixteenths(&self, pixel: usize, received: u16x4) -> u16x4
         requires strength { self.now.strength ≤ 8 }
         requires pixel { pixel < length self.now.pixels.now / 4 }
-        requires small { (k : ℕ) → k < 3 → slice_index received k ≤ received_limit }
+        requires four { length received ≡ 4 }
+        requires small { (k : ℕ) → slice_index received k ≤ received_limit }
         ensures { AreSixteenths self.now pixel received result }
     {
-        let strength = u32::from(self.strength);
-        let at = 4 * pixel;
-        [
-            with_received(strength, self.pixels[at], received[0]),
-            with_received(strength, self.pixels[at + 1], received[1]),
-            with_received(strength, self.pixels[at + 2], received[2]),
-        ]
+        let none = u16x4::splat(512 * u16::from(self.strength));
+        let color = color_lanes(self.pixels, pixel);
+        let sum = color * u16x4::splat(16) + received;
+        let value = sum.saturating_sub(none);
+        let above = value.saturating_sub(u16x4::splat(4080));
+        value - above
     }
 
     /// Returns what an opaque pixel of these sixteenths passes on if it has this entry.
     #[inline(always)]
-    fn error(&self, values: [u32; 3], entry: [u8; 3]) -> PixelError
+    fn error(&self, values: u16x4, entry: [u8; 3]) -> PixelError
         requires strength { self.now.strength ≤ 8 }
-        requires small { (k : ℕ) → k < 3 → slice_index values k ≤ 4080 }
-        ensures { result ≡ color_error self.now.strength values entry }
+        requires four { length values ≡ 4 }
+        requires values { (k : ℕ) → slice_index values k ≤ 4080 }
+        ensures value { channels result ≡ color_error self.now.strength values entry }
+        ensures lanes { AreErrors result }
     {
-        let strength = u32::from(self.strength);
-        [
-            passed_on(strength, values[0], entry[0]),
-            passed_on(strength, values[1], entry[1]),
-            passed_on(strength, values[2], entry[2]),
-        ]
+        let color = u8x4::from_array([entry[0], entry[1], entry[2], 0]).cast::<u16>();
+        let gap = values + u16x4::splat(4096) - color * u16x4::splat(16);
+        let strength = u16x4::splat(u16::from(self.strength));
+        (gap * strength) >> u16x4::splat(3)
     }
 
     /// Returns the error of a pixel that passes nothing on.
     #[inline(always)]
     fn no_error(&self) -> PixelError
         requires { self.now.strength ≤ 8 }
-        ensures { result ≡ no_error self.now.strength }
+        ensures value { result ≡ no_error_lanes self.now.strength }
+        ensures lanes { AreErrors result }
     {
-        let none = 512 * u16::from(self.strength);
-        [none, none, none]
+        u16x4::splat(512 * u16::from(self.strength))
     }
 }
 
@@ -205,71 +209,51 @@ pub struct Neighbors {
 impl Neighbors {
     /// Returns what the pixel receives in each channel.
     #[inline(always)]
-    fn received(&self) -> [u32; 3]
+    fn received(&self) -> u16x4
+        requires before { AreErrors self.now.before }
+        requires behind { AreErrors self.now.behind }
+        requires above { AreErrors self.now.above }
+        requires beyond { AreErrors self.now.beyond }
+        ensures four { length result ≡ 4 }
         ensures value { (k : ℕ) → k < 3 → slice_index result k ≡ received_of self.now k }
-        ensures small { (k : ℕ) → k < 3 → slice_index result k ≤ received_limit }
+        ensures small { (k : ℕ) → slice_index result k ≤ received_limit }
     {
-        let Neighbors {
-            before,
-            behind,
-            above,
-            beyond,
-        } = *self;
-        [
-            sum_of_shares(before[0], behind[0], above[0], beyond[0]),
-            sum_of_shares(before[1], behind[1], above[1], beyond[1]),
-            sum_of_shares(before[2], behind[2], above[2], beyond[2]),
-        ]
+        let next = share(self.before, 7);
+        let below_before = share(self.behind, 3);
+        let below = share(self.above, 5);
+        let whole = self.beyond;
+        let rest = whole - share(whole, 7) - share(whole, 3) - share(whole, 5);
+        next + below_before + below + rest
     }
 }
 
-/// Returns the sum of the shares that a pixel gets of its neighbors' errors, in one channel.
+/// Returns the bytes of a pixel: its channels, and then its alpha.
 #[inline(always)]
-fn sum_of_shares(before: u16, behind: u16, above: u16, beyond: u16) -> u32
-    ensures value { result
-        ≡ next_share before + before_share behind + below_share above + rest_share beyond }
-    ensures small { result ≤ received_limit }
+fn color_lanes(pixels: &[u8], pixel: usize) -> u16x4
+    requires { pixel < length pixels.now / 4 }
+    ensures value { AreLanes result (λ k. slice_index pixels.now (4 * pixel + k)) }
+    ensures small { (k : ℕ) → k < 4 → slice_index result k < 256 }
 {
-    let next = 7 * u32::from(before) / 16;
-    let below_before = 3 * u32::from(behind) / 16;
-    let below = 5 * u32::from(above) / 16;
-    let whole = u32::from(beyond);
-    let rest = whole - 7 * whole / 16 - 3 * whole / 16 - 5 * whole / 16;
-    next + below_before + below + rest
+    u8x4::from_slice(&pixels[4 * pixel..]).cast::<u16>()
 }
 
-/// Returns a channel with what is received, in sixteenths from 0 to 16 * 255.
+/// Returns `part` sixteenths of an error.
 #[inline(always)]
-fn with_received(strength: u32, value: u8, received: u32) -> u32
-    requires strength { strength ≤ 8 }
-    requires small { received ≤ received_limit }
-    ensures value { result ≡ with_received strength value received }
-    ensures small { result ≤ 4080 }
+fn share(error: u16x4, part: u16) -> u16x4
+    requires error { AreErrors error }
+    requires part { part ≤ 7 }
+    ensures { AreLanes result (λ k. part * slice_index error k / 16) }
 {
-    (16 * u32::from(value) + received)
-        .saturating_sub(512 * strength)
-        .min(4080)
+    (error * u16x4::splat(part)) >> u16x4::splat(4)
 }
 
 /// Returns sixteenths as a color, rounded half up.
 #[inline(always)]
-fn rounded(values: [u32; 3]) -> [u8; 3]
-    requires { (k : ℕ) → k < 3 → slice_index values k ≤ 4080 }
+fn rounded(values: u16x4) -> [u8; 3]
+    requires four { length values ≡ 4 }
+    requires small { (k : ℕ) → slice_index values k ≤ 4080 }
     ensures { result ≡ rounded_color values }
 {
-    [
-        ((values[0] + 8) / 16) as u8,
-        ((values[1] + 8) / 16) as u8,
-        ((values[2] + 8) / 16) as u8,
-    ]
-}
-
-/// Returns what is passed on in one channel.
-#[inline(always)]
-fn passed_on(strength: u32, value: u32, entry: u8) -> u16
-    requires strength { strength ≤ 8 }
-    requires value { value ≤ 4080 }
-    ensures { result ≡ passed_on strength value entry }
-{
-    ((value + 4096 - 16 * u32::from(entry)) * strength / 8) as u16
+    let color = ((values + u16x4::splat(8)) >> u16x4::splat(4)).to_array();
+    [color[0] as u8, color[1] as u8, color[2] as u8]
 }

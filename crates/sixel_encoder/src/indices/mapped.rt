@@ -1,7 +1,8 @@
 //! An image that is mapped to a palette, and the entries of neighbors that its pixels may keep.
 
-ghost use Rattle.std.specs.Prelude.{◌≡◌, ◌+◌, ◌*◌, ◌/◌, ◌<◌, ◌≤◌, ℕ, IfOk, OnOk, Option, length};
-ghost use Rattle.sixel_palette.specs.Palette.{IsNearest, color_at};
+ghost use Rattle.std.specs.Prelude.{◌≡◌, ◌+◌, ◌*◌, ◌/◌, ◌<◌, ◌≤◌, ℕ, IfOk, List, OnOk, Option};
+ghost use Rattle.std.specs.Prelude.{length};
+ghost use Rattle.sixel_palette.specs.Palette.{IsNearest, color_at, nearest};
 ghost use Rattle.sixel_palette.specs.inside.PaletteKeys.{IsSearchOf};
 ghost use Rattle.sixel_encoder.specs.Dithering.{IsIndex, column_of_step, entry_above};
 ghost use Rattle.sixel_encoder.specs.Dithering.{entry_before, entry_of, neighbor_of};
@@ -11,6 +12,7 @@ ghost use Rattle.sixel_encoder.specs.inside.Mapped.{IsPlace, IsPlain, kept_value
 use crate::band::is_opaque;
 use sixel_palette::palette::distance::distance;
 use sixel_palette::palette::nearest::Search;
+use sixel_palette::palette::nearest_entry::NearestEntry;
 use std::alloc::AllocError;
 
 /// An image that is mapped to a palette.
@@ -114,25 +116,26 @@ impl MappedImage<'_> {
         if kept.squared < self.tolerance {
             return Ok(kept.index);
         }
-        let nearest = search.index_of(target)?;
+        let near = search.nearest_to(target)?;
         if self.tolerance == 0 {
-            return Ok(nearest);
+            return Ok(near.index);
         }
-        Ok(self.chosen(kept, nearest, target))
+        Ok(self.chosen(kept, near))
     }
 
     /// Returns the index of the entry that is kept, or the nearest one.
     #[inline(always)]
-    pub fn chosen(&self, kept: Kept, nearest: u8, target: [u8; 3]) -> u8
-        requires { IsNearest self.now.colors.now target nearest }
-        ensures { (neighbor : Option ℕ) → IsKept (mapped_value self.now) target neighbor kept
+    pub fn chosen(&self, kept: Kept, near: NearestEntry) -> u8
+        ensures { (target : List ℕ) (neighbor : Option ℕ)
+            → IsNearest self.now.colors.now target near.index
+            → near.squared ≡ nearest self.now.colors.now target
+            → IsKept (mapped_value self.now) target neighbor kept
             → IsIndex (mapped_value self.now) target neighbor result }
     {
-        let squared = distance(self.colors[usize::from(nearest)], target);
-        if kept.squared < squared.saturating_add(self.tolerance) {
+        if kept.squared < near.squared.saturating_add(self.tolerance) {
             kept.index
         } else {
-            nearest
+            near.index
         }
     }
 
@@ -151,6 +154,9 @@ impl MappedImage<'_> {
             return NONE;
         }
         let before = self.entry_before(indices, place, target);
+        if before.squared == 0 {
+            return before;
+        }
         let above = self.entry_above(indices, place, target);
         if above.squared < before.squared {
             above

@@ -2,8 +2,9 @@
 
 ghost use Rattle.std.specs.Prelude.{◌≡◌, ◌*◌, ◌/◌, ◌≤◌, max};
 ghost use Rattle.sixel_palette.specs.Palette.{AreIndices, no_entry};
+ghost use Rattle.sixel_palette.specs.Refined.{opaque_pixels, summed_error};
 ghost use Rattle.sixel_encoder.specs.Dithering.{amplitude_of, root, tolerance_of};
-ghost use Rattle.sixel_encoder.specs.inside.PaletteError.{IsErrorOf};
+ghost use Rattle.sixel_encoder.specs.inside.PaletteError.{IsErrorOf, IsKnown};
 
 use crate::band::is_opaque;
 use crate::dither::Amplitude;
@@ -19,14 +20,20 @@ struct PaletteError {
 }
 
 /// Returns the tolerance for the palette of an image.
-pub fn tolerance_of(image: &MappedImage<'_>, nearest: &[u8], tolerance: Tolerance) -> u32
-    requires { AreIndices image.now.pixels.now image.now.colors.now nearest.now }
+pub fn tolerance_of(
+    image: &MappedImage<'_>,
+    nearest: &[u8],
+    known: Option<u64>,
+    tolerance: Tolerance,
+) -> u32
+    requires nearest { AreIndices image.now.pixels.now image.now.colors.now nearest.now }
+    requires known { IsKnown image.now.colors.now image.now.pixels.now known }
     ensures { result ≡ tolerance_of tolerance image.now.colors.now image.now.pixels.now }
 {
     match tolerance {
         Tolerance::Squared(squared) => squared,
         Tolerance::Auto => {
-            let error = palette_error(image, nearest);
+            let error = palette_error(image, nearest, known);
             if error.sum == 0 {
                 0
             } else {
@@ -37,30 +44,64 @@ pub fn tolerance_of(image: &MappedImage<'_>, nearest: &[u8], tolerance: Toleranc
 }
 
 /// Returns the amplitude for the palette of an image.
-pub fn amplitude_of(image: &MappedImage<'_>, nearest: &[u8], amplitude: Amplitude) -> u8
-    requires { AreIndices image.now.pixels.now image.now.colors.now nearest.now }
+pub fn amplitude_of(
+    image: &MappedImage<'_>,
+    nearest: &[u8],
+    known: Option<u64>,
+    amplitude: Amplitude,
+) -> u8
+    requires nearest { AreIndices image.now.pixels.now image.now.colors.now nearest.now }
+    requires known { IsKnown image.now.colors.now image.now.pixels.now known }
     ensures { result ≡ amplitude_of amplitude image.now.colors.now image.now.pixels.now }
 {
     match amplitude {
         Amplitude::Levels(levels) => levels,
-        Amplitude::Auto => root(palette_error(image, nearest).mean()),
+        Amplitude::Auto => root(palette_error(image, nearest, known).mean()),
     }
 }
 
-/// Returns the error of the palette, from the indices of the pixels' nearest entries.
-fn palette_error(image: &MappedImage<'_>, nearest: &[u8]) -> PaletteError
-    requires { AreIndices image.now.pixels.now image.now.colors.now nearest.now }
+/// Returns the error of the palette.
+fn palette_error(image: &MappedImage<'_>, nearest: &[u8], known: Option<u64>) -> PaletteError
+    requires nearest { AreIndices image.now.pixels.now image.now.colors.now nearest.now }
+    requires known { IsKnown image.now.colors.now image.now.pixels.now known }
     ensures { IsErrorOf image.now.colors.now image.now.pixels.now result }
 {
-    let mut error = PaletteError { sum: 0, pixels: 0 };
+    PaletteError {
+        sum: summed_error(image, nearest, known),
+        pixels: opaque_pixels(image.pixels),
+    }
+}
+
+/// Returns the summed squared error of the palette, which may be known.
+fn summed_error(image: &MappedImage<'_>, nearest: &[u8], known: Option<u64>) -> u128
+    requires nearest { AreIndices image.now.pixels.now image.now.colors.now nearest.now }
+    requires known { IsKnown image.now.colors.now image.now.pixels.now known }
+    ensures { result ≡ summed_error image.now.colors.now image.now.pixels.now }
+{
+    if let Some(sum) = known {
+        return u128::from(sum);
+    }
+    let mut sum = 0;
     for pixel in 0..nearest.len() {
         if is_opaque(image.pixels, pixel) {
             let entry = image.colors[usize::from(nearest[pixel])];
-            error.sum += u128::from(distance(entry, image.color(pixel)));
-            error.pixels += 1;
+            sum += u128::from(distance(entry, image.color(pixel)));
         }
     }
-    error
+    sum
+}
+
+/// Returns the number of opaque pixels.
+fn opaque_pixels(pixels: &[u8]) -> u64
+    ensures { result ≡ opaque_pixels pixels.now (λ _. 1) }
+{
+    let mut count = 0;
+    for pixel in 0..pixels.len() / 4 {
+        if is_opaque(pixels, pixel) {
+            count += 1;
+        }
+    }
+    count
 }
 
 impl PaletteError {

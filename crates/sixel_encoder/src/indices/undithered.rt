@@ -8,6 +8,8 @@ ghost use Rattle.sixel_encoder.specs.inside.Mapped.{IsPlace, mapped_value};
 
 use crate::band::is_opaque;
 use crate::indices::mapped::{MappedImage, Place, column_of_step};
+use sixel_palette::palette::distance::distance;
+use sixel_palette::palette::nearest_entry::NearestEntry;
 
 /// Returns the palette index of each pixel, from the indices of their nearest entries.
 pub fn keep_entries(image: &MappedImage<'_>, nearest: Vec<u8>) -> Vec<u8>
@@ -52,7 +54,11 @@ impl MappedImage<'_> {
         }
         let target = self.color(place.pixel);
         let kept = self.kept(indices, place, target);
-        self.chosen(kept, nearest, target)
+        let near = NearestEntry {
+            squared: distance(self.colors[usize::from(nearest)], target),
+            index: nearest,
+        };
+        self.chosen(kept, near)
     }
 
     /// Returns whether the pixel before a step is opaque and has this index.

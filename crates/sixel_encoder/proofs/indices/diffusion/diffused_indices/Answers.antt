@@ -1,6 +1,5 @@
-use Rattle.std.proofs.Common.{◌≡◌, ◌+◌, ◌*◌, ◌++◌, ℕ, List, length, take, drop, ap, sym, ◌∙◌, arith}
+use Rattle.std.proofs.Common.{◌≡◌, ◌+◌, ◌*◌, ◌++◌, ℕ, List, length, take, drop, ap, arith}
 use Rattle.std.specs.Prelude.{◌/◌}
-use Rattle.std.proofs.lemmas.Grind.{same_number_lists}
 use Rattle.std.proofs.lemmas.List.{take_at}
 use Rattle.sixel_encoder.specs.inside.Mapped.{mapped_value}
 use Rattle.sixel_encoder.proofs.DiffusionErrors.{IsLine-none}
@@ -26,11 +25,9 @@ loop-row-init c =
       visited = λ k l. absurd (omega arith);
       line =
           rw none (IsLine-none m c.in_ok-indices.indices.items line.line.items
-          (rw c.no_error.ensures at (line.ensures.items_if_clones_equal
-          (λ error clone.
-          same_number_lists error c.no_error.result
-          (clone.long ∙ sym (ap length c.no_error.ensures))
-          (λ k l. clone.at k 0 0 (omega (arith, clone.long, l)))))));
+          (rw c.no_error.ensures.value at (line.ensures.items_if_clones_equal
+          (λ error clone. clone)))
+          (rw c.no_error.ensures.value at c.no_error.ensures.lanes));
       search = c.in_ok-search.ensures;
     }
 

@@ -3,12 +3,12 @@ use Rattle.std.specs.Prelude.{ℕ}
 use Rattle.std.proofs.lemmas.Nat.{mod-mul-add}
 use Rattle.sixel_encoder.specs.declared.indices.diffusion.Neighbors.{Neighbors}
 use Rattle.sixel_encoder.specs.Dithering.{column_of_step, error_above, error_beyond, errors_of}
-use Rattle.sixel_encoder.specs.inside.Diffusion.{AreVisited, IsLine}
+use Rattle.sixel_encoder.specs.inside.Diffusion.{AreVisited, IsLine, channels}
 use Rattle.sixel_encoder.specs.inside.Mapped.{mapped_value}
 use Rattle.sixel_encoder.proofs.DiffusionErrors.{AreVisited-more, IsLine-more, IsLine-next_row}
 use Rattle.sixel_encoder.proofs.DiffusionErrors.{errors_of-more}
 use Rattle.sixel_encoder.proofs.DiffusionVisit.{AreReceived-neighbors, above-line, before-more}
-use Rattle.sixel_encoder.proofs.DiffusionVisit.{behind-more, beyond-line}
+use Rattle.sixel_encoder.proofs.DiffusionVisit.{behind-more, beyond-line, beyond-lanes}
 use Rattle.sixel_encoder.proofs.Serpentine.{serpentine-step}
 use Rattle.sixel_encoder.proofs.indices.mapped.MappedImage.diffuse_row.Goals as goal
 
@@ -21,8 +21,10 @@ loop-step-init c =
       entries = c.requires.entries;
       visited = rw none c.requires.visited;
       line = rw none c.requires.line;
-      before = c.no_error-before.ensures;
-      behind = c.no_error-behind.ensures;
+      before = ap channels c.no_error-before.ensures.value;
+      behind = ap channels c.no_error-behind.ensures.value;
+      lanes_before = c.no_error-before.ensures.lanes;
+      lanes_behind = c.no_error-behind.ensures.lanes;
       search = c.requires.search;
     }
 
@@ -36,15 +38,15 @@ loop-step-preserved c =
     let old = c.loop-step.indices in
     let new = c.visit.new.indices in
     let line = c.loop-step.line in
-    let error = c.in_ok-error.error in
+    let error = c.visit.new.error in
     let errors = errors_of m old n in
     let h = c.loop-step.invariant in
     let inside : step < width = c.loop-step-test.true in
     let column = c.column_of_step-column.result in
     let same : column ≡ column_of_step width row step = c.column_of_step-column.ensures.value in
-    let above : get_or line column [] ≡ error_above m errors step =
-    ap (λ k. get_or line k []) same ∙ above-line m errors line row step inside h.line in
-    let beyond : c.error_beyond.result ≡ error_beyond m errors step =
+    let above : channels (get_or line column []) ≡ error_above m errors step =
+    ap (λ k. channels (get_or line k [])) same ∙ above-line m errors line row step inside h.line in
+    let beyond : channels c.error_beyond.result ≡ error_beyond m errors step =
     beyond-line m errors line row step c.error_beyond.result inside h.line
     c.error_beyond.ensures in
     let neighbors : Neighbors = record {
@@ -54,24 +56,26 @@ loop-step-preserved c =
       beyond = c.error_beyond.result;
     } in
     let visit =
-    c.in_ok-error.ensures.visit errors
+    c.in_ok-visit.ensures.visit errors
     (AreReceived-neighbors m errors n step neighbors c.received.result
     (mod-mul-add row width step inside) h.before h.behind above beyond
     c.received.ensures.value) in
     let next : row * width + (step + 1) ≡ n + 1 = omega arith in
-    let more : errors_of m new (row * width + (step + 1)) ≡ error ∷ errors =
+    let more : errors_of m new (row * width + (step + 1)) ≡ channels error ∷ errors =
     ap (errors_of m new) next
     ∙ errors_of-more m old new error n c.requires.image.whole.wide visit in
     record {
-      size = c.in_ok-error.ensures.indices;
-      entries = c.in_ok-error.ensures.entries;
+      size = c.in_ok-visit.ensures.indices;
+      entries = c.in_ok-visit.ensures.entries;
       visited =
           rw next
           (AreVisited-more m old new error n c.requires.image.whole.wide h.visited visit);
-      line = rw (more, same) (IsLine-more m errors line row step error inside h.line);
-      before = rw more (before-more m errors step error);
-      behind = rw more (above ∙ behind-more m errors step error);
-      search = c.in_ok-error.ensures.search;
+      line = rw (more, same) (IsLine-more m errors line row step error inside visit.lanes h.line);
+      before = rw more (before-more m errors step (channels error));
+      behind = rw more (above ∙ behind-more m errors step (channels error));
+      lanes_before = visit.lanes;
+      lanes_behind = h.line.lanes column c.column_of_step-column.ensures.within;
+      search = c.in_ok-visit.ensures.search;
     }
 
 pub returns-clause-line : goal.returns-clause-line
@@ -106,6 +110,27 @@ error_beyond-requires-clause-image c = c.requires.image
 pub error_beyond-requires-clause-line : goal.error_beyond-requires-clause-line
 error_beyond-requires-clause-line c = c.loop-step.invariant.line.whole
 
+pub received-requires-clause-before : goal.received-requires-clause-before
+received-requires-clause-before c = c.loop-step.invariant.lanes_before
+
+pub received-requires-clause-behind : goal.received-requires-clause-behind
+received-requires-clause-behind c = c.loop-step.invariant.lanes_behind
+
+pub received-requires-clause-above : goal.received-requires-clause-above
+received-requires-clause-above c =
+    c.loop-step.invariant.line.lanes c.column_of_step-column.result
+    c.column_of_step-column.ensures.within
+
+pub received-requires-clause-beyond : goal.received-requires-clause-beyond
+received-requires-clause-beyond c =
+    let m = mapped_value c.args.self.now in
+    let row = c.args.row in
+    let step = c.loop-step.step in
+    beyond-lanes m (errors_of m c.loop-step.indices (row * m.width + step)) c.loop-step.line row
+    step c.error_beyond.result c.loop-step-test.true
+    (rw c.no_error-before.ensures.value at c.no_error-before.ensures.lanes)
+    c.loop-step.invariant.line c.error_beyond.ensures
+
 pub visit-requires-clause-image : goal.visit-requires-clause-image
 visit-requires-clause-image c = c.requires.image
 
@@ -134,6 +159,9 @@ returns-clause-entries c = c.loop-step.invariant.entries
 
 pub visit-requires-clause-small : goal.visit-requires-clause-small
 visit-requires-clause-small c = c.received.ensures.small
+
+pub visit-requires-clause-four : goal.visit-requires-clause-four
+visit-requires-clause-four c = c.received.ensures.four
 
 pub visit-requires-clause-search : goal.visit-requires-clause-search
 visit-requires-clause-search c = c.loop-step.invariant.search

@@ -2,7 +2,7 @@ use Rattle.std.proofs.Common.{◌≡◌, ◌+◌, ◌*◌, length}
 use Rattle.std.specs.Prelude.{◌/◌}
 use Rattle.sixel_palette.specs.inside.PaletteKeys.{IsSearchOf}
 use Rattle.sixel_encoder.specs.Dithering.{error_before, error_behind, errors_of}
-use Rattle.sixel_encoder.specs.inside.Diffusion.{AreVisited, IsLine}
+use Rattle.sixel_encoder.specs.inside.Diffusion.{AreErrors, AreVisited, IsLine, channels}
 use Rattle.sixel_encoder.specs.inside.Mapped.{AreEntries, mapped_value}
 use Rattle.sixel_encoder.proofs.indices.mapped.MappedImage.diffuse_row.Given as goal
 
@@ -14,11 +14,13 @@ invariant-loop-step l = record {
   line : IsLine (mapped_value l.self)
       (errors_of (mapped_value l.self) l.indices (l.row * l.self.width + l.step)) l.row l.step
       l.line;
-  before : l.before
+  before : channels l.before
       ≡ error_before (mapped_value l.self)
       (errors_of (mapped_value l.self) l.indices (l.row * l.self.width + l.step)) l.step;
-  behind : l.behind
+  behind : channels l.behind
       ≡ error_behind (mapped_value l.self)
       (errors_of (mapped_value l.self) l.indices (l.row * l.self.width + l.step)) l.step;
+  lanes_before : AreErrors l.before;
+  lanes_behind : AreErrors l.behind;
   search : IsSearchOf l.self.colors.now l.search;
 }

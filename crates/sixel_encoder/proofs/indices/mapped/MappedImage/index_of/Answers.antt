@@ -12,8 +12,8 @@ returns-then-kept-self-clause-index c = λ neighbor is.
 pub returns-then-self-eq0-clause-index : goal.returns-then-self-eq0-clause-index
 returns-then-self-eq0-clause-index c = λ neighbor is.
     let m = mapped_value c.args.self.now in
-    let near = c.in_ok-nearest.ensures.nearest m.colors c.requires.some c.requires.search in
-    IsIndex-far m c.args.target neighbor c.args.kept c.in_ok-nearest.nearest is near
+    let near = c.in_ok-near.ensures.nearest m.colors c.requires.some c.requires.search in
+    IsIndex-far m c.args.target neighbor c.args.kept c.in_ok-near.near.index is near
     (λ some.
     let (same, inside, at) = is.some some in
     omega (
@@ -22,3 +22,10 @@ returns-then-self-eq0-clause-index c = λ neighbor is.
       c.if-self-eq0.true,
       nearest-le m.colors c.args.target c.args.kept.index [] inside,
     ))
+
+pub returns-clause-index : goal.returns-clause-index
+returns-clause-index c = λ neighbor is.
+    let colors = c.args.self.now.colors.now in
+    c.chosen.ensures c.args.target neighbor
+    (c.in_ok-near.ensures.nearest colors c.requires.some c.requires.search)
+    (c.in_ok-near.ensures.squared colors c.requires.search) is

@@ -1,10 +1,11 @@
-use Rattle.std.proofs.Common.{refl, sym, subst}
+use Rattle.std.proofs.Common.{◌≡◌, ◌∙◌, ap, arith, refl, sym, subst}
 use Rattle.std.specs.Prelude.{List, Option, ℕ, ◌+◌, ◌*◌, ◌<◌, slice_index}
 use Rattle.sixel_palette.specs.Palette.{IsNearest, IsOpaque, color_at}
-use Rattle.sixel_encoder.specs.Dithering.{IsIndex, entry_above, nearer_entry, neighbor_of}
+use Rattle.sixel_encoder.specs.Dithering.{IsIndex, entry_above, entry_distance, nearer_entry}
+use Rattle.sixel_encoder.specs.Dithering.{neighbor_of}
 use Rattle.sixel_encoder.specs.inside.Mapped.{mapped_value}
 use Rattle.sixel_encoder.proofs.DitheredIndices.{IsIndexAt-dark, IsIndexAt-light}
-use Rattle.sixel_encoder.proofs.KeptEntries.{IsIndex-before, above-inside}
+use Rattle.sixel_encoder.proofs.KeptEntries.{IsIndex-before, above-inside, nearest-distance}
 use Rattle.sixel_encoder.proofs.indices.mapped.MappedImage.kept_index.Goals as goal
 
 pub returns-then-not-is_opaque : goal.returns-then-not-is_opaque
@@ -41,23 +42,24 @@ pub returns : goal.returns
 returns c =
     let m = mapped_value c.args.self.now in
     let n = c.args.place.row * m.width + c.args.place.step in
-    IsIndexAt-light m (color_at m.pixels c.args.place.pixel) c.args.indices.now n
-    c.chosen.result
-    (subst (IsOpaque m.pixels) (sym c.requires.place.pixel)
-    (c.is_opaque.ensures.opaque c.if-not-is_opaque.false))
-    (subst (λ (t : List ℕ). IsIndex m t (neighbor_of m t c.args.indices.now n) c.chosen.result)
-    c.color-target.ensures
-    (c.chosen.ensures (neighbor_of m c.color-target.result c.args.indices.now n)
-    c.kept-kept.ensures))
-
-pub chosen-requires : goal.chosen-requires
-chosen-requires c =
-    let m = mapped_value c.args.self.now in
+    let target = c.color-target.result in
+    let index = slice_index c.args.indices.now c.args.place.pixel in
     let light =
     subst (IsOpaque m.pixels) (sym c.requires.place.pixel)
     (c.is_opaque.ensures.opaque c.if-not-is_opaque.false) in
-    subst (λ (t : List ℕ). IsNearest m.colors t (slice_index c.args.indices.now c.args.place.pixel))
-    (sym c.color-target.ensures)
+    let near =
+    subst (λ (t : List ℕ). IsNearest m.colors t index) (sym c.color-target.ensures)
     (subst
     (λ (p : ℕ). IsNearest m.colors (color_at m.pixels p) (slice_index c.args.indices.now p))
-    c.requires.place.pixel (c.requires.nearest.opaque light))
+    c.requires.place.pixel (c.requires.nearest.opaque light)) in
+    let at : c.distance.result ≡ entry_distance m.colors target index =
+    c.distance.ensures.value ∙ ap (entry_distance m.colors target) c.from.ensures in
+    let least =
+    at
+    ∙ nearest-distance m.colors target index near (omega (arith, at, c.distance.ensures.small)) in
+    IsIndexAt-light m (color_at m.pixels c.args.place.pixel) c.args.indices.now n
+    c.chosen.result light
+    (subst (λ (t : List ℕ). IsIndex m t (neighbor_of m t c.args.indices.now n) c.chosen.result)
+    c.color-target.ensures
+    (c.chosen.ensures target (neighbor_of m target c.args.indices.now n) near least
+    c.kept-kept.ensures))

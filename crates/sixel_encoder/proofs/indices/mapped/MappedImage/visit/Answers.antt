@@ -2,7 +2,7 @@ use Rattle.std.proofs.Common.{[], ap, set, sym, subst, ◌∙◌, arith, ◌≡�
 use Rattle.std.specs.Prelude.{List, ℕ, ◌+◌, ◌*◌, ◌<◌, slice_index, slice_index_or}
 use Rattle.sixel_palette.specs.Palette.{IsOpaque}
 use Rattle.sixel_encoder.specs.Dithering.{IsIndex, neighbor_of, target_of_visit}
-use Rattle.sixel_encoder.specs.inside.Diffusion.{IsVisit, color_error}
+use Rattle.sixel_encoder.specs.inside.Diffusion.{IsVisit, channels, color_error}
 use Rattle.sixel_encoder.specs.inside.Mapped.{mapped_value}
 use Rattle.sixel_encoder.proofs.DiffusionVisit.{IsVisit-set, error-visit, target-visit}
 use Rattle.sixel_encoder.proofs.DitheredIndices.{AreEntries-set, IsIndexAt-dark, IsIndexAt-light}
@@ -21,7 +21,8 @@ returns-then-not-is_opaque-clause-visit c = λ errors received.
     (IsVisit-set m errors n 0 old c.no_error.result c.requires.image.whole.wide
     (omega (arith, place.pixel, place.within, c.requires.indices))
     (IsIndexAt-dark m (target_of_visit m errors n) old n c.requires.image.some dark)
-    (λ light. absurd (omega (arith, light, dark))) (λ _. c.no_error.ensures))
+    (λ light. absurd (omega (arith, light, dark))) (λ _. ap channels c.no_error.ensures.value)
+    c.no_error.ensures.lanes)
 
 pub returns-then-not-is_opaque-clause-entries : goal.returns-then-not-is_opaque-clause-entries
 returns-then-not-is_opaque-clause-entries c =
@@ -62,7 +63,7 @@ returns-clause-visit c = λ errors received.
     (c.in_ok-index.ensures.index (neighbor_of m c.rounded-target.result old n)
     c.kept-kept.ensures) in
     let error =
-    c.error.ensures
+    c.error.ensures.value
     ∙ (ap (λ k. color_error image.strength values (slice_index_or image.colors.now k []))
     c.from.ensures
     ∙ error-visit image errors n c.args.place.pixel numbers values
@@ -71,4 +72,4 @@ returns-clause-visit c = λ errors received.
     (IsVisit-set m errors n index old c.error.result c.requires.image.whole.wide
     (omega (arith, place.pixel, place.within, c.requires.indices))
     (IsIndexAt-light m target old n index light is) (λ _. error)
-    (λ dark. absurd (omega (arith, light, dark))))
+    (λ dark. absurd (omega (arith, light, dark))) c.error.ensures.lanes)

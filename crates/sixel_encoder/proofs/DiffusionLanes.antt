@@ -1,0 +1,138 @@
+-- Four lanes of 16 bits as a function of the lane, after each operation, where none of them wraps.
+use Rattle.std.proofs.Common.{◌≡◌, ℕ, zero, suc, ◌+◌, ◌-◌, ◌*◌, ◌/◌, ◌^◌, ◌%◌, ◌<◌, ◌≤◌, max, cond}
+use Rattle.std.proofs.Common.{true, false, List, [], ◌∷◌, length, map, get_or, take, drop, nat_lt}
+use Rattle.std.proofs.Common.{refl, sym, ap, ◌∙◌, inl, inr, w16, arith}
+use Rattle.std.proofs.lemmas.Bool.{cases_lt}
+use Rattle.std.proofs.lemmas.Bool.Decides.{nat_tests}
+use Rattle.std.proofs.lemmas.List.{get_or-map, get_or_past, length-map}
+use Rattle.std.proofs.lemmas.Simd.{length-zip2, get_or-zip2, get_or-replicate, length-sel_l}
+use Rattle.std.proofs.lemmas.Simd.{get_or-sel_l, tops_compared, get_or-chunk, length-chunk}
+use lib.Lanes.{sel_l, top, zip2}
+use Rattle.sixel_encoder.specs.Dithering.{passed_on, rounded_sixteenths}
+use Rattle.sixel_encoder.specs.inside.Diffusion.{AreLanes}
+
+-- a list of four
+pub lanes : (xs : List ℕ) → length xs ≡ 4 → AreLanes xs (λ k. get_or xs k 0)
+lanes xs four = record { four = four; each = λ k l. refl }
+
+-- of one number in each lane
+pub lanes-splat : (x : ℕ) → AreLanes (x ∷ x ∷ x ∷ x ∷ []) (λ k. x)
+lanes-splat x = record { four = refl; each = λ k l. get_or-replicate 4 k x 0 l }
+
+-- of an operation on two vectors
+lanes-zip2 : (h : ℕ → ℕ → ℕ) (xs ys : List ℕ) (f g r : ℕ → ℕ) → AreLanes xs f → AreLanes ys g
+    → ((k : ℕ) → k < 4 → h (f k) (g k) ≡ r k) → AreLanes (zip2 h xs ys) r
+lanes-zip2 h xs ys f g r a b same = record {
+  four = length-zip2 h xs ys (a.four ∙ sym b.four) ∙ a.four;
+  each = λ k l.
+      get_or-zip2 h xs ys k 0 0 0 (omega (arith, l, a.four)) (omega (arith, l, b.four))
+      ∙ (ap (λ x. h x (get_or ys k 0)) (a.each k l) ∙ (ap (h (f k)) (b.each k l) ∙ same k l));
+}
+
+-- a sum, a difference, a product and a shift to the right
+pub lanes-plus : (xs ys : List ℕ) (f g : ℕ → ℕ) → AreLanes xs f → AreLanes ys g
+    → ((k : ℕ) → k < 4 → f k + g k < 65536)
+    → AreLanes (zip2 (λ a b. (a + b) % 65536) xs ys) (λ k. f k + g k)
+lanes-plus xs ys f g a b fit =
+    lanes-zip2 _ xs ys f g _ a b (λ k l. omega (arith, fit k l))
+
+pub lanes-minus : (xs ys : List ℕ) (f g : ℕ → ℕ) → AreLanes xs f → AreLanes ys g
+    → ((k : ℕ) → k < 4 → g k ≤ f k) → ((k : ℕ) → k < 4 → f k < 65536)
+    → AreLanes (zip2 (λ a b. (a + (65536 - b)) % 65536) xs ys) (λ k. f k - g k)
+lanes-minus xs ys f g a b less fit =
+    lanes-zip2 _ xs ys f g _ a b (λ k l. omega (arith, less k l, fit k l))
+
+pub lanes-times : (xs ys : List ℕ) (f g : ℕ → ℕ) → AreLanes xs f → AreLanes ys g
+    → ((k : ℕ) → k < 4 → f k * g k < 65536)
+    → AreLanes (zip2 (λ a b. a * b % 65536) xs ys) (λ k. f k * g k)
+lanes-times xs ys f g a b fit =
+    lanes-zip2 _ xs ys f g _ a b (λ k l. omega (arith, fit k l))
+
+pub lanes-shift : (xs ys : List ℕ) (f g : ℕ → ℕ) → AreLanes xs f → AreLanes ys g
+    → AreLanes (zip2 (λ a b. a / 2 ^ b) xs ys) (λ k. f k / 2 ^ g k)
+lanes-shift xs ys f g a b = lanes-zip2 _ xs ys f g _ a b (λ k l. refl)
+
+-- all ones where the first number is less
+abbrev less : ℕ → ℕ → ℕ
+less a b = cond (nat_lt a b) 65535 0
+
+-- the greater of two lanes
+pub lanes-max : (xs ys : List ℕ) (f g : ℕ → ℕ) → AreLanes xs f → AreLanes ys g
+    → AreLanes (sel_l (map (top 15) (zip2 less xs ys)) ys xs) (λ k. max (f k) (g k))
+lanes-max xs ys f g a b =
+    let tests = zip2 less xs ys in
+    let long : length (map (top 15) tests) ≡ 4 =
+    length-map tests (top 15) ∙ (length-zip2 less xs ys (a.four ∙ sym b.four) ∙ a.four) in
+    record {
+      four =
+          length-sel_l (map (top 15) tests) ys xs (long ∙ sym b.four) (long ∙ sym a.four) ∙ long;
+      each = λ k l.
+          get_or-sel_l (map (top 15) tests) ys xs k 0 (omega (arith, l, long))
+          (omega (arith, l, b.four)) (omega (arith, l, a.four))
+          ∙ (ap (λ t. cond t (get_or ys k 0) (get_or xs k 0))
+          (ap (λ ms. get_or ms k false) (tops_compared w16 nat_lt xs ys)
+          ∙ get_or-zip2 nat_lt xs ys k 0 0 false (omega (arith, l, a.four))
+          (omega (arith, l, b.four)))
+          ∙ (elim (cases_lt (get_or xs k 0) (get_or ys k 0)) [
+            | inl below ↦
+                let is : nat_lt (get_or xs k 0) (get_or ys k 0) ≡ true =
+                grind (arith, nat_tests) in
+                rw is (omega (arith, below, a.each k l, b.each k l))
+            | inr above ↦
+                let is : nat_lt (get_or xs k 0) (get_or ys k 0) ≡ false =
+                grind (arith, nat_tests) in
+                rw is (omega (arith, above, a.each k l, b.each k l))
+          ]));
+    }
+
+-- lanes that get wider
+pub lanes-cast : (xs : List ℕ) (f : ℕ → ℕ) → AreLanes xs f → AreLanes (map (λ x. x) xs) f
+lanes-cast xs f a = record {
+  four = length-map xs (λ x. x) ∙ a.four;
+  each = λ k l. get_or-map (λ x. x) xs k 0 0 (omega (arith, l, a.four)) ∙ a.each k l;
+}
+
+-- four numbers of a list
+pub lanes-chunk : (xs : List ℕ) (at : ℕ) → at + 4 ≤ length xs
+    → AreLanes (take 4 (drop at xs)) (λ k. get_or xs (at + k) 0)
+lanes-chunk xs at within = record {
+  four = length-chunk at 4 xs within;
+  each = λ k l. get_or-chunk at 4 xs k 0 l;
+}
+
+-- so they have a common bound, as there is none past them
+pub small-lanes : (xs : List ℕ) (f : ℕ → ℕ) (most : ℕ) → AreLanes xs f
+    → ((k : ℕ) → k < 4 → f k ≤ most) → (k : ℕ) → get_or xs k 0 ≤ most
+small-lanes xs f most are small k = elim (cases_lt k 4) [
+  | inl inside ↦ omega (arith, are.each k inside, small k inside)
+  | inr past ↦ omega (arith, get_or_past xs k 0 (omega (arith, past, are.four)))
+]
+
+-- what holds of each of four
+pub each_of_four : (P : ℕ → Type 0) → P 0 → P 1 → P 2 → P 3 → (k : ℕ) → k < 4 → P k
+each_of_four P a b c d zero less = a
+each_of_four P a b c d (suc zero) less = b
+each_of_four P a b c d (suc (suc zero)) less = c
+each_of_four P a b c d (suc (suc (suc zero))) less = d
+each_of_four P a b c d (suc (suc (suc (suc k)))) less = absurd (omega (arith, less))
+
+-- what is passed on in each
+pub lanes-passed_on : (xs : List ℕ) (f g : ℕ → ℕ) (wide strength : ℕ) → wide ≡ strength
+    → AreLanes xs (λ k. (f k + 4096 - g k * 16) * wide / 2 ^ 3) → (k : ℕ) → k < 4
+    → get_or xs k 0 ≡ passed_on strength (f k) (g k)
+lanes-passed_on xs f g wide strength same are k l =
+    let turned : g k * 16 ≡ 16 * g k = omega arith in are.each k l ∙ rw (same, turned) refl
+
+-- the lanes of a color, rounded
+abbrev rounded : List ℕ → List ℕ
+rounded values =
+    zip2 (λ a b. a / 2 ^ b) (zip2 (λ a b. (a + b) % 65536) values (8 ∷ 8 ∷ 8 ∷ 8 ∷ []))
+    (4 ∷ 4 ∷ 4 ∷ 4 ∷ [])
+
+pub lanes-rounded : (values : List ℕ) → length values ≡ 4
+    → ((k : ℕ) → get_or values k 0 ≤ 4080) → (k : ℕ) → k < 4
+    → get_or (rounded values) k 0 ≡ rounded_sixteenths (get_or values k 0)
+lanes-rounded values four small =
+    (lanes-shift _ _ _ _
+    (lanes-plus _ _ (λ k. get_or values k 0) (λ k. 8) (lanes values four) (lanes-splat 8)
+    (λ k l. omega (arith, small k))) (lanes-splat 4)).each

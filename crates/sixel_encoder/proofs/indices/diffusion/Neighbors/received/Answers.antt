@@ -1,0 +1,33 @@
+use Rattle.std.proofs.Common.{arith}
+use Rattle.std.specs.Prelude.{slice_index}
+use Rattle.sixel_encoder.proofs.DiffusionLanes.{lanes, lanes-minus, lanes-plus, small-lanes}
+use Rattle.sixel_encoder.proofs.indices.diffusion.Neighbors.received.Goals as goal
+
+pub returns : goal.returns
+returns c =
+    let whole = c.args.self.now.beyond in
+    let before = c.requires.before.small in
+    let behind = c.requires.behind.small in
+    let above = c.requires.above.small in
+    let beyond = c.requires.beyond.small in
+    let rest =
+    lanes-minus _ _ _ _
+    (lanes-minus _ _ _ _
+    (lanes-minus _ _ (λ k. slice_index whole k) _ (lanes whole c.requires.beyond.four)
+    c.share.ensures (λ k l. omega arith) (λ k l. omega (arith, beyond k))) c.share-2.ensures
+    (λ k l. omega arith) (λ k l. omega (arith, beyond k))) c.share-3.ensures
+    (λ k l. omega arith) (λ k l. omega (arith, beyond k)) in
+    let all =
+    lanes-plus _ _ _ _
+    (lanes-plus _ _ _ _
+    (lanes-plus _ _ _ _ c.share-next.ensures c.share-below_before.ensures
+    (λ k l. omega (arith, before k, behind k))) c.share-below.ensures
+    (λ k l. omega (arith, before k, behind k, above k))) rest
+    (λ k l. omega (arith, before k, behind k, above k, beyond k)) in
+    record {
+      four = all.four;
+      value = λ k l. all.each k (omega (arith, l));
+      small =
+          small-lanes _ _ 8192 all
+          (λ k l. omega (arith, before k, behind k, above k, beyond k));
+    }
