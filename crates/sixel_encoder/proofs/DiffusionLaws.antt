@@ -10,7 +10,8 @@ use Rattle.std.proofs.lemmas.Nat.{mul-le}
 use Rattle.sixel_palette.specs.Palette.{AreIndices, IsNearest, IsOpaque, color_at, distance}
 use Rattle.sixel_palette.proofs.PaletteDistance.{below_three, distance_self, same_from_distance}
 use Rattle.sixel_encoder.specs.Dithering.{AreMapped, Mapped, before_share, below_share}
-use Rattle.sixel_encoder.specs.Dithering.{channel_error, error_back, errors_of, neighbor_of}
+use Rattle.sixel_encoder.specs.Dithering.{channel_error, error_above, error_back, error_before}
+use Rattle.sixel_encoder.specs.Dithering.{error_behind, error_beyond, errors_of, neighbor_of}
 use Rattle.sixel_encoder.specs.Dithering.{next_share, no_error, opaque_error, passed_on}
 use Rattle.sixel_encoder.specs.Dithering.{received, rest_share, rounded_sixteenths, serpentine}
 use Rattle.sixel_encoder.specs.Dithering.{sixteenths, target_of_visit, visit_error, with_received}
@@ -40,24 +41,67 @@ passed_on-bounds strength value entry small byte =
 
 -- ---- no errors
 
--- each of these errors is none
-abbrev AreNone : Mapped → List (List ℕ) → Type 0
-AreNone m errors = All (λ error. error ≡ no_error m.strength) errors
-
--- then so is the one that is some visits back, whether it is there or not
-error_back-none : (m : Mapped) (errors : List (List ℕ)) (back : ℕ) → AreNone m errors
-    → error_back m errors back ≡ no_error m.strength
-error_back-none m errors back none =
+-- what holds of no error and of these errors holds of one that is some visits back
+error_back-all : (P : List ℕ → Type 0) (m : Mapped) (errors : List (List ℕ)) (back : ℕ)
+    → P (no_error m.strength) → All P errors → P (error_back m errors back)
+error_back-all P m errors back none all =
     elim (cases_lt back (length errors)) [
-      | inl inside ↦ none back (no_error m.strength) inside
-      | inr past ↦ get_or_past errors back (no_error m.strength) past
+      | inl inside ↦ all back (no_error m.strength) inside
+      | inr past ↦ subst P (sym (get_or_past errors back (no_error m.strength) past)) none
     ]
 
 -- and where a test chooses no error
-chosen-none : (test : Bool) (strength : ℕ) (error : List ℕ) → error ≡ no_error strength
-    → cond test (no_error strength) error ≡ no_error strength
-chosen-none true strength error e = refl
-chosen-none false strength error e = e
+chosen-all : (P : List ℕ → Type 0) (test : Bool) (strength : ℕ) (error : List ℕ)
+    → P (no_error strength) → P error → P (cond test (no_error strength) error)
+chosen-all P true strength error none is = none
+chosen-all P false strength error none is = is
+
+-- so it holds of the errors of a pixel's neighbors
+pub record AreNeighbors (P : List ℕ → Type 0) (m : Mapped) (errors : List (List ℕ)) (step : ℕ)
+    : Type 0 where
+  pub before : P (error_before m errors step)
+  pub behind : P (error_behind m errors step)
+  pub above : P (error_above m errors step)
+  pub beyond : P (error_beyond m errors step)
+
+pub neighbors-all : (P : List ℕ → Type 0) (m : Mapped) (errors : List (List ℕ)) (step : ℕ)
+    → P (no_error m.strength) → All P errors → AreNeighbors P m errors step
+neighbors-all P m errors step none all =
+    let back = λ (b : ℕ). error_back-all P m errors b none all in
+    let chosen = λ (test : Bool) (b : ℕ).
+    chosen-all P test m.strength (error_back m errors b) none (back b) in
+    record {
+      before = chosen (step == 0) 0;
+      behind = chosen (step == 0) (2 * step - 1);
+      above = back (2 * step);
+      beyond = chosen (step + 1 == m.width) (2 * step + 1);
+    }
+
+-- and of all errors, if it holds of that of an opaque pixel after those before it
+pub errors-all : (P : List ℕ → Type 0) (m : Mapped) (indices : List ℕ) (n : ℕ)
+    → P (no_error m.strength)
+    → ((k : ℕ) → k < n → All P (errors_of m indices k)
+    → IsOpaque m.pixels (serpentine m.width k)
+    → P (opaque_error m (errors_of m indices k) k
+    (slice_index_or m.colors (slice_index indices (serpentine m.width k)) [])))
+    → All P (errors_of m indices n)
+unfolding errors_of
+errors-all P m indices zero none each = All-nil P
+errors-all P m indices (suc n) none each =
+    let errors = errors_of m indices n in
+    let before = errors-all P m indices n none (λ k l. each k (omega arith)) in
+    let own : P (visit_error m indices errors n) =
+    elim (cases_lt (slice_index m.pixels (4 * serpentine m.width n + 3)) 128) [
+      | inl dark ↦ subst P (sym (visit_error-transparent m indices errors n dark)) none
+      | inr light ↦
+          subst P (sym (visit_error-opaque m indices errors n light))
+          (each n (omega arith) before light)
+    ] in
+    All-cons P (visit_error m indices errors n) errors own before
+
+-- each of these errors is none
+abbrev AreNone : Mapped → List (List ℕ) → Type 0
+AreNone m errors = All (λ error. error ≡ no_error m.strength) errors
 
 -- no error is the same in each channel
 channel-none : (strength k : ℕ) → k < 3 → slice_index (no_error strength) k ≡ 512 * strength
@@ -69,21 +113,13 @@ received-none : (m : Mapped) (errors : List (List ℕ)) (step k : ℕ) → AreNo
     → received m errors step k ≡ 512 * m.strength
 received-none m errors step k none l =
     let s = m.strength in
+    let near = neighbors-all (λ error. error ≡ no_error s) m errors step refl none in
     let of : (error : List ℕ) → error ≡ no_error s → slice_index error k ≡ 512 * s =
     λ error e. ap (λ e. slice_index e k) e ∙ channel-none s k l in
-    let before =
-    of (cond (step == 0) (no_error s) (error_back m errors 0))
-    (chosen-none (step == 0) s (error_back m errors 0) (error_back-none m errors 0 none)) in
-    let behind =
-    of (cond (step == 0) (no_error s) (error_back m errors (2 * step - 1)))
-    (chosen-none (step == 0) s (error_back m errors (2 * step - 1))
-    (error_back-none m errors (2 * step - 1) none)) in
-    let above =
-    of (error_back m errors (2 * step)) (error_back-none m errors (2 * step) none) in
-    let beyond =
-    of (cond (step + 1 == m.width) (no_error s) (error_back m errors (2 * step + 1)))
-    (chosen-none (step + 1 == m.width) s (error_back m errors (2 * step + 1))
-    (error_back-none m errors (2 * step + 1) none)) in
+    let before = of (error_before m errors step) near.before in
+    let behind = of (error_behind m errors step) near.behind in
+    let above = of (error_above m errors step) near.above in
+    let beyond = of (error_beyond m errors step) near.beyond in
     rw (before, behind, above, beyond) (omega arith)
 
 -- the sixteenths of a channel are its own
@@ -167,23 +203,6 @@ pub record AreColors (m : Mapped) : Type 0 where
   pub three : All (λ p. length p ≡ 3) m.colors
   pub bytes : (j : ℕ) → slice_index m.pixels j < 256
 
--- a visit has no error, if those before it have none and an opaque pixel's entry is its color
-visit-none : (m : Mapped) (indices : List ℕ) (errors : List (List ℕ)) (n : ℕ) → AreColors m
-    → AreNone m errors
-    → (IsOpaque m.pixels (serpentine m.width n)
-    → slice_index_or m.colors (slice_index indices (serpentine m.width n)) []
-    ≡ color_at m.pixels (serpentine m.width n))
-    → visit_error m indices errors n ≡ no_error m.strength
-visit-none m indices errors n exact before own =
-    let at = serpentine m.width n in
-    elim (cases_lt (slice_index m.pixels (4 * at + 3)) 128) [
-      | inl dark ↦ visit_error-transparent m indices errors n dark
-      | inr light ↦
-          visit_error-opaque m indices errors n light
-          ∙ error-none m errors n (slice_index_or m.colors (slice_index indices at) []) before
-          exact.bytes (own light)
-    ]
-
 -- so none has, if each opaque pixel's entry is its color
 errors-own : (m : Mapped) (indices : List ℕ) (n : ℕ) → AreColors m
     → ((k : ℕ) → k < n → AreNone m (errors_of m indices k)
@@ -191,14 +210,12 @@ errors-own : (m : Mapped) (indices : List ℕ) (n : ℕ) → AreColors m
     → slice_index_or m.colors (slice_index indices (serpentine m.width k)) []
     ≡ color_at m.pixels (serpentine m.width k))
     → AreNone m (errors_of m indices n)
-unfolding errors_of
-errors-own m indices zero exact own = All-nil (λ error. error ≡ no_error m.strength)
-errors-own m indices (suc n) exact own =
-    let before = errors-own m indices n exact (λ k l. own k (omega arith)) in
-    All-cons (λ error. error ≡ no_error m.strength)
-    (visit_error m indices (errors_of m indices n) n) (errors_of m indices n)
-    (visit-none m indices (errors_of m indices n) n exact before (own n (omega arith) before))
-    before
+errors-own m indices n exact own =
+    errors-all (λ error. error ≡ no_error m.strength) m indices n refl
+    (λ k l before light.
+    error-none m (errors_of m indices k) k
+    (slice_index_or m.colors (slice_index indices (serpentine m.width k)) []) before exact.bytes
+    (own k l before light))
 
 -- the color of each opaque pixel is an entry
 abbrev pub AreHeld : Mapped → Type 0

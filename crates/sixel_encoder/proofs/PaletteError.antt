@@ -10,14 +10,13 @@ use Rattle.sixel_palette.specs.Palette.{IsOpaque, color_at, distance, nearest, n
 use Rattle.sixel_palette.specs.Refined.{opaque_number, opaque_pixels, sum_to, summed_error}
 use Rattle.sixel_palette.proofs.PaletteColors.{Contains-nearest, IsColor, distance-lt}
 use Rattle.sixel_palette.proofs.PaletteDistance.{distance_self}
-use Rattle.sixel_palette.proofs.PaletteNearest.{nearest-cap, nearest-le}
+use Rattle.sixel_palette.proofs.PaletteNearest.{nearest-cap, nearest-le, nearest-reached}
 use Rattle.sixel_palette.proofs.PaletteShown.{IsColor-color_at}
 use Rattle.sixel_encoder.specs.declared.mapping.Tolerance.TheVariants.{Auto}
 use Rattle.sixel_encoder.specs.Dithering.{AreMapped, IsIndex, Mapped, entry_distance}
 use Rattle.sixel_encoder.specs.Dithering.{index_error, mean_error, pixel_index_error, root}
 use Rattle.sixel_encoder.specs.Dithering.{serpentine, tolerance_of}
 use Rattle.sixel_encoder.proofs.DitheredIndices.{AreRowsOf, HasTarget-pixel}
-use Rattle.sixel_encoder.proofs.KeptEntries.{nearest-distance}
 use Rattle.sixel_encoder.proofs.Serpentine.{serpentine-serpentine}
 
 -- the number of a transparent pixel is 0
@@ -164,26 +163,38 @@ sum_to-more_le f g h k zero le = omega arith
 sum_to-more_le f g h k (suc n) le =
     omega (arith, sum_to-more_le f g h k n (λ i l. le i (omega arith)), le n (omega arith))
 
--- no index is farther than the nearest entry by more than the tolerance
-index-near : (m : Mapped) (c : List ℕ) (neighbor : Option ℕ) (index : ℕ)
-    → ((i : ℕ) → i < length m.colors → entry_distance m.colors c i < no_entry)
-    → IsIndex m c neighbor index
-    → entry_distance m.colors c index ≤ nearest m.colors c + m.tolerance
-index-near m c None index small is =
-    let near = is.nearest (λ entry same. absurd cc) in
-    omega (arith, nearest-distance m.colors c index near (small index near.entry))
-index-near m c (Some entry) index small is =
+-- no entry is nearer than that of an index by more than the tolerance
+pub any-near : (m : Mapped) (c : List ℕ) (neighbor : Option ℕ) (index i : ℕ)
+    → IsIndex m c neighbor index → i < length m.colors
+    → entry_distance m.colors c index ≤ entry_distance m.colors c i + m.tolerance
+any-near m c None index i is l =
+    let near = is.nearest (λ entry same. absurd cc) in omega (arith, near.least i l)
+any-near m c (Some entry) index i is l =
     elim (cases_lt (entry_distance m.colors c entry) (nearest m.colors c + m.tolerance)) [
       | inl below ↦
-          omega (arith, below, ap (entry_distance m.colors c) (is.kept entry refl below))
+          omega (
+            arith,
+            below,
+            ap (entry_distance m.colors c) (is.kept entry refl below),
+            nearest-le m.colors c i [] l,
+          )
       | inr beyond ↦
           let near =
           is.nearest
           (λ other same.
           let one : entry ≡ other = cc in
           omega (arith, beyond, ap (entry_distance m.colors c) one)) in
-          omega (arith, nearest-distance m.colors c index near (small index near.entry))
+          omega (arith, near.least i l)
     ]
+
+index-near : (m : Mapped) (c : List ℕ) (neighbor : Option ℕ) (index : ℕ)
+    → ((i : ℕ) → i < length m.colors → entry_distance m.colors c i < no_entry)
+    → IsIndex m c neighbor index
+    → entry_distance m.colors c index ≤ nearest m.colors c + m.tolerance
+index-near m c neighbor index small is =
+    let most = nearest-le m.colors c index [] is.entry in
+    let found = nearest-reached m.colors c [] (omega (arith, most, small index is.entry)) in
+    omega (arith, any-near m c neighbor index found.0 is found.1, found.2)
 
 -- so without dithering the summed error is greater by the tolerance for each opaque pixel at most
 pub error-bound : (m : Mapped) (indices : List ℕ) → AreRowsOf m.pixels m.width

@@ -15,13 +15,17 @@ use Rattle.sixel_encoder.specs.declared.dither.Dither.TheVariants.{Diffusion, Of
 use Rattle.sixel_encoder.specs.declared.mapping.Mapping.{Mapping}
 use Rattle.sixel_encoder.specs.declared.mapping.Tolerance.{Tolerance}
 use Rattle.sixel_encoder.specs.declared.mapping.Tolerance.TheVariants.{Auto, Squared}
-use Rattle.sixel_encoder.specs.Dithering.{AreDithered, AreMapped, HasTarget, IsIndex, Mapped}
+use Rattle.sixel_encoder.specs.Dithering.{AreDithered, AreMapped, HasTarget, HaveTargets}
+use Rattle.sixel_encoder.specs.Dithering.{IsIndex, Mapped}
 use Rattle.sixel_encoder.specs.Dithering.{amplitude_of, entry_of, errors_of, mapped_of}
 use Rattle.sixel_encoder.specs.Dithering.{moved_channel, neighbor_of, pattern_of, serpentine}
 use Rattle.sixel_encoder.specs.Dithering.{target_of, target_of_visit, threshold, tolerance_of}
 use Rattle.sixel_encoder.specs.Encoding.{shown_image}
+use Rattle.sixel_encoder.specs.Gray.{source_pixels}
 use Rattle.sixel_encoder.specs.IndexedDrawing.{entries_of, indexed_drawing}
 use Rattle.sixel_encoder.proofs.DitheredIndices.{AreRowsOf, visit-inside}
+use Rattle.sixel_encoder.proofs.GraySource.{AreRowsOf-source, IsSource-pixels, dithered-count}
+use Rattle.sixel_encoder.proofs.GraySource.{entry-source, source-alike}
 use Rattle.sixel_encoder.proofs.IndexedDrawing.{get_or-entries}
 use Rattle.sixel_encoder.proofs.KeptEntries.{IsIndex-same}
 use Rattle.sixel_encoder.proofs.PaletteError.{number-dark, number-light, sum_to-same}
@@ -204,20 +208,30 @@ other-mapped dither m q a alike rows are = record {
 }
 
 -- so indices of the one are indices of the other
-pub AreDithered-alike : (mapping : Mapping) (width : ℕ) (p q : List ℕ) (colors : List (List ℕ))
-    (a : List ℕ) → AreAlike p q → AreRowsOf p width → AreDithered mapping width p colors a
-    → AreDithered mapping width q colors a
-AreDithered-alike mapping width p q colors a alike rows are =
+HaveTargets-alike : (mapping : Mapping) (width : ℕ) (p q : List ℕ) (colors : List (List ℕ))
+    (a : List ℕ) → AreAlike p q → AreRowsOf p width → HaveTargets mapping width p colors a
+    → HaveTargets mapping width q colors a
+HaveTargets-alike mapping width p q colors a alike rows are =
     subst (λ (o : Mapped). AreMapped o (target_of mapping.dither o a) a)
     (mapped-alike mapping width p q colors alike)
     (other-mapped mapping.dither (mapped_of mapping width p colors) q a alike rows are)
 
+pub AreDithered-alike : (mapping : Mapping) (width : ℕ) (p q : List ℕ) (colors : List (List ℕ))
+    (a : List ℕ) → AreAlike p q → AreRowsOf p width → AreDithered mapping width p colors a
+    → AreDithered mapping width q colors a
+AreDithered-alike mapping width p q colors a alike rows are =
+    let first = source_pixels mapping.dither colors p in
+    let second = source_pixels mapping.dither colors q in
+    HaveTargets-alike mapping width first second colors a
+    (source-alike mapping.dither colors p q alike)
+    (AreRowsOf-source p first width (IsSource-pixels mapping.dither colors p) rows) are
+
 -- so are the entries of all pixels
-entry-alike : (mapping : Mapping) (width : ℕ) (p q : List ℕ) (colors : List (List ℕ))
+entry-targets : (mapping : Mapping) (width : ℕ) (p q : List ℕ) (colors : List (List ℕ))
     (a b : List ℕ) (pixel : ℕ) → AreAlike p q → AreRowsOf p width
-    → AreDithered mapping width p colors a → AreDithered mapping width q colors b
+    → HaveTargets mapping width p colors a → HaveTargets mapping width q colors b
     → pixel < length p / 4 → entry_of p a pixel ≡ entry_of q b pixel
-entry-alike mapping width p q colors a b pixel alike rows first second l =
+entry-targets mapping width p q colors a b pixel alike rows first second l =
     let m = mapped_of mapping width p colors in
     let also =
     subst (λ (o : Mapped). AreMapped o (target_of mapping.dither o b) b)
@@ -227,6 +241,21 @@ entry-alike mapping width p q colors a b pixel alike rows first second l =
     (same-opaque mapping.dither m q a b count alike rows (omega arith) first.each
     (λ k lk. also.each k (omega (arith, alike.count, lk))))
     (visit-inside m pixel rows l)
+
+entry-alike : (mapping : Mapping) (width : ℕ) (p q : List ℕ) (colors : List (List ℕ))
+    (a b : List ℕ) (pixel : ℕ) → AreAlike p q → AreRowsOf p width
+    → AreDithered mapping width p colors a → AreDithered mapping width q colors b
+    → pixel < length p / 4 → entry_of p a pixel ≡ entry_of q b pixel
+entry-alike mapping width p q colors a b pixel alike rows first second l =
+    let s = source_pixels mapping.dither colors p in
+    let t = source_pixels mapping.dither colors q in
+    let own = IsSource-pixels mapping.dither colors p in
+    entry-source p s a pixel own l
+    ∙ (entry-targets mapping width s t colors a b pixel
+    (source-alike mapping.dither colors p q alike) (AreRowsOf-source p s width own rows) first
+    second (omega (arith, l, own.count))
+    ∙ sym (entry-source q t b pixel (IsSource-pixels mapping.dither colors q)
+    (omega (arith, l, alike.count))))
 
 -- and the drawings
 pub drawing-alike : (mapping : Mapping) (image other : Image) (colors : List (List ℕ))
@@ -239,7 +268,10 @@ drawing-alike mapping image other colors a b e rows first second =
     let wide : other.width ≡ image.width = sym (ap (λ s. s.width) e) in
     let also =
     subst (λ (w : ℕ). AreDithered mapping w other.pixels colors b) wide second in
-    let size : length a ≡ length b = omega (arith, first.one_each, second.one_each, alike.count) in
+    let count = dithered-count mapping image.width image.pixels colors a first in
+    let size : length a ≡ length b =
+    omega (arith, count, dithered-count mapping image.width other.pixels colors b also, alike.count)
+    in
     drawing-fields (indexed_drawing image colors a) (indexed_drawing other colors b)
     (ap (λ s. s.width) e) (ap (λ s. s.height) e) (ap (λ s. s.aspect_ratio) e)
     (ap (λ s. s.background_mode) e) refl
@@ -251,5 +283,5 @@ drawing-alike mapping image other colors a b e rows first second =
     omega (arith, length-map-range_with_len (entry_of image.pixels a) 0 (length a), l) in
     get_or-entries image.pixels a pixel inside
     ∙ (entry-alike mapping image.width image.pixels other.pixels colors a b pixel alike rows first
-    also (omega (arith, first.one_each))
+    also (omega (arith, count))
     ∙ sym (get_or-entries other.pixels b pixel (omega (arith, size))))))

@@ -14,6 +14,7 @@ use Rattle.sixel_base.specs.declared.error.SixelError.TheVariants.{InvalidDimens
 use Rattle.sixel_base.specs.declared.error.SixelError.TheVariants.{BufferSizeMismatch}
 use Rattle.sixel_palette.specs.Palette.{color_at, distance, nearest, IsOpaque, IsNearest}
 use Rattle.sixel_palette.specs.Refined.{opaque_pixels, sum_to, summed_error}
+use Rattle.sixel_encoder.specs.Gray.{source_pixels}
 use Rattle.sixel_encoder.specs.declared.dither.Amplitude.{Amplitude}
 use Rattle.sixel_encoder.specs.declared.dither.Amplitude.TheVariants.{Auto as AutoAmplitude, Levels}
 use Rattle.sixel_encoder.specs.declared.dither.Dither.{Dither}
@@ -313,8 +314,13 @@ target_of Off m indices n = color_at m.pixels (serpentine m.width n)
 target_of (Ordered amplitude) m indices n = ordered_color m (serpentine m.width n)
 target_of (Diffusion strength) m indices n = target_of_visit m (errors_of m indices n) n
 
+-- each pixel has the index for its target
+abbrev pub HaveTargets : Mapping → ℕ → List ℕ → List (List ℕ) → List ℕ → Type 0
+HaveTargets mapping width pixels colors indices =
+    AreMapped (mapped_of mapping width pixels colors)
+    (target_of mapping.dither (mapped_of mapping width pixels colors) indices) indices
+
 -- the indices are those of the pixels in the palette
 abbrev pub AreDithered : Mapping → ℕ → List ℕ → List (List ℕ) → List ℕ → Type 0
 AreDithered mapping width pixels colors indices =
-    AreMapped (mapped_of mapping width pixels colors)
-    (target_of mapping.dither (mapped_of mapping width pixels colors) indices) indices
+    HaveTargets mapping width (source_pixels mapping.dither colors pixels) colors indices

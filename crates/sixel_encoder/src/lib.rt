@@ -38,7 +38,7 @@ mod text;
 pub use dither::{Amplitude, Dither};
 pub use form::TextForm;
 pub use given_palette::{encode_in_palette, encode_with_indices};
-pub use indices::{error_diffusion, palette_indices};
+pub use indices::{error_diffusion, gray_diffusion, palette_indices};
 pub use mapping::{Mapping, Tolerance};
 pub use refined::encode_refined;
 use sixel_base::settings::{BackgroundMode, PixelAspectRatio};

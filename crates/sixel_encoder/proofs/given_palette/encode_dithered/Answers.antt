@@ -1,11 +1,13 @@
 use Rattle.std.proofs.Common.{length, ap, arith}
-use Rattle.sixel_encoder.specs.Dithering.{AreDithered, mapped_of, target_of}
+use Rattle.sixel_encoder.specs.Dithering.{AreDithered}
 use Rattle.sixel_encoder.specs.Encoding.{source_value}
-use Rattle.sixel_encoder.proofs.DitheredIndices.{mapped-entry, rows-image}
+use Rattle.sixel_encoder.proofs.DitheredIndices.{rows-image}
+use Rattle.sixel_encoder.proofs.GraySource.{dithered-count, dithered-entry}
 use Rattle.sixel_encoder.proofs.PaletteText.{rows-sound}
 use Rattle.sixel_encoder.proofs.Sizes.{within-sound}
 use Rattle.sixel_encoder.proofs.given_palette.encode_dithered.Goals as goal
 use Rattle.sixel_encoder.proofs.given_palette.encode_dithered.Goals.{After-deref}
+use Rattle.std.proofs.lemmas.Bool.Decides.{nat_tests}
 
 -- the indices
 told : (c : After-deref)
@@ -36,15 +38,20 @@ dithered_indices-requires-clause-image c =
 
 pub encode_drawing-requires-clause-count : goal.encode_drawing-requires-clause-count
 encode_drawing-requires-clause-count c =
-    let sized = (within-sound (source_value c.args.source.now) c.requires.sound).sized in
-    rw c.deref.ensures.value (omega (arith, sized, (told c).one_each))
+    let image = source_value c.args.source.now in
+    let sized = (within-sound image c.requires.sound).sized in
+    let count =
+    dithered-count c.args.mapping image.width image.pixels c.args.colors.now
+    c.in_ok-indices.indices.items (told c) in
+    rw c.deref.ensures.value (omega (arith, sized, count))
 
 pub encode_drawing-requires-clause-opaque : goal.encode_drawing-requires-clause-opaque
 encode_drawing-requires-clause-opaque c = λ pixel inside opaque.
     let image = source_value c.args.source.now in
     let indices = c.in_ok-indices.indices.items in
-    let m = mapped_of c.args.mapping image.width image.pixels c.args.colors.now in
+    let colors = c.args.colors.now in
+    let count = dithered-count c.args.mapping image.width image.pixels colors indices (told c) in
     rw c.deref.ensures.value
-    (mapped-entry m (target_of c.args.mapping.dither m indices) indices pixel
+    (dithered-entry c.args.mapping image.width image.pixels colors indices pixel
     (rows-sound image c.requires.sound) (told c)
-    (omega (arith, (told c).one_each, inside, ap length c.deref.ensures.value)) opaque)
+    (omega (arith, count, inside, ap length c.deref.ensures.value)) opaque)

@@ -1,18 +1,17 @@
-use Rattle.std.proofs.Common.{◌≡◌, arith}
-use Rattle.sixel_encoder.specs.declared.dither.Amplitude.TheVariants.{Levels}
-use Rattle.sixel_encoder.specs.declared.dither.Dither.TheVariants.{Ordered}
+use Rattle.std.proofs.Common.{◌≡◌, length, ◌∙◌, arith}
+use Rattle.sixel_encoder.specs.Gray.{gray_pixels}
+use Rattle.sixel_encoder.proofs.GraySource.{gray-length}
 use Rattle.sixel_encoder.proofs.indices.dithered_indices.Goals as goal
 
-pub returns-in-Diffusion-Squared : goal.returns-in-Diffusion-Squared
-returns-in-Diffusion-Squared c =
-    rw (c.in-Diffusion-Squared.is-0, c.in-Diffusion-Squared.is-1) (rw (
-      c.clamp.ensures,
-      c.requires.plain.amplitude,
-    ) at c.diffused_indices.ensures)
-
-pub returns-in-Ordered-Levels-Squared : goal.returns-in-Ordered-Levels-Squared
-returns-in-Ordered-Levels-Squared c =
-    let own : c.args.mapping.dither ≡ Ordered (Levels c.in-Ordered-Levels-Squared.amplitude) =
-    grind arith in
-    rw (own, c.in-Ordered-Levels-Squared.is-1) (rw c.requires.plain.strength at
-    c.ordered_indices.ensures)
+pub searched_indices-requires-2-clause-image : goal.searched_indices-requires-2-clause-image
+searched_indices-requires-2-clause-image c =
+    let pixels = c.args.image.now.pixels.now in
+    let whole = c.requires.image.whole in
+    let grays = c.deref.ensures.value ∙ c.in_ok-grays.ensures in
+    let same : length (gray_pixels pixels) ≡ length pixels =
+    omega (arith, gray-length pixels, whole.rows) in
+    record {
+      whole = record { wide = whole.wide; rows = rw (grays, same) whole.rows; few = whole.few };
+      some = c.requires.image.some;
+      strength = c.requires.image.strength;
+    }

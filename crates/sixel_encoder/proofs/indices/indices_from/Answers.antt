@@ -1,66 +1,23 @@
-use Rattle.std.proofs.Common.{◌≡◌, ap, arith, false, length, subst, sym, ◌∙◌}
-use Rattle.std.specs.Prelude.{◌==◌}
+use Rattle.std.proofs.Common.{◌≡◌, length, sym, ◌∙◌}
 use Rattle.std.proofs.lemmas.Bool.{eqb-true}
-use Rattle.std.proofs.lemmas.Bool.Decides.{nat_tests}
-use Rattle.sixel_encoder.specs.declared.dither.Dither.{Dither}
-use Rattle.sixel_encoder.specs.declared.mapping.Tolerance.TheVariants.{Auto}
-use Rattle.sixel_encoder.specs.Dithering.{AreMapped, mapped_of, target_of, tolerance_of}
-use Rattle.sixel_encoder.proofs.DiffusionLaws.{AreMapped-diffused}
-use Rattle.sixel_encoder.proofs.DitheredIndices.{AreMapped-none, AreRows, AreRowsOf-whole}
-use Rattle.sixel_encoder.proofs.PaletteError.{error-none, held-none}
+use Rattle.sixel_encoder.specs.Dithering.{mapped_of, target_of}
+use Rattle.sixel_encoder.specs.Gray.{source_pixels}
+use Rattle.sixel_encoder.proofs.DitheredIndices.{AreMapped-none, AreRowsOf-whole}
+use Rattle.sixel_encoder.proofs.GraySource.{AreIndices-none, AreRowsOf-source, IsSource-pixels}
 use Rattle.sixel_encoder.proofs.indices.indices_from.Goals as goal
-
-pub returns-in-Off : goal.returns-in-Off
-returns-in-Off c =
-    rw c.in-Off.is (rw (
-      c.requires.plain.strength,
-      c.requires.plain.amplitude,
-      c.tolerance_of-tolerance.ensures,
-    ) at c.keep_entries.ensures)
-
-pub returns-in-Ordered : goal.returns-in-Ordered
-returns-in-Ordered c =
-    rw c.in-Ordered.is (rw (
-      c.requires.plain.strength,
-      c.amplitude_of-amplitude.ensures,
-      c.tolerance_of-tolerance.ensures,
-    ) at c.ordered_indices.ensures)
-
-pub returns-in-Diffusion : goal.returns-in-Diffusion
-returns-in-Diffusion c =
-    let image = c.args.image.now in
-    let pixels = image.pixels.now in
-    let colors = image.colors.now in
-    let auto : c.args.mapping.tolerance ≡ Auto = grind arith in
-    let exact = sym c.tolerance_of-tolerance.ensures ∙ c.if-tolerance-eq0.true in
-    let none = ap (λ t. tolerance_of t colors pixels) (sym auto) ∙ exact in
-    let m = mapped_of c.args.mapping image.width pixels colors in
-    let three = c.channel_bytes.ensures.three in
-    let test : length colors == 0 ≡ false = sym c.is_empty.ensures ∙ c.if-is_empty.false in
-    let rows : AreRows m = record {
-      rows = AreRowsOf-whole pixels image.width c.requires.width c.requires.rows;
-      some = grind (arith, nat_tests);
-    } in
-    subst
-    (λ (d : Dither). AreMapped m (target_of d m c.args.nearest.items) c.args.nearest.items)
-    (sym c.in-Diffusion.is) (AreMapped-diffused m c.args.nearest.items rows
-    (record { three = three; bytes = c.channel_bytes.ensures.bytes })
-    (held-none colors pixels three (error-none colors pixels none)) exact c.requires.nearest)
-
-pub returns-in-Diffusion-2 : goal.returns-in-Diffusion-2
-returns-in-Diffusion-2 c =
-    rw c.in-Diffusion-2.is (rw (
-      c.clamp-strength.ensures,
-      c.requires.plain.amplitude,
-      c.tolerance_of-tolerance.ensures,
-    ) at c.diffused_indices.ensures)
 
 pub returns-then-is_empty : goal.returns-then-is_empty
 returns-then-is_empty c =
     let image = c.args.image.now in
-    let m = mapped_of c.args.mapping image.width image.pixels.now image.colors.now in
+    let pixels = image.pixels.now in
+    let colors = image.colors.now in
+    let s = source_pixels c.args.mapping.dither colors pixels in
+    let is = IsSource-pixels c.args.mapping.dither colors pixels in
+    let m = mapped_of c.args.mapping image.width s colors in
+    let none : length colors ≡ 0 =
+    eqb-true (length colors) 0 (sym c.is_empty.ensures ∙ c.if-is_empty.true) in
     AreMapped-none m (target_of c.args.mapping.dither m c.args.nearest.items)
     c.args.nearest.items
-    (AreRowsOf-whole image.pixels.now image.width c.requires.width c.requires.rows)
-    (eqb-true (length image.colors.now) 0 (sym c.is_empty.ensures ∙ c.if-is_empty.true))
-    c.requires.nearest
+    (AreRowsOf-source pixels s image.width is
+    (AreRowsOf-whole pixels image.width c.requires.width c.requires.rows))
+    none (AreIndices-none pixels s colors c.args.nearest.items is none c.requires.nearest)

@@ -1,14 +1,20 @@
-use Rattle.std.proofs.Common.{◌≡◌, ◌<◌, ℕ, List, [], inl, inr, length, ap, subst, ◌∙◌, arith, refl}
-use Rattle.std.specs.Prelude.{◌/◌, All, None}
+use Rattle.std.proofs.Common.{◌≡◌, ◌<◌, ℕ, List, [], inl, inr, length, ap, sym, subst, ◌∙◌, arith}
+use Rattle.std.proofs.Common.{refl}
+use Rattle.std.specs.Prelude.{◌/◌, All, Contains, None}
 use Rattle.std.proofs.lemmas.Bool.Decides.{nat_tests}
 use Rattle.sixel_base.specs.CallFault.{color_count_fault}
 use Rattle.std.proofs.lemmas.List.{get_or_default}
 use Rattle.sixel_palette.proofs.PaletteColors.{IsColor}
+use Rattle.sixel_palette.specs.Palette.{IsOpaque, color_at}
 use Rattle.sixel_encoder.specs.declared.dither.Dither.{Dither}
-use Rattle.sixel_encoder.specs.Dithering.{AreDithered, AreMapped, Mapped, mapped_of, target_of}
-use Rattle.sixel_encoder.specs.Dithering.{tolerance_of}
-use Rattle.sixel_encoder.proofs.DiffusionLaws.{AreIndices-exact}
+use Rattle.sixel_encoder.specs.declared.dither.Dither.TheVariants.{Off}
+use Rattle.sixel_encoder.specs.Dithering.{AreDithered, AreMapped, HaveTargets, Mapped}
+use Rattle.sixel_encoder.specs.Dithering.{mapped_of, target_of, tolerance_of}
+use Rattle.sixel_encoder.specs.Gray.{source_pixels}
+use Rattle.sixel_encoder.proofs.DiffusionLaws.{AreHeld, AreIndices-exact}
 use Rattle.sixel_encoder.proofs.DitheredIndices.{AreIndices-mapped, AreRows, rows-sound}
+use Rattle.sixel_encoder.proofs.GraySource.{AreIndices-source, AreRowsOf-source, IsSource-pixels}
+use Rattle.sixel_encoder.proofs.GraySource.{bytes-source, dithered-count, own-source}
 use Rattle.sixel_encoder.proofs.PaletteError.{error-bound, tolerance-held}
 use Rattle.sixel_encoder.proofs.Verdicts.{none-found, none-judged}
 use Rattle.sixel_encoder.proofs.indices.palette_indices.Goals as goal
@@ -44,32 +50,73 @@ told c =
       c.plain-image.ensures.colors,
     ) at c.in_ok-dithered_indices.ensures
 
+-- undithered ones are those of the pixels as they are
+told-off : (c : goal.In_ok-dithered_indices) → c.args.mapping.dither ≡ Off
+    → HaveTargets c.args.mapping c.args.width c.args.pixels.now c.args.colors.now
+    c.in_ok-dithered_indices.field-0.items
+told-off c off =
+    let same : source_pixels c.args.mapping.dither c.args.colors.now c.args.pixels.now
+    ≡ c.args.pixels.now =
+    ap (λ d. source_pixels d c.args.colors.now c.args.pixels.now) off in
+    subst
+    (λ (s : List ℕ).
+    HaveTargets c.args.mapping c.args.width s c.args.colors.now
+    c.in_ok-dithered_indices.field-0.items)
+    same (told c)
+
+pub returns-clause-count : goal.returns-clause-count
+returns-clause-count c =
+    dithered-count c.args.mapping c.args.width c.args.pixels.now c.args.colors.now
+    c.in_ok-dithered_indices.field-0.items (told c)
+
 pub returns-clause-nearest : goal.returns-clause-nearest
 returns-clause-nearest c = λ off exact.
     let pixels = c.args.pixels.now in
     let m = mapped_of c.args.mapping c.args.width pixels c.args.colors.now in
     let indices = c.in_ok-dithered_indices.field-0.items in
     AreIndices-mapped m (target_of c.args.mapping.dither m indices) indices
-    (rows-of c m refl refl refl) (ap (λ t. tolerance_of t c.args.colors.now pixels) exact) (told c)
+    (rows-of c m refl refl refl) (ap (λ t. tolerance_of t c.args.colors.now pixels) exact)
+    (told-off c off)
     (λ n l light. ap (λ d. target_of d m indices n) off)
 
 pub returns-clause-exact : goal.returns-clause-exact
 returns-clause-exact c = λ strength is none held.
     let pixels = c.args.pixels.now in
     let colors = c.args.colors.now in
-    let m = mapped_of c.args.mapping c.args.width pixels colors in
+    let dither = c.args.mapping.dither in
+    let s = source_pixels dither colors pixels in
+    let of = IsSource-pixels dither colors pixels in
+    let m = mapped_of c.args.mapping c.args.width s colors in
+    let own = mapped_of c.args.mapping c.args.width pixels colors in
     let indices = c.in_ok-dithered_indices.field-0.items in
-    let exact : tolerance_of c.args.mapping.tolerance colors pixels ≡ 0 =
+    let rows = rows-of c own refl refl refl in
+    let same : (pixel : ℕ) → pixel < length pixels / 4 → IsOpaque pixels pixel
+    → color_at s pixel ≡ color_at pixels pixel =
+    λ pixel l light. own-source dither colors pixels pixel l (held pixel l light) in
+    let kept : AreHeld m = λ pixel l light.
+    let inside : pixel < length pixels / 4 = omega (arith, l, of.count) in
+    let shown : IsOpaque pixels pixel = omega (arith, light, of.alpha pixel inside) in
+    subst (λ (c : List ℕ). Contains colors c) (sym (same pixel inside shown))
+    (held pixel inside shown) in
+    let exact : tolerance_of c.args.mapping.tolerance colors s ≡ 0 =
     elim none [
-      | inl auto ↦ ap (λ t. tolerance_of t colors pixels) auto ∙ tolerance-held colors pixels held
-      | inr zero ↦ ap (λ t. tolerance_of t colors pixels) zero
+      | inl auto ↦ ap (λ t. tolerance_of t colors s) auto ∙ tolerance-held colors s kept
+      | inr zero ↦ ap (λ t. tolerance_of t colors s) zero
     ] in
     let three : All (λ p. length p ≡ 3) colors =
     λ k e l.
     subst (λ (p : List ℕ). length p ≡ 3) (get_or_default colors k [] e l) (c.told-colors k l) in
-    AreIndices-exact m indices (rows-of c m refl refl refl)
-    (record { three = three; bytes = λ j. omega (arith, c.type_inv.pixels j) }) held exact
-    (subst (λ (d : Dither). AreMapped m (target_of d m indices) indices) is (told c))
+    AreIndices-source pixels s colors indices of same
+    (AreIndices-exact m indices
+    (record {
+      rows = AreRowsOf-source pixels s c.args.width of rows.rows;
+      some = rows.some;
+    })
+    (record {
+      three = three;
+      bytes = bytes-source dither colors pixels (λ j. omega (arith, c.type_inv.pixels j));
+    })
+    kept exact (subst (λ (d : Dither). AreMapped m (target_of d m indices) indices) is (told c)))
 
 pub returns-clause-summed : goal.returns-clause-summed
 returns-clause-summed c = λ off.
@@ -87,4 +134,4 @@ returns-clause-summed c = λ off.
     }) in
     error-bound m indices (rows-of c m refl refl refl).rows
     (λ j. omega (arith, c.type_inv.pixels j)) all
-    (subst (λ (d : Dither). AreMapped m (target_of d m indices) indices) off (told c))
+    (subst (λ (d : Dither). AreMapped m (target_of d m indices) indices) off (told-off c off))

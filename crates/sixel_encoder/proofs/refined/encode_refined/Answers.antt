@@ -1,17 +1,17 @@
-use Rattle.std.proofs.Common.{◌≡◌, ◌*◌, ◌%◌, length, ap, arith}
-use Rattle.std.specs.Prelude.{Err, string_bytes}
+use Rattle.std.proofs.Common.{length, ap, arith}
+use Rattle.std.specs.Prelude.{string_bytes}
 use Rattle.std.proofs.lemmas.Nat.{mul-le}
-use Rattle.std.proofs.lemmas.Result.{err_from_is_err_and}
-use Rattle.sixel_encoder.specs.Dithering.{AreDithered, mapped_of, target_of}
+use Rattle.sixel_encoder.specs.Dithering.{AreDithered}
 use Rattle.sixel_encoder.specs.Encoding.{source_value}
-use Rattle.sixel_encoder.specs.Text.{bands}
-use Rattle.sixel_encoder.proofs.DitheredIndices.{mapped-entry, rows-image}
+use Rattle.sixel_encoder.proofs.DitheredIndices.{rows-image}
+use Rattle.sixel_encoder.proofs.GraySource.{dithered-count, dithered-entry}
 use Rattle.sixel_encoder.proofs.PaletteText.{rows-sound}
 use Rattle.sixel_encoder.proofs.RefinedText.{IsRefinedText-returned}
 use Rattle.sixel_encoder.proofs.Sizes.{within-sound}
 use Rattle.sixel_encoder.proofs.Verdicts.{none-found, palette-failed}
 use Rattle.sixel_encoder.proofs.refined.encode_refined.Goals as goal
 use Rattle.sixel_encoder.proofs.refined.encode_refined.Goals.{After-deref-3}
+use Rattle.std.proofs.lemmas.Bool.Decides.{nat_tests}
 
 -- the indices
 told : (c : After-deref-3)
@@ -50,37 +50,28 @@ encode_drawing-requires-clause-sound c =
 
 pub encode_drawing-requires-clause-count : goal.encode_drawing-requires-clause-count
 encode_drawing-requires-clause-count c =
+    let image = source_value c.args.source.now in
     let sound = none-found _ _ _ c.validate_source.ensures c.in_ok-validate_source.was in
-    let sized = (within-sound (source_value c.args.source.now) sound).sized in
-    rw c.deref-3.ensures.value (omega (arith, sized, (told c).one_each))
+    let sized = (within-sound image sound).sized in
+    let count =
+    dithered-count c.args.mapping image.width image.pixels c.in_ok-palette.palette.colors.items
+    c.in_ok-indices.indices.items (told c) in
+    rw c.deref-3.ensures.value (omega (arith, sized, count))
 
 pub encode_drawing-requires-clause-opaque : goal.encode_drawing-requires-clause-opaque
 encode_drawing-requires-clause-opaque c = λ pixel inside opaque.
     let image = source_value c.args.source.now in
     let sound = none-found _ _ _ c.validate_source.ensures c.in_ok-validate_source.was in
     let indices = c.in_ok-indices.indices.items in
-    let m =
-    mapped_of c.args.mapping image.width image.pixels c.in_ok-palette.palette.colors.items in
+    let colors = c.in_ok-palette.palette.colors.items in
+    let count = dithered-count c.args.mapping image.width image.pixels colors indices (told c) in
     rw (c.deref-2.ensures.value, c.deref-3.ensures.value)
-    (mapped-entry m (target_of c.args.mapping.dither m indices) indices pixel
+    (dithered-entry c.args.mapping image.width image.pixels colors indices pixel
     (rows-sound image sound) (told c)
-    (omega (arith, (told c).one_each, inside, ap length c.deref-3.ensures.value)) opaque)
+    (omega (arith, count, inside, ap length c.deref-3.ensures.value)) opaque)
 
 pub returns-in_err-palette-clause-fault : goal.returns-in_err-palette-clause-fault
-returns-in_err-palette-clause-fault c =
-    let sound = none-found _ _ _ c.validate_source.ensures c.in_ok-validate_source.was in
-    let within = within-sound (source_value c.args.source.now) sound in
-    let whole : length c.args.source.now.pixels.now % 4 ≡ 0 = omega (arith, within.sized) in
-    let width = c.args.source.now.width in
-    let height = c.args.source.now.height in
-    let high = mul-le width height width (6 * bands height) (omega arith) (omega arith) in
-    let p = err_from_is_err_and c.from_residual-in_err-palette.result
-    c.from_residual-in_err-palette.ensures.1 in
-    rw (p.1, p.2)
-    (palette-failed (source_value c.args.source.now) c.args.max_colors
-    (Err c.in_err-palette.field-0.0) sound (c.in_err-palette.ensures.colors whole)
-    (λ few. c.in_err-palette.ensures.memory whole few
-    (omega (arith, high, within.area, within.sized))))
+returns-in_err-palette-clause-fault c = grind (arith, mul-le)
 
 pub returns-clause-fault : goal.returns-clause-fault
 returns-clause-fault c =
