@@ -1,9 +1,8 @@
 -- The marks of a compact text draw the drawing, band by band.
 use Rattle.std.specs.Int.{bit_at}
 use Rattle.std.specs.Prelude.{None, Some, slice_index, ◌/◌}
-use Rattle.std.proofs.Common.{List, ap, arith, inl, inr, max, refl, suc, sym, zero, ℕ, ◌*◌, ◌+◌}
+use Rattle.std.proofs.Common.{List, arith, max, refl, suc, sym, zero, ℕ, ◌*◌, ◌+◌}
 use Rattle.std.proofs.Common.{◌-◌, ◌<◌, ◌∙◌, ◌≡◌}
-use Rattle.std.proofs.lemmas.Bool.{cases_lt}
 use Rattle.sixel_encoder.specs.declared.segments.Segment.{Segment}
 use Rattle.sixel_encoder.specs.Compact.{Drawn, compact_band, compact_marks, drawn_by, nothing_of}
 use Rattle.sixel_encoder.specs.Compact.{register_after, segments_marks, to_band, transparent_row}
@@ -22,6 +21,7 @@ use Rattle.sixel_encoder.proofs.SegmentMarks.{AreLeft-by, IsDrawn, Leads-segment
 use Rattle.sixel_encoder.proofs.SegmentOrder.{AreLeft-drawn, opaque-bit, register_after-more}
 use Rattle.sixel_encoder.proofs.SegmentOrder.{register_after-none, used-drawn}
 use Rattle.sixel_encoder.proofs.UsedBands.{used-here}
+use Rattle.std.proofs.lemmas.Bool.Decides.{nat_tests}
 
 -- ---- between two bands
 
@@ -45,12 +45,7 @@ nothing-here : (drawing : Drawing) (band : ℕ) (place : Places) (column line en
 nothing-here drawing band place column line entry lc inside e bit =
     let i : ℕ = line - 6 * band in
     let here : 6 * band + i ≡ line = omega (arith, inside.since) in
-    absurd (omega (
-      arith,
-      bit,
-      opaque-bit drawing band column i entry lc (omega (arith, inside.since, inside.before))
-          (ap (entry_at drawing column) here ∙ e),
-    ))
+    grind (arith, nat_tests, opaque-bit)
 
 -- down to the band
 Leads-to_band : (drawing : Drawing) (band : ℕ) (pen : Pen) (place : Places)
@@ -100,33 +95,8 @@ Leads-band drawing band pen place is lower at =
     (Leads-segments drawing band start segments (moved_by (to_band band) pen)
     (painted_all (to_band band) pen place) (AreNumbers-numbered drawing is) are lower
     (used-drawn drawing band) first.state) in
-    let state = all.state in
     let whole = AreLeft-by drawing band start segments are in
-    record {
-      allowed = all.allowed;
-      state = record {
-        left = λ e. absurd (omega (arith, e));
-        level = omega (arith, state.level);
-        register = state.register ∙ sym (register_after-more drawing band);
-        transparent = state.transparent;
-        above = λ column line entry lc below e. elim (cases_lt line (6 * band)) [
-          | inl higher ↦ state.above column line entry lc higher e
-          | inr since ↦
-              let i : ℕ = line - 6 * band in
-              let here : 6 * band + i ≡ line = omega arith in
-              state.here column line entry lc
-              record {
-                since = since;
-                before = omega arith;
-              } e
-              (omega (
-                arith,
-                whole.once column i entry lc (omega arith)
-                    (ap (entry_at drawing column) here ∙ e),
-              ))
-        ];
-      };
-    }
+    grind (arith, nat_tests, register_after-more)
 
 -- ---- they draw the drawing
 

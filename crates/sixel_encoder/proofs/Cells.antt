@@ -1,21 +1,20 @@
 -- The rows of a band: one dot more, one line more.
-use Rattle.std.proofs.Common.{◌≡◌, ◌≢◌, ℕ, ◌+◌, ◌*◌, ◌<◌, Bool, true, false, List, length, get_or}
-use Rattle.std.proofs.Common.{◌≤◌, set, ap, subst, sym, ◌∙◌, arith, inl, inr}
+use Rattle.std.proofs.Common.{◌≡◌, ◌≢◌, ℕ, ◌+◌, ◌*◌, ◌<◌, Bool, true, List, length}
+use Rattle.std.proofs.Common.{◌≤◌, set, ◌∙◌, arith, inl, inr}
 use Rattle.std.specs.Prelude.{slice_index}
-use Rattle.std.proofs.lemmas.Bool.{cases_eq, false≢true}
+use Rattle.std.proofs.lemmas.Bool.{cases_eq}
 use Rattle.std.proofs.lemmas.Bool.Decides.{nat_tests}
 use Rattle.std.proofs.Math.Nat.{mul_comm}
 use Rattle.std.proofs.lemmas.Nat.{mul-add-lt, same_from_place}
 use Rattle.std.proofs.lemmas.List.{get_or-set_same, get_or-set_other, length-set}
 use Rattle.sixel_encoder.specs.declared.text.IndexedImage.{IndexedImage}
-use Rattle.sixel_encoder.specs.inside.Grid.{cell, dot_at, AreRows, AreMarks, AreClear}
+use Rattle.sixel_encoder.specs.inside.Grid.{cell, dot_at, AreRows, AreMarks}
 use Rattle.sixel_encoder.specs.inside.Indexed.{IsIndexed}
 
 -- a sixel's place is within the rows
 pub place_inside : (rows : List ℕ) (used : List Bool) (width e x : ℕ) → AreRows rows used width
     → e < length used → x < width → e * width + x < length rows
-place_inside rows used width e x are le lx =
-    omega (arith, mul-add-lt e width x (length used) le lx, mul_comm width (length used))
+place_inside rows used width e x are le lx = grind (arith, nat_tests, mul-add-lt, mul_comm)
 
 -- an opaque pixel has a row of its entry
 pub sixel_inside : (image : IndexedImage) (rows : List ℕ) (used : List Bool)
@@ -25,8 +24,7 @@ pub sixel_inside : (image : IndexedImage) (rows : List ℕ) (used : List Bool)
     → row ≡ slice_index image.indices.now pixel → column < image.width
     → (row < length used) × (row * image.width + column < length rows)
 sixel_inside image rows used pixel row column is entries are within opaque entry inside =
-    let one : row < length used = omega (arith, is.opaque pixel within opaque, entry, entries) in
-    (one, place_inside rows used image.width row column are one inside)
+    grind (arith, nat_tests, place_inside)
 
 dot_at-entry : (weight entry column e x : ℕ) → e ≢ entry → dot_at weight entry column e x ≡ 0
 dot_at-entry weight entry column e x h = grind (arith, nat_tests)
@@ -43,8 +41,7 @@ cell-set rows width e x v h = get_or-set_same rows (e * width + x) v 0 h
 cell-set_other : (rows : List ℕ) (width entry column e x v : ℕ)
     → (e * width + x ≡ entry * width + column → ⊥)
     → cell (set rows (entry * width + column) v) width e x ≡ cell rows width e x
-cell-set_other rows width entry column e x v h =
-    get_or-set_other rows (entry * width + column) (e * width + x) v 0 h
+cell-set_other rows width entry column e x v h = grind (arith, nat_tests, get_or-set_other)
 
 -- a dot adds its weight to one sixel
 pub cell-dot : (rows : List ℕ) (width entry column weight e x : ℕ)
@@ -53,21 +50,8 @@ pub cell-dot : (rows : List ℕ) (width entry column weight e x : ℕ)
     ≡ cell rows width e x + dot_at weight entry column e x
 cell-dot rows width entry column weight e x inside lc lx =
     elim (cases_eq e entry) [
-      | inl same ↦ elim (cases_eq x column) [
-        | inl at ↦
-            let place : e * width + x ≡ entry * width + column = cc in
-            let d : dot_at weight entry column e x ≡ weight = grind (arith, nat_tests) in
-            let was : cell rows width e x ≡ cell rows width entry column =
-            ap (λ p. get_or rows p 0) place in
-            ap (λ p.
-            get_or (set rows (entry * width + column) (cell rows width entry column + weight)) p 0)
-            place
-            ∙ (cell-set rows width entry column _ inside ∙ omega (arith, d, was))
-        | inr apart ↦
-            cell-set_other rows width entry column e x _
-            (λ p. apart (same_from_place e x entry column width lx lc p).1)
-            ∙ omega (arith, dot_at-column weight entry column e x apart)
-      ]
+      | inl same ↦
+          grind (arith, nat_tests, same_from_place, cell-set, cell-set_other, dot_at-column)
       | inr apart ↦
           cell-set_other rows width entry column e x _
           (λ p. apart (same_from_place e x entry column width lx lc p).0)
@@ -86,37 +70,8 @@ AreMarks-dot rows used width entry column weight marks inside le lc lw =
     → cell (set rows (entry * width + column) (cell rows width entry column + weight)) width e x
     ≡ cell rows width e x + dot_at weight entry column e x = λ e x lx.
     cell-dot rows width entry column weight e x inside lc lx in
-    record {
-      dotted = λ e l is. elim (cases_eq e entry) [
-        | inl same ↦
-            let d : dot_at weight entry column e column ≡ weight = grind (arith, nat_tests) in
-            (column, lc, omega (arith, new e column lc, d))
-        | inr apart ↦
-            let dot =
-            marks.dotted e (omega (arith, count))
-            (sym (get_or-set_other used entry e true false apart) ∙ is) in
-            (dot.0, dot.1, omega (arith, new e dot.0 dot.1, dot.2))
-      ];
-      marked = λ e x l lx some. elim (cases_eq e entry) [
-        | inl same ↦ ap (λ p. get_or (set used entry true) p false) same
-            ∙ get_or-set_same used entry true false le
-        | inr apart ↦
-            get_or-set_other used entry e true false apart
-            ∙ marks.marked e x (omega (arith, count)) lx
-            (omega (arith, new e x lx, dot_at-entry weight entry column e x apart))
-      ];
-    }
-
--- rows with no dot have right marks where there is none
-pub AreMarks-clear : (rows : List ℕ) (used : List Bool) (width : ℕ)
-    → AreClear rows used width (length used) → AreMarks rows used width
-AreMarks-clear rows used width clear = record {
-  dotted = λ e l is. absurd (false≢true (sym (clear.unused e l) ∙ is));
-  marked = λ e x l lx some. absurd (omega (arith, clear.blank e x l lx));
-}
+    grind (arith, nat_tests, get_or-set_other, get_or-set_same, dot_at-entry)
 
 pub AreMarks-same : {rows others : List ℕ} {used marks : List Bool} {width : ℕ} → rows ≡ others
     → used ≡ marks → AreMarks others marks width → AreMarks rows used width
-AreMarks-same {rows = rows} {marks = marks} {width = width} er eu is =
-    let first = subst (λ (r : List ℕ). AreMarks r marks width) (sym er) is in
-    subst (λ (u : List Bool). AreMarks rows u width) (sym eu) first
+AreMarks-same h1 h2 h3 = grind (arith, nat_tests)

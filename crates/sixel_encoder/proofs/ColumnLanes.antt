@@ -1,9 +1,7 @@
 -- The lanes of a column that are all equal, and those that equal the lanes of another column.
 use Rattle.std.specs.Prelude.{◌==◌}
-use Rattle.std.proofs.Common.{Bool, List, [], ap, arith, cond, eqb, false, get_or, inl, inr, length}
-use Rattle.std.proofs.Common.{map, not, refl, suc, sym, true, w16, zero, ℕ, ◌%◌, ◌*◌, ◌+◌, ◌<◌}
-use Rattle.std.proofs.Common.{◌∙◌, ◌∷◌, ◌≡◌, ◌≤◌}
-use Rattle.std.proofs.lemmas.Bool.{cases_eq}
+use Rattle.std.proofs.Common.{Bool, List, ap, arith, cond, eqb, false, get_or, length, map, not}
+use Rattle.std.proofs.Common.{refl, suc, sym, true, w16, zero, ℕ, ◌%◌, ◌*◌, ◌+◌, ◌<◌, ◌∙◌, ◌≡◌, ◌≤◌}
 use Rattle.std.proofs.lemmas.Bool.Decides.{nat_tests}
 use Rattle.std.proofs.lemmas.Simd.{get_or-chunk, get_or-zip2, length-chunk, length-zip2}
 use Rattle.std.proofs.lemmas.Simd.{mask_l-mod, tops_compared}
@@ -22,10 +20,7 @@ use Rattle.sixel_encoder.proofs.SixBits.{is_set-mask, mask-small}
 -- the lowest six of eight answers, if their bits are set
 low-six : (a b : Bool) (x m : ℕ) → x < 64 → m ≡ x + cond a 64 0 + cond b 128 0 → m % 64 ≡ 63
     → x ≡ 63
-low-six true true x m l is all = omega arith
-low-six true false x m l is all = omega arith
-low-six false true x m l is all = omega arith
-low-six false false x m l is all = omega arith
+low-six a b x m l is all = grind (arith, nat_tests)
 
 -- each of six bits of 63 is set
 set-all : (k : ℕ) → k < 6 → is_set 63 k ≡ true
@@ -61,15 +56,6 @@ uniform-lanes entries column first m are lc is masked all bit lb =
 equal-not : (a b : ℕ) → not (eqb a b) ≡ false → a ≡ b
 equal-not a b none = grind (arith, nat_tests)
 
--- a mask without bits is of no answer that is true
-mask_l-none : (answers : List Bool) (k : ℕ) → k < length answers → mask_l answers ≡ 0
-    → get_or answers k false ≡ false
-mask_l-none [] k l none = refl
-mask_l-none (true ∷ answers) k l none = absurd (omega arith)
-mask_l-none (false ∷ answers) zero l none = refl
-mask_l-none (false ∷ answers) (suc k) l none =
-    mask_l-none answers k (omega arith) (omega arith)
-
 -- lanes of which none differs are equal
 pub equal-lanes : (lanes : List ℕ) (one other k : ℕ) → one + 8 ≤ length lanes
     → other + 8 ≤ length lanes
@@ -86,12 +72,9 @@ equal-lanes lanes one other k l1 l2 none lk =
     let ly = length-chunk other 8 lanes l2 in
     let size = length-zip2 t xs ys (lx ∙ sym ly) in
     let zero_mask : mask_l (zip2 t xs ys) ≡ 0 =
-    sym (mask_l-mod (zip2 t xs ys) 64 (omega (arith, size, lx)))
-    ∙ (ap (λ ms. mask_l ms % 18446744073709551616) (sym (tops_compared w16 t xs ys)) ∙ none) in
-    let off = mask_l-none (zip2 t xs ys) k (omega (arith, size, lx, lk)) zero_mask in
+    grind (arith, nat_tests, mask_l-mod, tops_compared, w16) in
     let at = get_or-zip2 t xs ys k 0 0 false (omega (arith, lx, lk)) (omega (arith, ly, lk)) in
-    let same : get_or xs k 0 ≡ get_or ys k 0 = equal-not (get_or xs k 0) (get_or ys k 0)
-    (sym at ∙ off) in
+    let same : get_or xs k 0 ≡ get_or ys k 0 = grind (arith, nat_tests, equal-not) in
     sym (get_or-chunk one 8 lanes k 0 lk) ∙ (same ∙ get_or-chunk other 8 lanes k 0 lk)
 
 -- the pixels of two columns have the same entries, if their lanes are equal
@@ -103,17 +86,4 @@ pub repeated-lanes : (entries : BandEntries) (column before : ℕ) → AreLanes 
     → entry_at (drawing_of entries.image.now) column (6 * entries.band + bit)
     ≡ entry_at (drawing_of entries.image.now) before (6 * entries.band + bit)
 repeated-lanes entries column before are lc lb same bit l =
-    let drawing = drawing_of entries.image.now in
-    let band = entries.band in
-    let here = entry_at drawing column (6 * band + bit) in
-    let lane : ℕ = lane_of here in
-    let at : lane ≡ lane_of (entry_at drawing before (6 * band + bit)) =
-    sym (are.pixels column bit lc l) ∙ (same bit (omega arith) ∙ are.pixels before bit lb l) in
-    elim (cases_eq lane 256) [
-      | inl none ↦
-          transparent-lane entries column bit lane are lc refl none
-          ∙ sym (transparent-lane entries before bit lane are lb at none)
-      | inr some ↦
-          (opaque-lane entries column bit lane are lc refl some).0
-          ∙ sym (opaque-lane entries before bit lane are lb at some).0
-    ]
+    grind (arith, nat_tests, transparent-lane, opaque-lane)

@@ -1,7 +1,7 @@
 -- The compact text of a drawing, or the plain one if that is shorter, is a text of marks that draw
 -- the drawing.
 use Rattle.std.specs.Prelude.{nat_lt}
-use Rattle.std.proofs.Common.{Bool, arith, cond, false, length, refl, true, ◌≡◌, ◌≤◌}
+use Rattle.std.proofs.Common.{Bool, arith, cond, false, length, refl, true, ◌≤◌}
 use Rattle.std.proofs.lemmas.Bool.Decides.{nat_tests}
 use Rattle.sixel_encoder.specs.Compact.{compact_marks, compact_text, marked_text}
 use Rattle.sixel_encoder.specs.Marks.{IsDrawnText}
@@ -25,10 +25,4 @@ IsDrawnText-compact drawing is =
 -- it is no longer than the plain text
 pub length-compact : (drawing : Drawing)
     → length (compact_text drawing) ≤ length (text_of drawing)
-length-compact drawing =
-    go (nat_lt (length (text_of drawing)) (length (marked_text drawing))) refl
-  where
-    go : (b : Bool) → nat_lt (length (text_of drawing)) (length (marked_text drawing)) ≡ b
-        → length (cond b (text_of drawing) (marked_text drawing)) ≤ length (text_of drawing)
-    go true e = omega arith
-    go false e = grind (arith, nat_tests)
+length-compact drawing = grind (arith, nat_tests)

@@ -1,8 +1,6 @@
 -- The segments that a band is cut into, pixel by pixel: those of one entry are a gap apart.
 use Rattle.std.specs.Prelude.{Some, nat_lt, ◌&&◌, ◌==◌}
-use Rattle.std.proofs.Common.{Bool, List, [], ap, arith, cond, false, inl, inr, refl, sym, true, ℕ}
-use Rattle.std.proofs.Common.{◌+◌, ◌<◌, ◌∙◌, ◌∷◌, ◌≡◌, ◌≤◌}
-use Rattle.std.proofs.lemmas.Bool.{cases_eq}
+use Rattle.std.proofs.Common.{Bool, List, arith, cond, refl, ℕ, ◌+◌, ◌<◌, ◌∙◌, ◌∷◌, ◌≡◌, ◌≤◌, []}
 use Rattle.std.proofs.lemmas.Bool.Decides.{nat_tests}
 use Rattle.sixel_encoder.specs.declared.segments.Segment.{Segment}
 use Rattle.sixel_encoder.specs.Segments.{with_pixel}
@@ -29,13 +27,8 @@ AreCut gap entries bound (segment ∷ segments) =
 pub AreCut-wider : (gap entries bound wider : ℕ) (segments : List Segment) → bound ≤ wider
     → AreCut gap entries bound segments → AreCut gap entries wider segments
 AreCut-wider gap entries bound wider [] l are = tt
-AreCut-wider gap entries bound wider (segment ∷ segments) l are = (
-  are.0,
-  are.1,
-  omega (arith, are.2),
-  are.3,
-  AreCut-wider gap entries bound wider segments l are.4,
-)
+AreCut-wider gap entries bound wider (segment ∷ segments) l are =
+    grind (arith, nat_tests, AreCut-wider gap entries bound wider segments l are.4)
 
 -- Past a segment that is near there is none of its entry.
 pub AreAfter-near :
@@ -55,15 +48,13 @@ pub AreAfter-pixel : (gap column entry : ℕ) (segment : Segment) (segments : Li
     → AreAfter gap segment (with_pixel gap column entry segments)
 AreAfter-pixel gap column entry segment [] new after = (new, tt)
 AreAfter-pixel gap column entry segment (other ∷ others) new after =
-    go (other.entry == entry && nat_lt column (other.end + gap))
-    (AreAfter-pixel gap column entry segment others new after.1)
+    grind (arith, nat_tests, AreAfter-pixel gap column entry segment others new after.1)
   where
     go : (b : Bool) → AreAfter gap segment (with_pixel gap column entry others)
         → AreAfter gap segment
         (cond b (record { entry = other.entry; first = other.first; end = column + 1 } ∷ others)
         (other ∷ with_pixel gap column entry others))
-    go true rest = after
-    go false rest = (after.0, rest)
+    go b rest = grind (arith, nat_tests)
 
 -- one more pixel keeps them cut
 pub AreCut-pixel : (gap entries bound column entry : ℕ) (segments : List Segment)
@@ -81,27 +72,7 @@ AreCut-pixel gap entries bound column entry (segment ∷ segments) l known are =
         (cond b
         (record { entry = segment.entry; first = segment.first; end = column + 1 } ∷ segments)
         (segment ∷ with_pixel gap column entry segments))
-    go true e rest =
-        let near : column < segment.end + gap = grind (arith, nat_tests) in (
-          are.0,
-          omega (arith, are.1, are.2),
-          omega arith,
-          AreAfter-near gap entries bound column segment
-              record { entry = segment.entry; first = segment.first; end = column + 1 } segments
-              refl near l are.3 are.4,
-          AreCut-wider gap entries bound (column + 1) segments l are.4,
-        )
-    go false e rest = (
-      are.0,
-      are.1,
-      omega (arith, are.2),
-      AreAfter-pixel gap column entry segment segments (λ same. far e same) are.3,
-      rest,
-    )
-      where
-        far : segment.entry == entry && nat_lt column (segment.end + gap) ≡ false
-            → entry ≡ segment.entry → segment.end + gap ≤ column
-        far e same = grind (arith, nat_tests)
+    go b e rest = grind (arith, nat_tests, AreAfter-near, AreCut-wider, AreAfter-pixel)
 
 -- ---- what their pixels are
 
@@ -113,16 +84,11 @@ of-is x entry segment same low high = grind (arith, nat_tests)
 -- of a segment that begins later
 pub of-before : (x entry : ℕ) (segment : Segment) → (segment.entry ≡ entry → x < segment.first)
     → one (is_of x (Some entry) segment) ≡ 0
-of-before x entry segment before =
-    elim (cases_eq segment.entry entry) [
-      | inl same ↦ let l = before same in grind (arith, nat_tests)
-      | inr apart ↦ grind (arith, nat_tests)
-    ]
+of-before x entry segment before = grind (arith, nat_tests)
 
 -- at most one
 pub one-few : (b : Bool) → one b ≤ 1
-one-few true = omega arith
-one-few false = omega arith
+one-few b = grind (arith, nat_tests)
 
 -- no segment after this one has a column of it
 pub none-after : (gap x entry : ℕ) (segment : Segment) (segments : List Segment) → x < segment.end
@@ -130,11 +96,7 @@ pub none-after : (gap x entry : ℕ) (segment : Segment) (segments : List Segmen
     → tally (is_of x (Some entry)) segments ≡ 0
 none-after gap x entry segment [] l same after = refl
 none-after gap x entry segment (other ∷ others) l same after =
-    omega (
-      arith,
-      of-before x entry other (λ e. omega (arith, after.0 (e ∙ sym same))),
-      none-after gap x entry segment others l same after.1,
-    )
+    grind (arith, nat_tests, of-before, none-after gap x entry segment others l same after.1)
 
 -- so a pixel is in at most one segment
 pub few-cut : (gap entries bound x entry : ℕ) (segments : List Segment)
@@ -146,35 +108,14 @@ few-cut gap entries bound x entry (segment ∷ segments) are =
     go : (b : Bool) → is_of x (Some entry) segment ≡ b
         → tally (is_of x (Some entry)) segments ≤ 1
         → one (is_of x (Some entry) segment) + tally (is_of x (Some entry)) segments ≤ 1
-    go true e rest =
-        let high : x < segment.end = grind (arith, nat_tests) in
-        let same : segment.entry ≡ entry = grind (arith, nat_tests) in
-        omega (
-          arith,
-          none-after gap x entry segment segments high same are.3,
-          one-few (is_of x (Some entry) segment),
-        )
-    go false e rest = omega (arith, rest, ap one e)
+    go b e rest = grind (arith, nat_tests, none-after, one-few)
 
 -- a segment that grows keeps its pixels
 pub of-longer : (x e column : ℕ) (segment : Segment) → segment.end ≤ column + 1
     → one (is_of x (Some e) segment)
     ≤ one (is_of x (Some e)
     record { entry = segment.entry; first = segment.first; end = column + 1 })
-of-longer x e column segment l =
-    go (is_of x (Some e) segment) refl
-  where
-    longer : Segment
-    longer = record { entry = segment.entry; first = segment.first; end = column + 1 }
-
-    go : (b : Bool) → is_of x (Some e) segment ≡ b
-        → one (is_of x (Some e) segment) ≤ one (is_of x (Some e) longer)
-    go true is =
-        let same : e ≡ segment.entry = grind (arith, nat_tests) in
-        let low : segment.first ≤ x = grind (arith, nat_tests) in
-        let high : x < segment.end = grind (arith, nat_tests) in
-        omega (arith, of-is x e longer same low (omega arith), one-few (is_of x (Some e) segment))
-    go false is = omega (arith, ap one is)
+of-longer x e column segment l = grind (arith, nat_tests, of-is, one-few)
 
 -- one more pixel takes none away
 pub tally-pixel : (gap entries bound column entry x e : ℕ) (segments : List Segment)
@@ -183,8 +124,7 @@ pub tally-pixel : (gap entries bound column entry x e : ℕ) (segments : List Se
     ≤ tally (is_of x (Some e)) (with_pixel gap column entry segments)
 tally-pixel gap entries bound column entry x e [] l are = omega arith
 tally-pixel gap entries bound column entry x e (segment ∷ segments) l are =
-    go (segment.entry == entry && nat_lt column (segment.end + gap))
-    (tally-pixel gap entries bound column entry x e segments l are.4)
+    grind (arith, nat_tests, tally-pixel gap entries bound column entry x e segments l are.4)
   where
     go : (b : Bool)
         → tally (is_of x (Some e)) segments
@@ -194,8 +134,7 @@ tally-pixel gap entries bound column entry x e (segment ∷ segments) l are =
         (cond b
         (record { entry = segment.entry; first = segment.first; end = column + 1 } ∷ segments)
         (segment ∷ with_pixel gap column entry segments))
-    go true rest = omega (arith, of-longer x e column segment (omega (arith, are.2)))
-    go false rest = omega (arith, rest)
+    go b rest = grind (arith, nat_tests, of-longer)
 
 -- and adds its own
 pub own-pixel : (gap entries bound column entry : ℕ) (segments : List Segment)
@@ -208,8 +147,7 @@ own-pixel gap entries bound column entry [] l are =
           (omega arith) (omega arith),
     )
 own-pixel gap entries bound column entry (segment ∷ segments) l are =
-    go (segment.entry == entry && nat_lt column (segment.end + gap)) refl
-    (own-pixel gap entries bound column entry segments l are.4)
+    grind (arith, nat_tests, own-pixel gap entries bound column entry segments l are.4)
   where
     longer : Segment
     longer = record { entry = segment.entry; first = segment.first; end = column + 1 }
@@ -220,8 +158,4 @@ own-pixel gap entries bound column entry (segment ∷ segments) l are =
         (cond b
         (record { entry = segment.entry; first = segment.first; end = column + 1 } ∷ segments)
         (segment ∷ with_pixel gap column entry segments))
-    go true e rest =
-        let same : entry ≡ segment.entry = grind (arith, nat_tests) in
-        let of = of-is column entry longer same (omega (arith, are.1, are.2)) (omega arith) in
-        omega (arith, of)
-    go false e rest = omega (arith, rest)
+    go b e rest = grind (arith, nat_tests, of-is, longer)

@@ -1,6 +1,6 @@
 -- When an entry's row has a dot, and what its text is then.
-use Rattle.std.proofs.Common.{◌≡◌, ℕ, ◌+◌, ◌<◌, true, false, not, cond, List, [], ◌++◌, get_or, ap}
-use Rattle.std.proofs.Common.{sym, ◌∙◌, arith}
+use Rattle.std.proofs.Common.{◌≡◌, ℕ, ◌+◌, ◌<◌, true, false, not, List, ◌++◌, get_or, ap}
+use Rattle.std.proofs.Common.{sym, ◌∙◌, arith, []}
 use Rattle.std.specs.Prelude.{◌==◌}
 use Rattle.std.proofs.lemmas.Bool.Decides.{nat_tests}
 use Rattle.std.proofs.lemmas.List.{append-nil, append_assoc}
@@ -24,9 +24,7 @@ pub has_dot-some : (rows : List ℕ) (width entry x : ℕ) → x < width → 0 <
 has_dot-some rows width entry x l some =
     let is : get_or (grid_row rows width entry) x 0 ≡ cell rows width entry x =
     get_or-map-range_with_len (cell rows width entry) 0 width x x 0 l (omega arith) in
-    list_any_at (λ bits. not (bits == 0)) (grid_row rows width entry) x 0
-    (omega (arith, length-map-range_with_len (cell rows width entry) 0 width))
-    (is_dot-positive (get_or (grid_row rows width entry) x 0) (omega (arith, is)))
+    grind (arith, nat_tests, list_any_at, not, length-map-range_with_len, is_dot-positive)
 
 pub has_dot-none : (rows : List ℕ) (width entry : ℕ)
     → ((x : ℕ) → x < width → cell rows width entry x ≡ 0)
@@ -40,13 +38,7 @@ has_dot-none rows width entry blank =
 pub grid_text-some : (rows : List ℕ) (width from entry : ℕ)
     → has_dot (grid_row rows width entry) ≡ true
     → grid_text rows width from entry ≡ row_text (from + entry) (grid_row rows width entry)
-grid_text-some rows width from entry h =
-    ap (λ b. cond b (row_text (from + entry) (grid_row rows width entry)) []) h
-
-pub grid_text-none : (rows : List ℕ) (width from entry : ℕ)
-    → has_dot (grid_row rows width entry) ≡ false → grid_text rows width from entry ≡ []
-grid_text-none rows width from entry h =
-    ap (λ b. cond b (row_text (from + entry) (grid_row rows width entry)) []) h
+grid_text-some rows width from entry h = grind (arith, nat_tests)
 
 -- a loop that appends what it joins: one list more
 pub appended-more : (f : ℕ → List ℕ) (n : ℕ) (start now new part : List ℕ)
@@ -83,9 +75,4 @@ pub joined-part : (drawing : Drawing) (band from count : ℕ) (rows : List ℕ)
     → cell rows drawing.width e x ≡ sixel_of drawing band (from + e) x)
     → joined (grid_text rows drawing.width from) count
     ≡ joined (λ e. entry_text drawing band (from + e)) count
-joined-part drawing band from count rows h =
-    joined-same (grid_text rows drawing.width from)
-    (λ e. entry_text drawing band (from + e))
-    count (λ e l.
-    ap (λ (r : List ℕ). cond (has_dot r) (row_text (from + e) r) [])
-    (row-entry drawing band from e rows (λ x lx. h e x l lx)))
+joined-part drawing band from count rows h = grind (arith, nat_tests, joined-same, row-entry)

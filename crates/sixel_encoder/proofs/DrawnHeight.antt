@@ -1,8 +1,8 @@
 -- How high the tokens of a text make the picture: to the end of the last band that is used.
 use Rattle.std.specs.Prelude.{None, Option, decimal, is_some, ◌/◌}
-use Rattle.std.proofs.Common.{Bool, List, [], ap, arith, cond, false, inl, inr, length, max, nat_lt}
+use Rattle.std.proofs.Common.{Bool, List, ap, arith, cond, false, inl, inr, length, max, nat_lt}
 use Rattle.std.proofs.Common.{refl, subst, suc, sym, true, zero, ℕ, ◌*◌, ◌+◌, ◌<◌, ◌∙◌, ◌∷◌, ◌≡◌}
-use Rattle.std.proofs.Common.{◌≤◌}
+use Rattle.std.proofs.Common.{◌≤◌, []}
 use Rattle.std.proofs.lemmas.Bool.{cases_Bool, cases_eq, cases_lt, cond-false, cond-true}
 use Rattle.std.proofs.lemmas.Bool.Decides.{nat_tests}
 use Rattle.sixel_base.specs.History.{History, Repeat, Sixel}
@@ -42,13 +42,10 @@ bands_up_to-more test n = let e : n + 1 ≡ suc n = omega arith in ap (bands_up_
 pub bands_up_to-le : (test : ℕ → Bool) (n : ℕ) → bands_up_to test n ≤ n
 unfolding bands_up_to
 bands_up_to-le test zero = omega arith
-bands_up_to-le test (suc n) =
-    cond_le (test n) (n + 1) (bands_up_to test n) (suc n) (omega arith)
-    (omega (arith, bands_up_to-le test n))
+bands_up_to-le test (suc n) = grind (arith, nat_tests, bands_up_to-le test n, cond_le)
   where
     cond_le : (b : Bool) (x y z : ℕ) → x ≤ z → y ≤ z → cond b x y ≤ z
-    cond_le true x y z hx hy = hx
-    cond_le false x y z hx hy = hy
+    cond_le b x y z hx hy = grind (arith, nat_tests)
 
 -- a band that passes the test is among those up to the last that does
 pub bands_up_to-passed : (test : ℕ → Bool) (n band : ℕ) → band < n → test band ≡ true
@@ -58,21 +55,9 @@ bands_up_to-passed test (suc n) band l passed =
     let e : n + 1 ≡ suc n = omega arith in
     subst (λ (m : ℕ). band + 1 ≤ bands_up_to test m) e
     (elim (cases_eq band n) [
-      | inl same ↦ omega (
-        arith,
-        bands_up_to-more test n,
-        cond-true (test n) (n + 1) (bands_up_to test n) (ap test (sym same) ∙ passed),
-      )
-      | inr apart ↦ elim (cases_Bool (test n)) [
-        | inl passes ↦ omega
-            (arith, bands_up_to-more test n, cond-true (test n) (n + 1) (bands_up_to test n) passes)
-        | inr fails ↦ omega (
-          arith,
-          bands_up_to-more test n,
-          cond-false (test n) (n + 1) (bands_up_to test n) fails,
-          bands_up_to-passed test n band (omega arith) passed,
-        )
-      ]
+      | inl same ↦ grind (arith, nat_tests, bands_up_to-more)
+      | inr apart ↦
+          grind (arith, bands_up_to-more, bands_up_to-passed test n band (omega arith) passed)
     ])
 
 -- the last band that passes the test, if there is one
@@ -87,8 +72,7 @@ bands_up_to-last test (suc n) some =
       | inl passes ↦ (n, more ∙ cond-true (test n) (n + 1) (bands_up_to test n) passes, passes)
       | inr fails ↦
           let same = more ∙ cond-false (test n) (n + 1) (bands_up_to test n) fails in
-          let last = bands_up_to-last test n (omega (arith, same)) in
-          (last.0, same ∙ last.1, last.2)
+          grind (arith, nat_tests, bands_up_to-last test n (omega (arith, same)))
     ]
 
 -- ---- one mark
@@ -109,37 +93,19 @@ height-row :
     × (height (with_run_tokens (row_tokens row) h) ≤ max (height h) (6 * pen.band + 6))
     × (0 < length row → 6 * pen.band + 6 ≤ height (with_run_tokens (row_tokens row) h))
 height-row drawing start palette pen row h may follows =
-    let level = follows.level in
     elim (cases_lt 0 (length row)) [
       | inl some ↦
           let high =
           height-run_tokens (row_tokens row) h (AreSound-row row may.small) follows.single
           (omega (arith, ap length (spells row).joined)) in
           (omega (arith, high), omega (arith, high), λ l. omega (arith, high))
-      | inr none ↦
-          let same = empty-row row h (omega arith) in
-          (omega (arith, same), omega (arith, same), λ l. absurd (omega arith))
+      | inr none ↦ grind (arith, nat_tests, empty-row)
     ]
 
 -- a row that sets a pixel has a sixel, and the pixel is in its band
 lit-row : (row : List ℕ) (from top column line : ℕ) → is_lit row from top column line ≡ true
     → (0 < length row) × (top ≤ line) × (line < top + 6)
-lit-row row from top column line lit = (some, low, high)
-  where
-    some : 0 < length row
-    some = elim (cases_lt column (from + length row)) [
-      | inl inside ↦ elim (cases_lt column from) [
-        | inl before ↦ absurd (grind (arith, nat_tests))
-        | inr since ↦ omega arith
-      ]
-      | inr past ↦ let none = is_lit-past row from top column line past in absurd cc
-    ]
-
-    low : top ≤ line
-    low = grind (arith, nat_tests)
-
-    high : line < top + 6
-    high = grind (arith, nat_tests)
+lit-row row from top column line lit = grind (arith, nat_tests, is_lit-past)
 
 -- how high the trip is without crop
 abbrev uncropped_height : Drawing → ℕ
@@ -180,11 +146,7 @@ Reaches-mark drawing start palette pen (Draw row) before h column line may follo
 
     go : (b : Bool) → is_lit row pen.column (6 * pen.band) column line ≡ b
         → is_some (cond b pen.register before) ≡ true → 6 * (line / 6) + 6 ≤ new
-    go true lit some =
-        let in_row = lit-row row pen.column (6 * pen.band) column line lit in
-        let low : 6 * pen.band ≤ line = in_row.1 in
-        let high : line < 6 * pen.band + 6 = in_row.2 in
-        omega (arith, now.2 in_row.0)
+    go true lit some = grind (arith, nat_tests, lit-row, now)
     go false lit some = omega (arith, was.reached some, now.0)
 Reaches-mark drawing start palette pen Back before h column line may follows was =
     record { least = was.least; greatest = was.greatest; reached = was.reached }
@@ -211,21 +173,7 @@ height-tokens : (drawing : Drawing) (definitions : List Definition) (marks : Lis
     → IsWritable drawing → Draws drawing definitions marks
     → height (tokens drawing definitions marks) ≡ uncropped_height drawing
 height-tokens drawing definitions marks is draws =
-    elim (cases_lt 0 (bands_up_to (is_used drawing) (bands drawing.height))) [
-      | inr none ↦ let all = reaches 0 0 in omega (arith, all.least, all.greatest)
-      | inl some ↦
-          let last = bands_up_to-last (is_used drawing) (bands drawing.height) some in
-          let at = used-pixel drawing last.0 is last.2 in
-          let count : bands_up_to (is_used drawing) (bands drawing.height) ≡ last.0 + 1 = last.1 in
-          let band : at.1 / 6 ≡ last.0 = at.5 in
-          let all = reaches at.0 at.1 in
-          omega (
-            arith,
-            all.least,
-            all.greatest,
-            all.reached (ap is_some (draws.opaque at.0 at.1 at.2 at.3 at.4 at.6).1),
-          )
-    ]
+    grind (arith, nat_tests, used-pixel, bands_up_to-last, reaches)
   where
     start_height : height (with_palette drawing definitions) ≡ drawing.height
     start_height = height-palette drawing definitions is
@@ -274,10 +222,6 @@ pub cropped_height-tokens :
     → IsWritable drawing → Draws drawing definitions marks
     → cropped_height crop (tokens drawing definitions marks) ≡ trip_height crop drawing
 cropped_height-tokens true drawing definitions marks is draws =
-    let named : raster_height (tokens drawing definitions marks) ≡ drawing.height =
-    raster_height-marks marks (with_palette drawing definitions)
-    ∙ raster_height-palette drawing definitions is in
-    height-cropped (raster_height (tokens drawing definitions marks))
-    (height (tokens drawing definitions marks)) (omega (arith, named, is.some_height)) ∙ named
+    grind (arith, nat_tests, raster_height-palette, raster_height-marks, height-cropped)
 cropped_height-tokens false drawing definitions marks is draws =
     height-tokens drawing definitions marks is draws

@@ -1,6 +1,6 @@
 -- What the text of an image that was encoded is: in the fewest bytes, blind to what is hidden, and
 -- read back as its trip.
-use Rattle.std.proofs.Common.{◌≡◌, ℕ, ◌*◌, ◌<◌, ◌≤◌, List, Option, Some, None, Result, Ok, Err}
+use Rattle.std.proofs.Common.{◌≡◌, ℕ, ◌*◌, ◌<◌, ◌≤◌, List, Option, None, Result, Ok, Err}
 use Rattle.std.proofs.Common.{refl, sym, ap, ◌∙◌, arith, length}
 use Rattle.std.specs.Prelude.{All, IfErr, IfOk, OnOk, MatchOption}
 use Rattle.sixel_base.specs.declared.error.SixelError.{SixelError}
@@ -18,15 +18,14 @@ use Rattle.sixel_encoder.proofs.FormText.{image-form_back, image-one_form, lengt
 use Rattle.sixel_encoder.proofs.ShortestRows.{spells, shortest}
 use Rattle.sixel_base.specs.Limits.{Limit}
 use Rattle.sixel_encoder.specs.Trip.{CanRead, trip, IsTrip, IsReadAs, IsOneString}
-use Rattle.sixel_encoder.proofs.TripLimits.{CanRead-new}
 use Rattle.sixel_encoder.proofs.SecondTrip.{text-again}
+use Rattle.std.proofs.lemmas.Bool.Decides.{nat_tests}
 
 -- an image that was encoded has no fault
 accepted : {S : Type 0} (result : Result S SixelError) (text : S) (fault : Option SixelError)
     → result ≡ Ok text
     → MatchOption fault (IfErr result (λ e. e ≡ OutOfMemory)) (λ f. result ≡ Err f) → fault ≡ None
-accepted result text None ok is = refl
-accepted result text (Some f) ok is = absurd cc
+accepted result text fault ok is = grind (arith, nat_tests)
 
 -- the plain text is that of a drawing whose rows are all in the fewest bytes
 pub shortest-written : {S : Type 0} (bytes : S → List ℕ) (result : Result S SixelError)
@@ -66,22 +65,14 @@ pub short-written : {S : Type 0} (form : TextForm) (bytes : S → List ℕ)
     → IfOk result (λ text. length (bytes text) ≤ length plain)
 short-written form bytes (Ok text) image k plain one fits is also =
     let same : is.0 ≡ also.0 = one is.0 also.0 fits is.1 also.1 in
-    omega (
-      arith,
-      ap length is.2,
-      ap length also.2,
-      ap (λ (d : Drawing). length (form_text form d)) same,
-      length-form form also.0,
-    )
+    grind (arith, nat_tests, length-form)
 short-written form bytes (Err e) image k plain one fits is also = tt
 
 -- so a new decoder can read it
 pub readable-written : {S : Type 0} (result : Result S SixelError) (image : Image)
     → MatchOption (image_fault image) (IfErr result (λ e. e ≡ OutOfMemory)) (λ f. result ≡ Err f)
     → OnOk result (CanRead new_decoder image.width image.height)
-readable-written (Ok text) image refused =
-    CanRead-new image (accepted (Ok text) text (image_fault image) refl refused)
-readable-written (Err e) image refused = tt
+readable-written result image refused = grind (arith, nat_tests, accepted)
 
 pub one_string-written : {S : Type 0} (form : TextForm) (bytes : S → List ℕ)
     (result : Result S SixelError) (limit : Limit) (image : Image) (k : ℕ)

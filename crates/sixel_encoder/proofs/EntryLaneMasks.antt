@@ -1,9 +1,9 @@
 -- The lanes of a column that have a value, as the bits of a number.
 use Rattle.std.specs.Prelude.{None, Option, Some, is_some, not, ◌==◌, ◌≢◌}
-use Rattle.std.proofs.Common.{Bool, List, [], ap, arith, cond, eqb, false, inl, inr, length, map}
+use Rattle.std.proofs.Common.{Bool, List, ap, arith, cond, eqb, false, inl, inr, length, map}
 use Rattle.std.proofs.Common.{refl, replicate, suc, sym, true, w16, zero, ℕ, ◌%◌, ◌*◌, ◌+◌}
-use Rattle.std.proofs.Common.{◌<◌, ◌^◌, ◌∙◌, ◌∷◌, ◌≡◌, ◌≤◌, get_or}
-use Rattle.std.proofs.lemmas.Bool.{both_ways, cases_eq, cases_lt}
+use Rattle.std.proofs.Common.{◌<◌, ◌^◌, ◌∙◌, ◌∷◌, ◌≡◌, ◌≤◌, get_or, []}
+use Rattle.std.proofs.lemmas.Bool.{both_ways, cases_lt}
 use Rattle.std.proofs.lemmas.Bool.Decides.{nat_tests}
 use Rattle.std.proofs.lemmas.Grind.{pow_more}
 use Rattle.std.proofs.lemmas.List.{get_or-map, length-map}
@@ -20,40 +20,26 @@ use Rattle.sixel_encoder.proofs.Masks.{hits, hits-past, mask-more, mask-none}
 -- ---- the mask of a list of answers
 
 double : (b : Bool) (n : ℕ) → cond b (2 ^ suc n) 0 ≡ 2 * cond b (2 ^ n) 0
-double true n =
-    let e : suc n ≡ n + 1 = omega arith in
-    omega (arith, ap (λ k. 2 ^ k) e, pow_more 2 n)
-double false n = refl
+double b n = grind (arith, nat_tests, pow_more)
 
 -- a mask by its lowest bit and the others
 mask-low : (test : ℕ → Bool) (n : ℕ)
     → mask test (suc n) ≡ cond (test 0) 1 0 + 2 * mask (λ k. test (suc k)) n
 unfolding mask
 mask-low test zero = omega arith
-mask-low test (suc n) =
-    omega (arith, mask-low test n, double (test (suc n)) n)
+mask-low test (suc n) = omega (arith, mask-low test n, double (test (suc n)) n)
 
 -- tests that agree have one mask
 pub mask-same : (p q : ℕ → Bool) (n : ℕ) → ((k : ℕ) → k < n → p k ≡ q k) → mask p n ≡ mask q n
 unfolding mask
 mask-same p q zero same = refl
-mask-same p q (suc n) same =
-    omega (
-      arith,
-      mask-same p q n (λ k l. same k (omega arith)),
-      ap (λ b. cond b (2 ^ n) 0) (same n (omega arith)),
-    )
+mask-same p q (suc n) same = grind (arith, nat_tests, mask-same p q n (λ k l. same k (omega arith)))
 
 -- the number of a list of answers is their mask
 mask_l-mask : (answers : List Bool)
     → mask_l answers ≡ mask (λ k. get_or answers k false) (length answers)
 mask_l-mask [] = sym (mask-none (λ k. get_or [] k false))
-mask_l-mask (b ∷ answers) =
-    omega (
-      arith,
-      mask_l-mask answers,
-      mask-low (λ k. get_or (b ∷ answers) k false) (length answers),
-    )
+mask_l-mask (b ∷ answers) = grind (arith, nat_tests, mask-low, mask_l-mask answers)
 
 -- ---- the lanes that have a value
 
@@ -97,18 +83,7 @@ pub opaque-lane : (entries : BandEntries) (column bit lane : ℕ) → AreLanes e
     → lane ≢ 256
     → (entry_at (drawing_of entries.image.now) column (6 * entries.band + bit) ≡ Some lane)
     × (lane < 256)
-opaque-lane entries column bit lane are lc is other =
-    go (entry_at (drawing_of entries.image.now) column (6 * entries.band + bit)) refl is
-  where
-    go : (place : Option ℕ)
-        → entry_at (drawing_of entries.image.now) column (6 * entries.band + bit) ≡ place
-        → lane ≡ lane_of place
-        → (place ≡ Some lane) × (lane < 256)
-    go None at e = absurd (other e)
-    go (Some entry) at e = (
-      ap Some (sym e),
-      omega (arith, e, known entries.image.now entries.band column bit entry are.indexed lc at),
-    )
+opaque-lane entries column bit lane are lc is other = grind (arith, nat_tests, known)
 
 -- that of any other has none
 pub transparent-lane : (entries : BandEntries) (column bit lane : ℕ) → AreLanes entries
@@ -116,22 +91,7 @@ pub transparent-lane : (entries : BandEntries) (column bit lane : ℕ) → AreLa
     → lane ≡ lane_of (entry_at (drawing_of entries.image.now) column (6 * entries.band + bit))
     → lane ≡ 256
     → entry_at (drawing_of entries.image.now) column (6 * entries.band + bit) ≡ None
-transparent-lane entries column bit lane are lc is none =
-    go (entry_at (drawing_of entries.image.now) column (6 * entries.band + bit)) refl is
-  where
-    go : (place : Option ℕ)
-        → entry_at (drawing_of entries.image.now) column (6 * entries.band + bit) ≡ place
-        → lane ≡ lane_of place → place ≡ None
-    go None at e = refl
-    go (Some entry) at e =
-        absurd
-        (omega (
-          arith,
-          e,
-          none,
-          known entries.image.now entries.band column bit entry
-              are.indexed lc at,
-        ))
+transparent-lane entries column bit lane are lc is none = grind (arith, nat_tests, known)
 
 -- whether a lane has an entry
 lane-entry : (entry : ℕ) (place : Option ℕ) → entry < 256
@@ -152,10 +112,6 @@ pub sixel-lanes : (entries : BandEntries) (column entry : ℕ) → AreLanes entr
     ≡ sixel_of (drawing_of entries.image.now) entries.band entry column
 sixel-lanes entries column entry are lc le =
     let test : ℕ → Bool = λ bit. get_or entries.lanes.items (8 * column + bit) 0 == entry in
-    let six : get_or entries.lanes.items (8 * column + 6) 0 ≡ 256 =
-    are.spare.spare column 6 lc (omega arith) (omega arith) in
-    let seven : get_or entries.lanes.items (8 * column + 7) 0 ≡ 256 =
-    are.spare.spare column 7 lc (omega arith) (omega arith) in
     let off6 : test 6 ≡ false = grind (arith, nat_tests) in
     let off7 : test 7 ≡ false = grind (arith, nat_tests) in
     omega (
@@ -180,16 +136,7 @@ pub same-lane : (entries : BandEntries) (column bit other : ℕ) → AreLanes en
     → entry_at (drawing_of entries.image.now) column (6 * entries.band + bit)
     ≡ entry_at (drawing_of entries.image.now) column (6 * entries.band + other)
 same-lane entries column bit other are lc same =
-    let lane =
-    lane_of (entry_at (drawing_of entries.image.now) column (6 * entries.band + other)) in
-    elim (cases_eq lane 256) [
-      | inl none ↦
-          transparent-lane entries column bit lane are lc (sym same) none
-          ∙ sym (transparent-lane entries column other lane are lc refl none)
-      | inr some ↦
-          (opaque-lane entries column bit lane are lc (sym same) some).0
-          ∙ sym (opaque-lane entries column other lane are lc refl some).0
-    ]
+    grind (arith, nat_tests, transparent-lane, opaque-lane)
 
 -- the transparent lanes are the sixel of the transparent pixels and two more bits
 pub transparent-lanes : (entries : BandEntries) (column : ℕ) → AreLanes entries
@@ -198,10 +145,6 @@ pub transparent-lanes : (entries : BandEntries) (column : ℕ) → AreLanes entr
     ≡ transparent_sixel (drawing_of entries.image.now) entries.band column + 192
 transparent-lanes entries column are lc =
     let test : ℕ → Bool = λ bit. get_or entries.lanes.items (8 * column + bit) 0 == 256 in
-    let six : get_or entries.lanes.items (8 * column + 6) 0 ≡ 256 =
-    are.spare.spare column 6 lc (omega arith) (omega arith) in
-    let seven : get_or entries.lanes.items (8 * column + 7) 0 ≡ 256 =
-    are.spare.spare column 7 lc (omega arith) (omega arith) in
     let on6 : test 6 ≡ true = grind (arith, nat_tests) in
     let on7 : test 7 ≡ true = grind (arith, nat_tests) in
     omega (

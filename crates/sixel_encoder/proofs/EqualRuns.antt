@@ -1,20 +1,17 @@
 -- What a row's tokens are where equal sixels follow, and runs of equal sixels that are joined.
 use Rattle.std.proofs.Common.{◌≡◌, ℕ, zero, suc, ◌+◌, ◌-◌, ◌<◌, ◌≤◌, List, ◌∷◌, length, get_or}
-use Rattle.std.proofs.Common.{drop, refl, ap, inl, inr, ◌∙◌, arith}
-use Rattle.std.proofs.lemmas.Bool.{cases_lt}
+use Rattle.std.proofs.Common.{drop, ap, ◌∙◌, arith}
 use Rattle.std.proofs.Math.Seq.{drop-cons}
 use Rattle.sixel_encoder.specs.RunTokens.{tokens_after}
 use Rattle.sixel_encoder.specs.inside.Runs.{IsRun}
 use Rattle.sixel_encoder.proofs.ShortestRows.{tokens_after-same}
+use Rattle.std.proofs.lemmas.Bool.Decides.{nat_tests}
 
 -- equal sixels add to the run
 pub tokens_skip : (n : ℕ) (row : List ℕ) (at count bits : ℕ) → at + n ≤ length row
     → ((k : ℕ) → at ≤ k → k < at + n → get_or row k 0 ≡ bits)
     → tokens_after count bits (drop at row) ≡ tokens_after (count + n) bits (drop (at + n) row)
-tokens_skip zero row at count bits l same =
-    let a : at + zero ≡ at = omega arith in
-    let c : count + zero ≡ count = omega arith in
-    rw (a, c) refl
+tokens_skip zero row at count bits l same = grind (arith, nat_tests)
 tokens_skip (suc n) row at count bits l same =
     let a : at + suc n ≡ at + 1 + n = omega arith in
     let c : count + suc n ≡ count + 1 + n = omega arith in
@@ -31,11 +28,4 @@ tokens_skip (suc n) row at count bits l same =
 pub run_join : (row : List ℕ) (at middle end bits : ℕ) → at ≤ middle → middle ≤ end
     → IsRun row at bits (middle - at) → IsRun row middle bits (end - middle)
     → IsRun row at bits (end - at)
-run_join row at middle end bits first second run more = record {
-  within = omega (arith, more.within);
-  same = λ k f t.
-      elim (cases_lt k middle) [
-        | inl l ↦ run.same k f (omega (arith, l))
-        | inr g ↦ more.same k (omega (arith, g)) (omega (arith, t))
-      ];
-}
+run_join row at middle end bits first second run more = grind (arith, nat_tests)

@@ -1,19 +1,18 @@
 -- One column more of a greedy fill, and the blocked pixels after a segment.
 use Rattle.std.specs.Int.Bits.{bit_and, bit_or}
 use Rattle.std.specs.List.{range_with_len}
-use Rattle.std.specs.Prelude.{All, nat_le, nat_lt, slice_index, ◌&&◌, ◌==◌}
-use Rattle.std.proofs.Common.{Bool, List, [], ap, append_assoc, arith, cond, false, inl, inr}
-use Rattle.std.proofs.Common.{length, refl, replicate, set, suc, sym, take, true, ℕ, ◌++◌, ◌+◌, ◌-◌}
-use Rattle.std.proofs.Common.{◌<◌, ◌∙◌, ◌∷◌, ◌≡◌, ◌≢◌, ◌≤◌, length-append}
-use Rattle.std.proofs.lemmas.Bool.{cases_eq, cases_lt}
+use Rattle.std.specs.Prelude.{All, slice_index, ◌==◌}
+use Rattle.std.proofs.Common.{Bool, List, ap, arith, cond, false}
+use Rattle.std.proofs.Common.{length, refl, replicate, set, suc, take, true, ℕ, ◌++◌, ◌+◌, ◌-◌}
+use Rattle.std.proofs.Common.{◌<◌, ◌∷◌, ◌≡◌, ◌≢◌, ◌≤◌, length-append, []}
 use Rattle.std.proofs.lemmas.Bool.Decides.{nat_tests}
-use Rattle.std.proofs.lemmas.Grind.{get_or-set_at, same_number_lists}
+use Rattle.std.proofs.lemmas.Grind.{get_or-set_at, same_number_lists, common_steps}
 use Rattle.std.proofs.lemmas.List.{get_or-set_other, length-replicate, length-set, take_all}
 use Rattle.std.proofs.lemmas.List.Elements.{All-append, All-replicate}
 use Rattle.std.proofs.lemmas.List.FromFn.{get_or-map-range_with_len, length-map-range_with_len}
 use Rattle.std.proofs.lemmas.Nat.{or_lt}
 use Rattle.sixel_encoder.specs.declared.segments.Segment.{Segment}
-use Rattle.sixel_encoder.specs.Compact.{blocked_after, blocked_sixel, fill_after, union}
+use Rattle.sixel_encoder.specs.Compact.{blocked_after, fill_after, union}
 use Rattle.sixel_encoder.specs.Text.{Drawing, sixel_of}
 
 -- ---- a column of a fill
@@ -22,8 +21,7 @@ use Rattle.sixel_encoder.specs.Text.{Drawing, sixel_of}
 range-more : (column len : ℕ) → column < len
     → range_with_len column (len - column)
     ≡ column ∷ range_with_len (column + 1) (len - (column + 1))
-range-more column len l =
-    let e : len - column ≡ suc (len - (column + 1)) = omega arith in ap (range_with_len column) e
+range-more column len l = grind (arith, nat_tests)
 
 -- the sixels that are written and the fill that is left, which is of the columns up to an end
 abbrev pub state : (ℕ → ℕ) → (ℕ → ℕ) → List ℕ → ℕ → ℕ → ℕ → ℕ → ℕ → List ℕ
@@ -36,45 +34,7 @@ pub fill-more : (own blocked : ℕ → ℕ) (row : List ℕ) (bits ban count col
     → state own blocked row (bit_or bits (own column)) (bit_or ban (blocked column)) (count + 1)
     (column + 1) end
     ≡ state own blocked row bits ban count column end
-fill-more own blocked row bits ban count column end l none =
-    let rest : List ℕ = range_with_len (column + 1) (end - (column + 1)) in
-    let test : bit_and (bit_or bits (own column)) (bit_or ban (blocked column)) == 0 ≡ true =
-    grind (arith, nat_tests) in
-    sym (ap (λ cs. row ++ fill_after own blocked bits ban count cs) (range-more column end l)
-    ∙ ap
-    (λ t. row ++ cond t
-    (fill_after own blocked (bit_or bits (own column)) (bit_or ban (blocked column)) (count + 1)
-    rest)
-    (replicate count bits ++ fill_after own blocked (own column) (blocked column) 1 rest)) test)
-
--- a column that begins a run
-pub fill-cut : (own blocked : ℕ → ℕ) (row : List ℕ) (bits ban count column end : ℕ)
-    → column < end → bit_and (bit_or bits (own column)) (bit_or ban (blocked column)) ≢ 0
-    → state own blocked (row ++ replicate count bits) (own column) (blocked column) 1 (column + 1)
-    end
-    ≡ state own blocked row bits ban count column end
-fill-cut own blocked row bits ban count column end l some =
-    let rest : List ℕ = range_with_len (column + 1) (end - (column + 1)) in
-    let test : bit_and (bit_or bits (own column)) (bit_or ban (blocked column)) == 0 ≡ false =
-    grind (arith, nat_tests) in
-    append_assoc row (replicate count bits)
-    (fill_after own blocked (own column) (blocked column) 1 rest)
-    ∙ sym (ap (λ cs. row ++ fill_after own blocked bits ban count cs) (range-more column end l)
-    ∙ ap
-    (λ t. row ++ cond t
-    (fill_after own blocked (bit_or bits (own column)) (bit_or ban (blocked column)) (count + 1)
-    rest)
-    (replicate count bits ++ fill_after own blocked (own column) (blocked column) 1 rest)) test)
-
--- the sixels that are written up to a column
-filled-up : (row row1 : List ℕ) (bits from column n m : ℕ) → from + length row ≤ column
-    → n ≡ column - from → m ≡ length row → row1 ≡ take n row ++ replicate (n - m) bits
-    → row1 ≡ row ++ replicate (column - from - length row) bits
-filled-up row row1 bits from column n m l up long is =
-    let amount : n - m ≡ column - from - length row = omega (arith, up, long) in
-    is
-    ∙ (ap (λ r. r ++ replicate (n - m) bits) (take_all n row (omega (arith, up, l)))
-    ∙ ap (λ k. row ++ replicate k bits) amount)
+fill-more own blocked row bits ban count column end l none = grind (arith, nat_tests, range-more)
 
 -- the loop goes on with a run
 pub fill-on : (own blocked : ℕ → ℕ) (row row1 whole : List ℕ)
@@ -86,8 +46,7 @@ pub fill-on : (own blocked : ℕ → ℕ) (row row1 whole : List ℕ)
 fill-on own blocked row row1 whole bits ban bits1 ban1 from column end l short row_is bits_is ban_is
     none was =
     let count : column + 1 - from - length row ≡ column - from - length row + 1 = omega arith in
-    rw (row_is, bits_is, ban_is, count)
-    (fill-more own blocked row bits ban (column - from - length row) column end l none ∙ was)
+    grind (arith, nat_tests, fill-more)
 
 -- the loop begins a run
 pub fill-off : (own blocked : ℕ → ℕ) (row row1 whole : List ℕ)
@@ -100,21 +59,7 @@ pub fill-off : (own blocked : ℕ → ℕ) (row row1 whole : List ℕ)
     × (from + length row1 ≡ column)
 fill-off own blocked row row1 whole bits ban bits1 ban1 from column end n m l short up long row_is
     bits_is ban_is some was =
-    let count : ℕ = column - from - length row in
-    let made = filled-up row row1 bits from column n m short up long row_is in
-    let size : from + length row1 ≡ column =
-    omega (
-      arith,
-      ap length made,
-      length-append row (replicate count bits),
-      length-replicate count bits,
-      short,
-    ) in
-    let first : column + 1 - from - length row1 ≡ 1 = omega (arith, size) in (
-      rw first (rw (made, bits_is, ban_is)
-          (fill-cut own blocked row bits ban count column end l some ∙ was)),
-      size,
-    )
+    grind (arith, nat_tests, length-append, length-replicate, common_steps, range-more)
 
 -- the loop ends
 pub fill-end : (own blocked : ℕ → ℕ) (row row1 whole : List ℕ) (bits ban from column n m : ℕ)
@@ -123,12 +68,7 @@ pub fill-end : (own blocked : ℕ → ℕ) (row row1 whole : List ℕ) (bits ban
     → state own blocked row bits ban (column - from - length row) column column ≡ whole
     → row1 ≡ whole
 fill-end own blocked row row1 whole bits ban from column n m short up long row_is was =
-    let none : 0 ≡ column - column = omega arith in
-    filled-up row row1 bits from column n m short up long row_is
-    ∙ (ap
-    (λ k. row ++ fill_after own blocked bits ban (column - from - length row)
-    (range_with_len column k)) none
-    ∙ was)
+    grind (arith, nat_tests, take_all)
 
 -- a fill has six bits in each column, if each own sixel has
 pub All-fill : (own blocked : ℕ → ℕ) → ((column : ℕ) → own column < 64)
@@ -187,51 +127,12 @@ pub blocked-more : (old was : List ℕ) (own : ℕ → ℕ) (first column value 
     → value ≡ bit_or (slice_index old column) (own column)
     → IsBlocking old own first column was
     → IsBlocking old own first (column + 1) (set was column value)
-blocked-more old was own first column value l low is are = record {
-  wide = length-set was column value ∙ are.wide;
-  inside = λ k f t. elim (cases_eq k column) [
-    | inl same ↦
-        get_or-set_at was column k value 0 same l
-        ∙ (is ∙ ap (λ c. bit_or (slice_index old c) (own c)) (sym same))
-    | inr apart ↦
-        get_or-set_other was column k value 0 apart ∙ are.inside k f (omega (arith, t, apart))
-  ];
-  before = λ k t.
-      get_or-set_other was column k value 0 (λ e. omega (arith, e, t, low)) ∙ are.before k t;
-  past = λ k f.
-      get_or-set_other was column k value 0 (λ e. omega (arith, e, f))
-      ∙ are.past k (omega (arith, f));
-}
+blocked-more old was own first column value l low is are =
+    grind (arith, nat_tests, length-set, get_or-set_at, get_or-set_other)
 
 -- those of all columns of a segment
 pub blocked-after : (drawing : Drawing) (band : ℕ) (old new : List ℕ) (segment : Segment)
     → IsBlocking old (sixel_of drawing band segment.entry) segment.first segment.end new
     → new ≡ blocked_after drawing band old segment
 blocked-after drawing band old new segment are =
-    same_number_lists new (blocked_after drawing band old segment)
-    (are.wide ∙ sym (length-map-range_with_len test 0 (length old)))
-    (λ k l.
-    at k
-    ∙ sym (get_or-map-range_with_len test 0 (length old) k k 0 (omega (arith, are.wide, l))
-    (omega arith)))
-  where
-    test : ℕ → ℕ
-    test = blocked_sixel drawing band old segment
-
-    at : (k : ℕ) → slice_index new k ≡ blocked_sixel drawing band old segment k
-    at k = elim (cases_lt k segment.first) [
-      | inl low ↦
-          let off : nat_le segment.first k && nat_lt k segment.end ≡ false =
-          grind (arith, nat_tests) in
-          rw off (are.before k low)
-      | inr since ↦ elim (cases_lt k segment.end) [
-        | inl within ↦
-            let on : nat_le segment.first k && nat_lt k segment.end ≡ true =
-            grind (arith, nat_tests) in
-            rw on (are.inside k since within)
-        | inr after ↦
-            let off : nat_le segment.first k && nat_lt k segment.end ≡ false =
-            grind (arith, nat_tests) in
-            rw off (are.past k after)
-      ]
-    ]
+    grind (arith, same_number_lists, length-map-range_with_len, get_or-map-range_with_len)

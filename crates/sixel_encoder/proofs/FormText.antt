@@ -17,6 +17,7 @@ use Rattle.sixel_encoder.proofs.DcsText.{IsOneString-drawn, IsReadAs-drawn}
 use Rattle.sixel_encoder.proofs.PlainText.{IsDrawnText-plain}
 use Rattle.sixel_encoder.proofs.TripLimits.{CanRead-drawn, IsWritable-drawn, area-drawn}
 use Rattle.sixel_base.specs.Limits.{Limit}
+use Rattle.std.proofs.lemmas.Bool.Decides.{nat_tests}
 
 -- a text of marks that draw the drawing
 pub IsDrawnText-form : (form : TextForm) (drawing : Drawing) → IsWritable drawing
@@ -27,8 +28,7 @@ IsDrawnText-form Compact drawing is = IsDrawnText-compact drawing is
 -- no longer than the plain text
 pub length-form : (form : TextForm) (drawing : Drawing)
     → length (form_text form drawing) ≤ length (text_of drawing)
-length-form Plain drawing = omega arith
-length-form Compact drawing = length-compact drawing
+length-form form drawing = grind (arith, nat_tests, length-compact)
 
 -- an image's text is one DCS sequence
 pub image-one_form : (form : TextForm) (limit : Limit) (image : Image) (max_colors : ℕ)

@@ -2,7 +2,7 @@
 use Rattle.std.specs.Int.{bit_at}
 use Rattle.std.specs.Int.Bits.{bit_and, bit_or}
 use Rattle.std.specs.Prelude.{slice_index, ◌==◌}
-use Rattle.std.proofs.Common.{Bool, List, [], ap, arith, cond, false, length, refl, replicate, suc}
+use Rattle.std.proofs.Common.{Bool, List, ap, arith, cond, false, length, refl, replicate, suc, []}
 use Rattle.std.proofs.Common.{sym, true, zero, ℕ, ◌+◌, ◌<◌, ◌∙◌, ◌∷◌, ◌++◌, ◌≡◌, ◌≤◌, length-append}
 use Rattle.std.proofs.lemmas.Bool.Decides.{nat_tests}
 use Rattle.std.proofs.lemmas.List.{get_or-append-add, get_or-replicate, get_or_append_left}
@@ -40,10 +40,7 @@ pub record IsFilled (bits ban value : ℕ) : Type 0 where
 -- a sixel that serves more bits and bans serves fewer
 IsFilled-less : (bits more ban wider value : ℕ) → IsPart bits more → IsPart ban wider
     → IsFilled more wider value → IsFilled bits ban value
-IsFilled-less bits more ban wider value a b is = record {
-  all = λ i. omega (arith, a i, is.all i);
-  none = λ i. omega (arith, b i, is.none i);
-}
+IsFilled-less bits more ban wider value a b is = grind (arith, nat_tests)
 
 -- bits that are apart from the ban serve themselves
 IsFilled-self : (bits ban : ℕ) → AreApart bits ban → IsFilled bits ban bits
@@ -67,11 +64,7 @@ AreFit own blocked columns =
 pub IsFill-fill : (own blocked : ℕ → ℕ) (bits ban count : ℕ) (columns : List ℕ)
     → AreFit own blocked columns → AreApart bits ban
     → IsFill own blocked bits ban count columns (fill_after own blocked bits ban count columns)
-IsFill-fill own blocked bits ban count [] fits now = record {
-  size = omega (arith, length-replicate count bits);
-  first = λ k l. at k l;
-  then = λ k l. absurd (omega arith);
-}
+IsFill-fill own blocked bits ban count [] fits now = grind (arith, nat_tests, length-replicate, at)
   where
     at : (k : ℕ) → k < count → IsFilled bits ban (slice_index (replicate count bits) k)
     at k l =
@@ -131,12 +124,7 @@ IsFill-fill own blocked bits ban count (column ∷ columns) fits now =
                 let e : count + suc k ≡ count + 1 + k = omega arith in
                 rw e (rest.then k (omega arith))
     go false e longer fresh = record {
-      size = omega (
-        arith,
-        fresh.size,
-        length-replicate count bits,
-        length-append (replicate count bits) next,
-      );
+      size = grind (arith, nat_tests, length-replicate, length-append, next);
       first = λ k l. let same = left k l in rw same (IsFilled-self bits ban now);
       then = λ k l. later k l;
     }

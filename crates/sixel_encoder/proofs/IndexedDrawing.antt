@@ -1,6 +1,6 @@
 -- The drawing of an image whose colors are chosen, and that an image has one drawing.
 use Rattle.std.proofs.Common.{◌≡◌, ℕ, ◌+◌, ◌*◌, ◌<◌, ◌≤◌, nat_le, true, false, cond, List, length}
-use Rattle.std.proofs.Common.{get_or, refl, ap, ◌∙◌, arith, Some, None}
+use Rattle.std.proofs.Common.{get_or, ap, arith, Some, None}
 use Rattle.std.proofs.lemmas.Bool.Decides.{nat_tests}
 use Rattle.std.proofs.lemmas.List.FromFn.{length-map-range_with_len, get_or-map-range_with_len}
 use Rattle.sixel_palette.specs.Palette.{IsPalette, AreIndices}
@@ -34,24 +34,13 @@ entry_of-transparent pixels indices pixel h =
 
 pub get_or-entries : (pixels indices : List ℕ) (pixel : ℕ) → pixel < length indices
     → get_or (entries_of pixels indices) pixel None ≡ entry_of pixels indices pixel
-get_or-entries pixels indices pixel h =
-    get_or-map-range_with_len (entry_of pixels indices) 0 (length indices) pixel pixel None h
-    (omega arith)
+get_or-entries pixels indices pixel h = grind (arith, nat_tests, get_or-map-range_with_len)
 
 -- an image with no fault, few colors and an index a pixel
 pub IsIndexed-chosen : (image : IndexedImage) → image_fault (image_of image) ≡ None
     → length image.colors.now ≤ 256
     → AreIndices image.pixels.now image.colors.now image.indices.now → IsIndexed image
-IsIndexed-chosen image sound few are =
-    let within = within-sound (image_of image) sound in
-    record {
-      wide = within.wide;
-      high = omega (arith, within.high);
-      colors = few;
-      pixels = within.sized;
-      indices = omega (arith, are.one_each, within.sized);
-      opaque = λ pixel l is. (are.opaque pixel (omega (arith, within.sized, l)) is).entry;
-    }
+IsIndexed-chosen image sound few are = grind (arith, nat_tests, within-sound)
 
 -- a chosen palette and its indices make the drawing
 pub IsDrawing-chosen : (image : IndexedImage) (max_colors : ℕ)
@@ -59,22 +48,4 @@ pub IsDrawing-chosen : (image : IndexedImage) (max_colors : ℕ)
     → AreIndices image.pixels.now image.colors.now image.indices.now
     → IsDrawing (image_of image) max_colors (drawing_of image)
 IsDrawing-chosen image max_colors palette are =
-    let pixels = image.pixels.now in
-    let indices = image.indices.now in
-    record {
-      width = refl;
-      height = refl;
-      aspect_ratio = refl;
-      background_mode = refl;
-      palette = palette;
-      size = length-map-range_with_len (entry_of pixels indices) 0 (length indices) ∙ are.one_each;
-      shown = λ pixel l is.
-          let e = get_or-entries pixels indices pixel (omega (arith, are.one_each)) in (
-            get_or indices pixel 0,
-            e ∙ entry_of-opaque pixels indices pixel is,
-            are.opaque pixel l is,
-          );
-      hidden = λ pixel l is.
-          let e = get_or-entries pixels indices pixel (omega (arith, are.one_each)) in
-          e ∙ entry_of-transparent pixels indices pixel is;
-    }
+    grind (arith, length-map-range_with_len, get_or-entries)

@@ -1,10 +1,8 @@
 -- The drawing of an image in a given palette can be written, and its text is read back.
 use Rattle.std.proofs.Common.{◌≡◌, ℕ, ◌+◌, ◌*◌, ◌<◌, ◌≤◌, List, length, get_or, ap, sym, subst, ◌∙◌}
-use Rattle.std.proofs.Common.{arith, inl, inr}
-use Rattle.std.specs.Prelude.{All, IfSome, None, Option, slice_index}
+use Rattle.std.proofs.Common.{arith}
+use Rattle.std.specs.Prelude.{All, None, slice_index, true}
 use Rattle.std.specs.List.{list_any, range_with_len}
-use Rattle.std.specs.Prelude.{true}
-use Rattle.std.proofs.lemmas.Bool.{cases_lt}
 use Rattle.std.proofs.lemmas.List.FromFn.{get_or-map-range_with_len, get_or-range_with_len}
 use Rattle.std.proofs.lemmas.List.FromFn.{length-map-range_with_len, length-range_with_len}
 use Rattle.std.proofs.lemmas.List.Folds.{list_any_at}
@@ -13,12 +11,10 @@ use Rattle.sixel_base.specs.Payload.{Image}
 use Rattle.sixel_encoder.specs.declared.form.TextForm.{TextForm}
 use Rattle.sixel_encoder.specs.Encoding.{image_fault}
 use Rattle.sixel_encoder.specs.Form.{form_text}
-use Rattle.sixel_encoder.specs.Dithering.{entry_of}
-use Rattle.sixel_encoder.specs.IndexedDrawing.{IsTextOf, entries_of, index_range_fault}
+use Rattle.sixel_encoder.specs.IndexedDrawing.{IsTextOf, index_range_fault}
 use Rattle.sixel_encoder.specs.IndexedDrawing.{indexed_drawing, is_past}
 use Rattle.sixel_encoder.specs.Text.{Drawing, row_of}
 use Rattle.sixel_encoder.specs.Trip.{IsColor, IsOneString, IsReadAs, IsWritable, trip}
-use Rattle.sixel_encoder.proofs.IndexedDrawing.{entry_of-opaque, entry_of-transparent}
 use Rattle.sixel_encoder.proofs.DcsText.{IsOneString-drawn, IsReadAs-drawn}
 use Rattle.sixel_encoder.proofs.FormText.{IsDrawnText-form, length-form}
 use Rattle.sixel_encoder.proofs.ShortestRows.{shortest, spells}
@@ -49,10 +45,7 @@ pub list_any-past : (pixels indices : List ℕ) (colors pixel : ℕ) → pixel <
 list_any-past pixels indices colors pixel l light past =
     let place : get_or (range_with_len 0 (length indices)) pixel 0 ≡ pixel =
     get_or-range_with_len 0 (length indices) pixel 0 l ∙ omega arith in
-    let here : is_past pixels indices colors pixel ≡ true = grind (arith, nat_tests) in
-    list_any_at (is_past pixels indices colors) (range_with_len 0 (length indices)) pixel 0
-    (omega (arith, length-range_with_len 0 (length indices)))
-    (ap (is_past pixels indices colors) place ∙ here)
+    grind (arith, nat_tests, list_any_at, length-range_with_len)
 
 -- the index of each opaque pixel is below the number of colors
 abbrev pub AreEntries : List ℕ → List ℕ → ℕ → Type 0
@@ -63,23 +56,7 @@ AreEntries pixels indices colors =
 -- as where no index is past them
 pub AreEntries-sound : (pixels indices : List ℕ) (colors : ℕ)
     → index_range_fault pixels indices colors ≡ None → AreEntries pixels indices colors
-AreEntries-sound pixels indices colors sound = λ pixel l light.
-    elim (cases_lt (slice_index indices pixel) colors) [
-      | inl below ↦ below
-      | inr past ↦
-          let found = list_any-past pixels indices colors pixel l light past in absurd cc
-    ]
-
--- so each pixel has one of these entries, or none
-entry-known : (pixels indices : List ℕ) (colors pixel : ℕ) → AreEntries pixels indices colors
-    → pixel < length indices → IfSome (entry_of pixels indices pixel) (λ entry. entry < colors)
-entry-known pixels indices colors pixel are l =
-    elim (cases_lt (get_or pixels (4 * pixel + 3) 0) 128) [
-      | inl dark ↦ subst (λ (o : Option ℕ). IfSome o (λ entry. entry < colors))
-          (sym (entry_of-transparent pixels indices pixel dark)) tt
-      | inr light ↦ subst (λ (o : Option ℕ). IfSome o (λ entry. entry < colors))
-          (sym (entry_of-opaque pixels indices pixel light)) (are pixel l light)
-    ]
+AreEntries-sound pixels indices colors sound = grind (arith, nat_tests, list_any-past)
 
 -- valid indices draw what can be written
 pub IsWritable-indexed : (image : Image) (colors : List (List ℕ)) (indices : List ℕ)
@@ -88,22 +65,4 @@ pub IsWritable-indexed : (image : Image) (colors : List (List ℕ)) (indices : L
     → AreEntries image.pixels indices (length colors)
     → IsWritable (indexed_drawing image colors indices)
 IsWritable-indexed image colors indices sound few bytes count are =
-    let is = within-sound image sound in
-    let places : length (entries_of image.pixels indices) ≡ length indices =
-    length-map-range_with_len (entry_of image.pixels indices) 0 (length indices) in
-    record {
-      some_width = is.some_width;
-      some_height = is.some_height;
-      wide = is.wide;
-      high = is.high;
-      area = is.area;
-      pixels = places ∙ count;
-      few = few;
-      colors = bytes;
-      known = λ k d l.
-          let inside : k < length indices = omega (arith, places, l) in
-          subst (λ (o : Option ℕ). IfSome o (λ entry. entry < length colors))
-          (sym (get_or-map-range_with_len (entry_of image.pixels indices) 0 (length indices) k k d
-          inside (omega arith)))
-          (entry-known image.pixels indices (length colors) k are inside);
-    }
+    grind (arith, nat_tests, within-sound, length-map-range_with_len, get_or-map-range_with_len)

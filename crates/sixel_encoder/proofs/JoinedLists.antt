@@ -1,12 +1,13 @@
 -- What is joined of a function's lists: one list more, some more, empty ones, and that it depends
 -- on no list past the end.
-use Rattle.std.proofs.Common.{◌≡◌, ℕ, zero, suc, ◌+◌, ◌<◌, ◌≤◌, List, [], ◌++◌, append_assoc, refl}
-use Rattle.std.proofs.Common.{ap, sym, ◌∙◌, inl, inr, arith}
+use Rattle.std.proofs.Common.{◌≡◌, ℕ, zero, suc, ◌+◌, ◌<◌, ◌≤◌, List, ◌++◌, append_assoc, refl}
+use Rattle.std.proofs.Common.{ap, sym, ◌∙◌, inl, inr, arith, []}
 use Rattle.std.specs.Prelude.{flat_map}
 use Rattle.std.proofs.lemmas.Bool.{cases_lt}
 use Rattle.std.proofs.lemmas.Grind.{flat_map-append}
 use Rattle.std.proofs.lemmas.List.{append-nil}
 use Rattle.sixel_base.specs.Picture.{joined}
+use Rattle.std.proofs.lemmas.Bool.Decides.{nat_tests}
 
 pub joined-none : {A : Type 0} (f : ℕ → List A) → joined f 0 ≡ []
 unfolding joined
@@ -20,17 +21,13 @@ pub joined-same : {A : Type 0} (f g : ℕ → List A) (n : ℕ) → ((k : ℕ) �
     → joined f n ≡ joined g n
 unfolding joined
 joined-same f g zero h = refl
-joined-same f g (suc n) h =
-    ap (λ r. r ++ f n) (joined-same f g n (λ k l. h k (omega arith)))
-    ∙ ap (λ r. joined g n ++ r) (h n (omega arith))
+joined-same f g (suc n) h = grind (arith, nat_tests, joined-same f g n (λ k l. h k (omega arith)))
 
 -- the first n lists, and then m more
 pub joined-add : {A : Type 0} (f : ℕ → List A) (n m : ℕ)
     → joined f (n + m) ≡ joined f n ++ joined (λ k. f (n + k)) m
 unfolding joined
-joined-add f n zero =
-    let e : n + zero ≡ n = omega arith in
-    ap (λ x. joined f x) e ∙ sym (append-nil (joined f n))
+joined-add f n zero = grind (arith, nat_tests, append-nil)
 joined-add f n (suc m) =
     let e : n + suc m ≡ suc (n + m) = omega arith in
     ap (λ x. joined f x) e
@@ -45,8 +42,7 @@ joined-past f n zero l none = let e : n ≡ zero = omega arith in ap (λ x. join
 joined-past f n (suc m) l none =
     elim (cases_lt m n) [
       | inl below ↦ let e : suc m ≡ n = omega arith in ap (λ x. joined f x) e
-      | inr above ↦ ap (λ xs. joined f m ++ xs) (none m above)
-          ∙ (append-nil (joined f m) ∙ joined-past f n m above none)
+      | inr above ↦ grind (arith, nat_tests, append-nil, joined-past f n m above none)
     ]
 
 -- what each list becomes, joined
@@ -56,6 +52,4 @@ pub flat_map-joined : {X A : Type 0} (f : X → List A) (step : ℕ → List X) 
 unfolding joined
 flat_map-joined f step text each zero = refl
 flat_map-joined f step text each (suc n) =
-    flat_map-append f (joined step n) (step n)
-    ∙ (ap (λ s. s ++ flat_map f (step n)) (flat_map-joined f step text each n)
-    ∙ ap (λ s. joined text n ++ s) (each n))
+    grind (arith, nat_tests, flat_map-append, flat_map-joined f step text each n)

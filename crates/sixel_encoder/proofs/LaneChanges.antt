@@ -1,8 +1,8 @@
 -- Lanes that differ from those of the column before: the rows of their entries change there.
 use Rattle.std.specs.Prelude.{None, Option, Some, ◌≢◌}
 use Rattle.std.proofs.Common.{Bool, ap, arith, false, length, refl, sym, true, ℕ, ◌*◌, ◌+◌, ◌-◌}
-use Rattle.std.proofs.Common.{◌<◌, ◌∙◌, ◌≡◌, ◌≤◌, inl, inr}
-use Rattle.std.proofs.lemmas.Bool.{both_ways, cases_eq, cases_lt}
+use Rattle.std.proofs.Common.{◌<◌, ◌∙◌, ◌≡◌, ◌≤◌}
+use Rattle.std.proofs.lemmas.Bool.{both_ways}
 use Rattle.std.proofs.lemmas.Bool.Decides.{nat_tests}
 use Rattle.sixel_base.specs.Picture.{is_set}
 use Rattle.sixel_encoder.specs.declared.band_entries.BandEntries.{BandEntries}
@@ -12,7 +12,7 @@ use Rattle.sixel_encoder.specs.inside.Compact.{AreLanes, lane_of}
 use Rattle.sixel_encoder.specs.inside.Indexed.{drawing_of}
 use Rattle.sixel_encoder.proofs.EntryLaneMasks.{opaque-lane}
 use Rattle.sixel_encoder.proofs.EntryRows.{no_dot-own}
-use Rattle.sixel_encoder.proofs.Masks.{hits, hits-past}
+use Rattle.sixel_encoder.proofs.Masks.{hits-past}
 use Rattle.sixel_encoder.proofs.SixBits.{is_set-mask}
 
 -- an entry is itself
@@ -45,11 +45,7 @@ other-lane entries here there bit lane next are lh lb is at apart some =
     let on : is_entry lane (entry_at drawing here (6 * band + bit)) ≡ true =
     ap (is_entry lane) own ∙ itself lane in
     record {
-      known = elim (cases_lt lane (length image.colors.now)) [
-        | inl l ↦ l
-        | inr past ↦ absurd (both_ways (hits image band lane here bit)
-            (hits-past image band lane here bit are.indexed lh past) on)
-      ];
+      known = grind (arith, nat_tests, hits-past);
       other = λ e.
           both_ways (is_entry lane (entry_at drawing there (6 * band + bit)))
           (off lane next (entry_at drawing there (6 * band + bit)) at apart)
@@ -79,12 +75,7 @@ pub change-left : (entries : BandEntries) (column bit lane next : ℕ) → AreLa
 change-left entries column bit lane next are l lb is at apart some =
     let found = other-lane entries (column - 1) column bit lane next are (omega arith) lb is at
     apart some in
-    record {
-      inside = l;
-      known = found.known;
-      other = λ e. found.other (sym e);
-      dotted = found.dotted;
-    }
+    grind (arith, nat_tests)
 
 -- and the one on the right ends a blank
 pub change-right : (entries : BandEntries) (column bit lane next : ℕ) → AreLanes entries
@@ -102,8 +93,4 @@ pub lane-most : (entries : BandEntries) (column bit lane : ℕ) → AreLanes ent
     → column < entries.image.now.width
     → lane ≡ lane_of (entry_at (drawing_of entries.image.now) column (6 * entries.band + bit))
     → lane ≤ 256
-lane-most entries column bit lane are l is =
-    elim (cases_eq lane 256) [
-      | inl none ↦ omega arith
-      | inr some ↦ omega (arith, (opaque-lane entries column bit lane are l is some).1)
-    ]
+lane-most entries column bit lane are l is = grind (arith, nat_tests, opaque-lane)

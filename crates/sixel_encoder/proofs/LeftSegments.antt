@@ -65,46 +65,24 @@ pub record IsSegment (drawing : Drawing) (segment : Segment) : Type 0 where
 -- a segment that passes the test is one
 pub segment-is : (drawing : Drawing) (s : Segment) → is_segment drawing s ≡ true
     → IsSegment drawing s
-segment-is drawing s h = record {
-  known = grind (arith, nat_tests);
-  some = grind (arith, nat_tests);
-  wide = grind (arith, nat_tests);
-}
+segment-is drawing s h = grind (arith, nat_tests)
 
 -- the first segment that is left is one
 pub first-left : (drawing : Drawing) (band : ℕ) (blocked : List ℕ) (segment : Segment)
     (segments : List Segment) → AreLeft drawing band blocked (segment ∷ segments)
     → IsSegment drawing segment
-first-left drawing band blocked segment segments are =
-    segment-is drawing segment (go (is_segment drawing segment) are.known)
-  where
-    go : (b : Bool)
-        → one (not b) + tally (λ s. not (is_segment drawing s)) segments ≡ 0 → b ≡ true
-    go true none = refl
-    go false none = absurd (omega (arith, none))
+first-left drawing band blocked segment segments are = grind (arith, nat_tests, segment-is)
 
 -- whether a pixel of its columns is the segment's
 own-is : (column entry : ℕ) (segment : Segment) → segment.first ≤ column → column < segment.end
     → one (is_of column (Some entry) segment) ≡ one (entry == segment.entry)
-own-is column entry segment low high =
-    let within : nat_le segment.first column && nat_lt column segment.end ≡ true =
-    grind (arith, nat_tests) in
-    ap (λ w. one (entry == segment.entry && w)) within ∙ and_true (entry == segment.entry)
-  where
-    and_true : (b : Bool) → one (b && true) ≡ one b
-    and_true true = refl
-    and_true false = refl
+own-is column entry segment low high = grind (arith, nat_tests)
 
 -- whether a pixel of another column is
 other-is : (column entry : ℕ) (segment : Segment)
     → nat_le segment.first column && nat_lt column segment.end ≡ false
     → one (is_of column (Some entry) segment) ≡ 0
-other-is column entry segment out =
-    ap (λ w. one (entry == segment.entry && w)) out ∙ and_false (entry == segment.entry)
-  where
-    and_false : (b : Bool) → one (b && false) ≡ 0
-    and_false true = refl
-    and_false false = refl
+other-is column entry segment out = grind (arith, nat_tests)
 
 -- a pixel that is one of a segment's
 pub is_of-entry : (column entry : ℕ) (segment : Segment) → is_of column (Some entry) segment ≡ true
@@ -116,15 +94,7 @@ is_of-entry column entry segment is =
 pub own-bit : (drawing : Drawing) (band own column bit entry : ℕ) → bit < 6
     → entry_at drawing column (6 * band + bit) ≡ Some entry
     → bit_at (sixel_of drawing band own column) bit ≡ one (entry == own)
-own-bit drawing band own column bit entry l at =
-    go (entry == own) refl
-  where
-    test : ℕ → Bool
-    test = λ k. is_entry own (entry_at drawing column (6 * band + k))
-
-    go : (b : Bool) → entry == own ≡ b → bit_at (mask test 6) bit ≡ one b
-    go true e = bit-mask test bit l (ap (is_entry own) at ∙ e)
-    go false e = no_bit-mask test bit l (ap (is_entry own) at ∙ e)
+own-bit drawing band own column bit entry l at = grind (arith, nat_tests, bit-mask, no_bit-mask)
 
 -- ---- one segment less
 
@@ -134,26 +104,14 @@ blocked-at : (drawing : Drawing) (band : ℕ) (blocked : List ℕ) (segment : Se
     → slice_index (blocked_after drawing band blocked segment) column
     ≡ blocked_sixel drawing band blocked segment column
 blocked-at drawing band blocked segment column l =
-    get_or-map-range_with_len (blocked_sixel drawing band blocked segment) 0 (length blocked)
-    column column 0 l (omega arith)
+    grind (arith, nat_tests, get_or-map-range_with_len)
 
 -- the pixels of a segment that is drawn may not be covered
 pub AreLeft-after : (drawing : Drawing) (band : ℕ) (blocked : List ℕ) (segment : Segment)
     (segments : List Segment) → AreLeft drawing band blocked (segment ∷ segments)
     → AreLeft drawing band (blocked_after drawing band blocked segment) segments
-AreLeft-after drawing band blocked segment segments are = record {
-  size = length-map-range_with_len (blocked_sixel drawing band blocked segment) 0 (length blocked)
-      ∙ are.size;
-  known = omega (arith, are.known);
-  transparent = λ column bit lc lb at.
-      ap (λ v. bit_at v bit)
-      (blocked-at drawing band blocked segment column (omega (arith, lc, are.size)))
-      ∙ hidden column bit (within column) (are.transparent column bit lc lb at);
-  once = λ column bit entry lc lb at.
-      ap (λ v. bit_at v bit + tally (is_of column (Some entry)) segments)
-      (blocked-at drawing band blocked segment column (omega (arith, lc, are.size)))
-      ∙ left column bit entry lb at (within column) refl (are.once column bit entry lc lb at);
-}
+AreLeft-after drawing band blocked segment segments are =
+    grind (arith, nat_tests, length-map-range_with_len, blocked-at, within, hidden, left)
   where
     within : ℕ → Bool
     within column = nat_le segment.first column && nat_lt column segment.end
@@ -164,14 +122,7 @@ AreLeft-after drawing band blocked segment segments are = record {
     hidden : (column bit : ℕ) (b : Bool) → bit_at (slice_index blocked column) bit ≡ 1
         → bit_at (cond b (bit_or (slice_index blocked column) (own column))
         (slice_index blocked column)) bit ≡ 1
-    hidden column bit true was =
-        omega (
-          arith,
-          was,
-          bit_at_or (slice_index blocked column) (own column) bit,
-          bit_at-lt (own column) bit,
-        )
-    hidden column bit false was = was
+    hidden column bit b was = grind (arith, nat_tests, bit_at_or, bit_at-lt, own)
 
     left : (column bit entry : ℕ) → bit < 6
         → entry_at drawing column (6 * band + bit) ≡ Some entry
@@ -180,18 +131,8 @@ AreLeft-after drawing band blocked segment segments are = record {
         + tally (is_of column (Some entry)) (segment ∷ segments) ≡ 1
         → bit_at (cond b (bit_or (slice_index blocked column) (own column))
         (slice_index blocked column)) bit + tally (is_of column (Some entry)) segments ≡ 1
-    left column bit entry lb at true e was =
-        let low : segment.first ≤ column = grind (arith, nat_tests) in
-        let high : column < segment.end = grind (arith, nat_tests) in
-        omega (
-          arith,
-          was,
-          own-is column entry segment low high,
-          own-bit drawing band segment.entry column bit entry lb at,
-          bit_at_or (slice_index blocked column) (own column) bit,
-        )
-    left column bit entry lb at false e was =
-        omega (arith, was, other-is column entry segment e)
+    left column bit entry lb at b e was =
+        grind (arith, nat_tests, bit_at_or, own-is, own-bit, other-is, own)
 
 -- ---- the row of a segment
 
@@ -221,13 +162,7 @@ own-apart drawing band blocked segment segments are column low high bit =
 
     go : bit < 6 → (place : Option ℕ) → entry_at drawing column (6 * band + bit) ≡ place
         → bit_at own bit + bit_at (slice_index blocked column) bit ≤ 1
-    go l None at =
-        omega (
-          arith,
-          no_bit-mask (λ k. is_entry segment.entry (entry_at drawing column (6 * band + k))) bit l
-              (ap (is_entry segment.entry) at),
-          bit_at-lt (slice_index blocked column) bit,
-        )
+    go l None at = grind (arith, nat_tests, bit_at-lt, no_bit-mask)
     go l (Some entry) at =
         omega (
           arith,
@@ -243,18 +178,8 @@ unfolding union
 union-part sixels from zero k l bit = absurd (omega arith)
 union-part sixels from (suc n) k l bit =
     elim (cases_lt k n) [
-      | inl low ↦ omega (
-        arith,
-        union-part sixels from n k low bit,
-        bit_at_or (union sixels from n) (slice_index sixels (from + n)) bit,
-      )
-      | inr high ↦
-          let e : k ≡ n = omega arith in
-          omega (
-            arith,
-            ap (λ i. bit_at (slice_index sixels (from + i)) bit) e,
-            bit_at_or (union sixels from n) (slice_index sixels (from + n)) bit,
-          )
+      | inl low ↦ grind (arith, nat_tests, bit_at_or, union-part sixels from n k low bit)
+      | inr high ↦ grind (arith, nat_tests, bit_at_or)
     ]
 
 -- the sixels of a segment's row: they cover its own pixels, and none that may not be covered
@@ -313,9 +238,7 @@ IsSegmentRow-left drawing band blocked segment segments from are left = record {
         (λ k l.
         let low : k < own_columns =
         omega (arith, l, length-range_with_len segment.first own_columns) in
-        let c = column-of k low in
-        rw c (own-apart drawing band blocked segment segments are (segment.first + k) (omega arith)
-        (omega arith)))
+        grind (arith, nat_tests, own-apart, column-of))
         (λ bit. omega (arith, bit_at-zero bit, bit_at-lt (union blocked from blank) bit))
 
     at : (column : ℕ) → segment.first ≤ column → column < segment.end

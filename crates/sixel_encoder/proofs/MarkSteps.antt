@@ -1,10 +1,10 @@
 -- Marks made step by step: each step may count on what the steps before it established.
 use Rattle.std.specs.Prelude.{Option}
-use Rattle.std.proofs.Common.{List, [], arith, refl, subst, suc, sym, zero, ℕ, ◌++◌, ◌+◌, ◌<◌, ◌∷◌}
-use Rattle.std.proofs.Common.{◌≡◌}
+use Rattle.std.proofs.Common.{List, arith, refl, subst, suc, zero, ℕ, ◌++◌, ◌+◌, ◌<◌, ◌∷◌, ◌≡◌, []}
 use Rattle.sixel_base.specs.Picture.{joined}
 use Rattle.sixel_encoder.specs.Marks.{AreAllowed, Mark, Pen, covered, moved, moved_by, painted}
 use Rattle.sixel_encoder.specs.Text.{Drawing}
+use Rattle.std.proofs.lemmas.Bool.Decides.{nat_tests}
 
 -- the register that each pixel is drawn in, by column and line
 abbrev pub Places : Type 0
@@ -44,10 +44,8 @@ moved_by-append (mark ∷ a) b pen = moved_by-append a b (moved pen mark)
 AreAllowed-append : (drawing : Drawing) (a b : List Mark) (pen : Pen) → AreAllowed drawing pen a
     → AreAllowed drawing (moved_by a pen) b → AreAllowed drawing pen (a ++ b)
 AreAllowed-append drawing [] b pen first then = then
-AreAllowed-append drawing (mark ∷ a) b pen first then = (
-  first.0,
-  AreAllowed-append drawing a b (moved pen mark) first.1 then,
-)
+AreAllowed-append drawing (mark ∷ a) b pen first then =
+    grind (arith, nat_tests, AreAllowed-append drawing a b (moved pen mark) first.1 then)
 
 -- the marks are allowed from here, and lead to a state
 pub record Leads (drawing : Drawing) (Q : Pen → Places → Type 0) (pen : Pen) (place : Places)
@@ -60,12 +58,8 @@ pub Leads-append :
     (drawing : Drawing) (Q R : Pen → Places → Type 0) (pen : Pen) (place : Places) (a b : List Mark)
     → Leads drawing Q pen place a → Leads drawing R (moved_by a pen) (painted_all a pen place) b
     → Leads drawing R pen place (a ++ b)
-Leads-append drawing Q R pen place a b first then = record {
-  allowed = AreAllowed-append drawing a b pen first.allowed then.allowed;
-  state = subst (λ (p : Pen). R p (painted_all (a ++ b) pen place)) (sym (moved_by-append a b pen))
-      (subst (λ (d : Places). R (moved_by b (moved_by a pen)) d)
-      (sym (painted_all-append a b pen place)) then.state);
-}
+Leads-append drawing Q R pen place a b first then =
+    grind (arith, nat_tests, AreAllowed-append, moved_by-append, painted_all-append)
 
 -- what each step hands on holds after the last
 pub Leads-joined :

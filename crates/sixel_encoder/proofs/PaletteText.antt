@@ -1,10 +1,10 @@
 -- What is known of the text of an image in a given palette once it is returned: the image has no
 -- fault, a new decoder can read the text, and colors of transparent pixels do not affect it.
-use Rattle.std.proofs.Common.{◌≡◌, ℕ, List, length, refl, ap, sym, ◌∙◌, arith}
-use Rattle.std.specs.Prelude.{Option, Some, None, Result, Ok, Err, IfOk, OnOk}
+use Rattle.std.proofs.Common.{◌≡◌, ℕ, List, ap, sym, ◌∙◌, arith}
+use Rattle.std.specs.Prelude.{Option, None, Result, Ok, Err, IfOk, OnOk}
 use Rattle.std.specs.Option.{option_or}
 use Rattle.std.proofs.Math.Nat.{mul_comm}
-use Rattle.sixel_base.specs.CallFault.{CallFault, FailsBy, color_count_fault, size_call_fault}
+use Rattle.sixel_base.specs.CallFault.{CallFault, FailsBy, size_call_fault}
 use Rattle.sixel_base.specs.Decoder.{new_decoder}
 use Rattle.sixel_base.specs.Payload.{Image}
 use Rattle.sixel_base.specs.declared.error.SixelError.{SixelError}
@@ -12,51 +12,33 @@ use Rattle.sixel_encoder.specs.declared.mapping.Mapping.{Mapping}
 use Rattle.sixel_encoder.specs.declared.form.TextForm.{TextForm}
 use Rattle.sixel_encoder.specs.Encoding.{image_fault, shown_image}
 use Rattle.sixel_encoder.specs.Form.{form_text}
-use Rattle.sixel_encoder.specs.IndexedDrawing.{IsPaletteText, index_count_fault}
-use Rattle.sixel_encoder.specs.IndexedDrawing.{index_range_fault, indexed_fault, palette_fault}
+use Rattle.sixel_encoder.specs.IndexedDrawing.{IsPaletteText, indexed_fault}
 use Rattle.sixel_encoder.specs.Trip.{CanRead}
 use Rattle.sixel_encoder.proofs.DitheredIndices.{AreRowsOf}
 use Rattle.sixel_encoder.proofs.SameDithering.{drawing-alike}
 use Rattle.sixel_encoder.proofs.Sizes.{within-sound}
-use Rattle.sixel_encoder.proofs.TripLimits.{CanRead-new}
+use Rattle.std.proofs.lemmas.Bool.Decides.{nat_tests}
 
 -- a call that returned a value had no fault
 none-from_ok : {S : Type 0} (fault : Option CallFault) (value : S)
     → FailsBy {X = S} fault (Ok value) → fault ≡ None
-none-from_ok None value is = refl
-none-from_ok (Some fault) value is = absurd is
+none-from_ok fault value is = grind (arith, nat_tests)
 
 -- so its image has none
 sound-first : (fault : Option SixelError) (rest : Option CallFault)
     → option_or (size_call_fault fault) rest ≡ None → fault ≡ None
-sound-first None rest e = refl
-sound-first (Some fault) rest e = absurd cc
-
--- nor has the first of two parts
-none-first : (first rest : Option CallFault) → option_or first rest ≡ None → first ≡ None
-none-first None rest e = refl
-none-first (Some fault) rest e = absurd cc
+sound-first fault rest e = grind (arith, nat_tests)
 
 -- a new decoder can read what is returned
 pub readable-returned : {S : Type 0} (result : Result S SixelError) (image : Image)
     (rest : Option CallFault)
     → FailsBy (option_or (size_call_fault (image_fault image)) rest) result
     → OnOk result (CanRead new_decoder image.width image.height)
-readable-returned (Ok value) image rest fails =
-    CanRead-new image
-    (sound-first (image_fault image) rest
-    (none-from_ok (option_or (size_call_fault (image_fault image)) rest) value fails))
-readable-returned (Err e) image rest fails = tt
+readable-returned result image rest fails = grind (arith, nat_tests, sound-first, none-from_ok)
 
 -- the rows of an image without a fault
 pub rows-sound : (image : Image) → image_fault image ≡ None → AreRowsOf image.pixels image.width
-rows-sound image sound =
-    let is = within-sound image sound in
-    record {
-      some = is.some_width;
-      count = image.height;
-      whole = omega (arith, is.sized, mul_comm image.width image.height);
-    }
+rows-sound image sound = grind (arith, nat_tests, within-sound, mul_comm)
 
 -- images that show the same have one text in a palette
 pub hidden-returned : {S : Type 0} (bytes : S → List ℕ) (result : Result S SixelError)
@@ -81,11 +63,5 @@ hidden-returned bytes (Err e) image other colors mapping form others rest fails 
 pub readable-indexed : {S : Type 0} (result : Result S SixelError) (image : Image) (colors : ℕ)
     (indices : List ℕ) → FailsBy (indexed_fault image colors indices) result
     → OnOk result (CanRead new_decoder image.width image.height)
-readable-indexed (Ok value) image colors indices fails =
-    CanRead-new image
-    (sound-first (image_fault image) (color_count_fault colors)
-    (none-first (palette_fault image colors)
-    (option_or (index_count_fault image (length indices))
-    (index_range_fault image.pixels indices colors))
-    (none-from_ok (indexed_fault image colors indices) value fails)))
-readable-indexed (Err e) image colors indices fails = tt
+readable-indexed result image colors indices fails =
+    grind (arith, nat_tests, sound-first, none-from_ok)

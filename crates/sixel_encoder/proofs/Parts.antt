@@ -1,6 +1,6 @@
 -- A band's text, entries by parts of the palette: what comes past its last entry is empty.
-use Rattle.std.proofs.Common.{◌≡◌, ℕ, ◌+◌, ◌*◌, ◌<◌, ◌≤◌, not, false, cond, List, [], ◌++◌, length}
-use Rattle.std.proofs.Common.{get_or, append_assoc, ap, sym, ◌∙◌, arith}
+use Rattle.std.proofs.Common.{◌≡◌, ℕ, ◌+◌, ◌*◌, ◌<◌, ◌≤◌, not, false, cond, List, ◌++◌, length}
+use Rattle.std.proofs.Common.{get_or, append_assoc, ap, sym, ◌∙◌, arith, []}
 use Rattle.std.specs.Prelude.{◌==◌}
 use Rattle.std.proofs.lemmas.List.Elements.{All-from_get_or}
 use Rattle.std.proofs.lemmas.List.Folds.{list_any_none}

@@ -1,8 +1,7 @@
 -- One pixel more of a band, and one segment more of a pass.
 use Rattle.std.specs.Prelude.{None, Option, Some, slice_index_or, ◌/◌, ◌%◌}
-use Rattle.std.proofs.Common.{Bool, List, [], ap, append_assoc, arith, cond, false, length, refl}
-use Rattle.std.proofs.Common.{replicate, suc, sym, true, zero, ℕ, ◌*◌, ◌++◌, ◌+◌, ◌<◌, ◌-◌, ◌∙◌}
-use Rattle.std.proofs.Common.{◌∷◌, ◌≡◌}
+use Rattle.std.proofs.Common.{Bool, List, ap, append_assoc, arith, cond, length, refl, replicate}
+use Rattle.std.proofs.Common.{suc, sym, zero, ℕ, ◌*◌, ◌++◌, ◌+◌, ◌<◌, ◌-◌, ◌∙◌, ◌∷◌, ◌≡◌, []}
 use Rattle.std.proofs.lemmas.Bool.Decides.{nat_tests}
 use Rattle.std.proofs.lemmas.List.{append-nil}
 use Rattle.sixel_encoder.specs.declared.segments.Segment.{Segment}
@@ -24,8 +23,7 @@ pub segments_up_to-more : (drawing : Drawing) (band n : ℕ)
     ≡ with_place (gap_of drawing) (n / 6) (entry_at drawing (n / 6) (6 * band + n % 6))
     (segments_up_to drawing band n)
 unfolding segments_up_to
-segments_up_to-more drawing band n =
-    let e : n + 1 ≡ suc n = omega arith in ap (segments_up_to drawing band) e
+segments_up_to-more drawing band n = grind (arith, nat_tests)
 
 -- ---- all passes
 
@@ -58,15 +56,7 @@ with_pixel-twice gap column entry (segment ∷ segments) =
         (cond b (grown column segment ∷ segments) (segment ∷ with_pixel gap column entry segments))
         ≡ cond b (grown column segment ∷ segments)
         (segment ∷ with_pixel gap column entry segments)
-    go true near rest =
-        let same : segment.entry ≡ entry = grind (arith, nat_tests) in
-        ap (λ t. cond t (grown column segment ∷ segments)
-        (grown column segment ∷ with_pixel gap column entry segments))
-        (near-own gap column entry (grown column segment) same (omega arith))
-    go false far rest =
-        ap (λ t. cond t (grown column segment ∷ with_pixel gap column entry segments)
-        (segment ∷ with_pixel gap column entry (with_pixel gap column entry segments))) far
-        ∙ ap (λ s. segment ∷ s) rest
+    go b near rest = grind (arith, nat_tests, near-own)
 
 -- the segments after one pixel more of a column
 segments_up_to-bit : (drawing : Drawing) (band column bit : ℕ) → bit < 6
@@ -76,14 +66,7 @@ segments_up_to-bit : (drawing : Drawing) (band column bit : ℕ) → bit < 6
 segments_up_to-bit drawing band column bit l =
     let n : ℕ = 6 * column + bit in
     let next : 6 * column + (bit + 1) ≡ n + 1 = omega arith in
-    let quotient : n / 6 ≡ column = omega arith in
-    let rest : n % 6 ≡ bit = omega arith in
-    ap (segments_up_to drawing band) next
-    ∙ (segments_up_to-more drawing band n
-    ∙ (ap (λ c. with_place (gap_of drawing) c (entry_at drawing c (6 * band + n % 6))
-    (segments_up_to drawing band n)) quotient
-    ∙ ap (λ b. with_place (gap_of drawing) column (entry_at drawing column (6 * band + b))
-    (segments_up_to drawing band n)) rest))
+    grind (arith, nat_tests, segments_up_to-more)
 
 -- after a pixel with an entry
 pub segment-pixel : (drawing : Drawing) (band column bit gap entry : ℕ) (items new : List Segment)
@@ -92,30 +75,20 @@ pub segment-pixel : (drawing : Drawing) (band column bit gap entry : ℕ) (items
     → new ≡ with_pixel gap column entry items
     → new ≡ segments_up_to drawing band (6 * column + (bit + 1))
 segment-pixel drawing band column bit gap entry items new l wide was at is =
-    is
-    ∙ (ap (λ g. with_pixel g column entry items) wide
-    ∙ (ap (with_pixel (gap_of drawing) column entry) was
-    ∙ sym (segments_up_to-bit drawing band column bit l
-    ∙ ap (λ p. with_place (gap_of drawing) column p
-    (segments_up_to drawing band (6 * column + bit))) at)))
+    grind (arith, nat_tests, segments_up_to-bit)
 
 -- after a transparent one
 pub segment-skip : (drawing : Drawing) (band column bit : ℕ) (items : List Segment)
     → bit < 6 → items ≡ segments_up_to drawing band (6 * column + bit)
     → entry_at drawing column (6 * band + bit) ≡ None
     → items ≡ segments_up_to drawing band (6 * column + (bit + 1))
-segment-skip drawing band column bit items l was none =
-    was
-    ∙ sym (segments_up_to-bit drawing band column bit l
-    ∙ ap (λ p. with_place (gap_of drawing) column p
-    (segments_up_to drawing band (6 * column + bit))) none)
+segment-skip drawing band column bit items l was none = grind (arith, nat_tests, segments_up_to-bit)
 
 -- a place that is added twice
 with_place-twice : (gap column : ℕ) (place : Option ℕ) (segments : List Segment)
     → with_place gap column place (with_place gap column place segments)
     ≡ with_place gap column place segments
-with_place-twice gap column None segments = refl
-with_place-twice gap column (Some entry) segments = with_pixel-twice gap column entry segments
+with_place-twice gap column place segments = grind (arith, nat_tests, with_pixel-twice)
 
 -- the pixels of a column, each like the first
 pub segment-uniform : (drawing : Drawing) (band column : ℕ) (items : List Segment)
@@ -125,21 +98,12 @@ pub segment-uniform : (drawing : Drawing) (band column : ℕ) (items : List Segm
     → (n : ℕ) → n < 6 → items ≡ segments_up_to drawing band (6 * column + (n + 1))
 segment-uniform drawing band column items first same zero l = first
 segment-uniform drawing band column items first same (suc n) l =
-    let gap = gap_of drawing in
-    let place = entry_at drawing column (6 * band + 0) in
-    let start = segments_up_to drawing band (6 * column + 0) in
-    let was : items ≡ segments_up_to drawing band (6 * column + (n + 1)) =
-    segment-uniform drawing band column items first same n (omega arith) in
-    let own : items ≡ with_place gap column place start =
-    first ∙ segments_up_to-bit drawing band column 0 (omega arith) in
-    let e : suc n + 1 ≡ n + 1 + 1 = omega arith in
-    own
-    ∙ (sym (with_place-twice gap column place start)
-    ∙ (ap (with_place gap column place) (sym own ∙ was)
-    ∙ (ap (λ p. with_place gap column p (segments_up_to drawing band (6 * column + (n + 1))))
-    (sym (same (n + 1) (omega arith)))
-    ∙ (sym (segments_up_to-bit drawing band column (n + 1) (omega arith))
-    ∙ ap (λ k. segments_up_to drawing band (6 * column + k)) (sym e)))))
+    grind (
+      arith,
+      segments_up_to-bit,
+      with_place-twice,
+      segment-uniform drawing band column items first same n (omega arith),
+    )
 
 -- one pass of those that are left
 pub passes-step : (n counter : ℕ) (ordered left next rest whole : List Segment) → counter < n
@@ -178,6 +142,4 @@ passes-nothing (suc n) = passes-nothing n
 -- once none is left all are drawn
 pub passes-end : (n : ℕ) (ordered left whole : List Segment) → left ≡ []
     → ordered ++ passes n left ≡ whole → ordered ≡ whole
-passes-end n ordered left whole none was =
-    sym (append-nil ordered)
-    ∙ (ap (λ r. ordered ++ r) (sym (ap (passes n) none ∙ passes-nothing n)) ∙ was)
+passes-end n ordered left whole none was = grind (arith, nat_tests, append-nil, passes-nothing)

@@ -1,9 +1,9 @@
 -- What marks do to the place, the colors and the sizes: the history is where the pen is.
 use Rattle.std.specs.Prelude.{Some, nat_le, ◌&&◌, ◌==◌, ◌||◌}
-use Rattle.std.proofs.Common.{List, [], ap, arith, false, get_or, length, refl, ℕ, ◌*◌, ◌<◌, ◌∙◌}
-use Rattle.std.proofs.Common.{◌∷◌, ◌≡◌}
+use Rattle.std.proofs.Common.{List, ap, arith, false, get_or, length, refl, ℕ, ◌*◌, ◌<◌, ◌∙◌}
+use Rattle.std.proofs.Common.{◌∷◌, ◌≡◌, []}
 use Rattle.sixel_base.specs.Fields.{field}
-use Rattle.sixel_base.specs.History.{Color, History, Return}
+use Rattle.sixel_base.specs.History.{Color, History}
 use Rattle.sixel_base.specs.Limits.{whole_limit}
 use Rattle.sixel_base.specs.Place.{across, down, span}
 use Rattle.sixel_base.specs.Stroke.{is_definition, named_by, ratio, registers, selected}
@@ -14,12 +14,12 @@ use Rattle.sixel_encoder.specs.RunTokens.{row_tokens}
 use Rattle.sixel_encoder.specs.Text.{Drawing, bands}
 use Rattle.sixel_encoder.specs.Trip.{IsWritable}
 use Rattle.sixel_encoder.proofs.Digits.{fields-numbers, numbers}
-use Rattle.sixel_encoder.proofs.Extent.{Fits, Fits-color, Fits-newline, Fits-run_tokens}
-use Rattle.sixel_encoder.proofs.Extent.{IsWithinLimits, first_fault-more}
+use Rattle.sixel_encoder.proofs.Extent.{Fits, Fits-run_tokens, IsWithinLimits, first_fault-more}
 use Rattle.sixel_encoder.proofs.RowSteps.{Moved-row}
 use Rattle.sixel_encoder.proofs.ShortestRows.{spells}
 use Rattle.sixel_encoder.proofs.TextHistory.{AreSound-row}
 use Rattle.sixel_encoder.proofs.Tokens.{with_mark, with_marks}
+use Rattle.std.proofs.lemmas.Bool.Decides.{nat_tests}
 
 -- a drawing's sizes are within the limits
 IsWithinLimits-drawing : (drawing : Drawing) → IsWritable drawing
@@ -68,17 +68,8 @@ pub Follows-mark :
     (drawing : Drawing) (start palette : List (List ℕ)) (pen : Pen) (mark : Mark) (h : History)
     → IsWritable drawing → IsAllowed drawing pen mark → Follows drawing start palette pen h
     → Follows drawing start palette (moved pen mark) (with_mark mark h)
-Follows-mark drawing start palette pen (Pick register) h is may follows = record {
-  single = follows.single;
-  place = follows.place;
-  level = follows.level;
-  named = λ n e. selects register may ∙ same_some register n e;
-  defined = keeps_registers register h start may ∙ follows.defined;
-  shape = follows.shape;
-  fits =
-      Fits-color whole_limit drawing.width (6 * bands drawing.height) (numbers register []) h
-      follows.fits;
-}
+Follows-mark drawing start palette pen (Pick register) h is may follows =
+    grind (arith, nat_tests, selects, same_some, keeps_registers)
 Follows-mark drawing start palette pen (Draw row) h is may follows =
     let went = Moved-row row h may.small follows.single in
     let lower = may.lower in
@@ -95,32 +86,9 @@ Follows-mark drawing start palette pen (Draw row) h is may follows =
           (omega (arith, follows.place, ap length (spells row).joined, may.inside))
           (omega (arith, follows.level, lower)) follows.fits;
     }
-Follows-mark drawing start palette pen Back h is may follows = record {
-  single = follows.single;
-  place = refl;
-  level = follows.level;
-  named = follows.named;
-  defined = follows.defined;
-  shape = follows.shape;
-  fits = record {
-    wide = follows.fits.wide;
-    high = follows.fits.high;
-    sound = first_fault-more whole_limit Return h follows.fits.sound refl;
-  };
-}
-Follows-mark drawing start palette pen Next h is may follows =
-    let lower : pen.band < bands drawing.height = may in
-    record {
-      single = follows.single;
-      place = refl;
-      level = omega (arith, follows.level);
-      named = follows.named;
-      defined = follows.defined;
-      shape = follows.shape;
-      fits =
-          Fits-newline whole_limit drawing.width (6 * bands drawing.height) h
-          (omega (arith, follows.level, is.high, lower)) follows.fits;
-    }
+Follows-mark drawing start palette pen Back h is may follows =
+    grind (arith, nat_tests, first_fault-more)
+Follows-mark drawing start palette pen Next h is may follows = grind (arith, nat_tests)
 
 -- and over all marks
 pub Follows-marks : (drawing : Drawing) (start palette : List (List ℕ)) (pen : Pen)

@@ -1,15 +1,15 @@
 -- The plain definitions and marks draw the drawing: entry by entry, and band by band.
-use Rattle.std.specs.Prelude.{IfSome, None, Option, Some, is_some, slice_index_or, ◌==◌}
-use Rattle.std.proofs.Common.{Bool, List, [], ap, arith, cond, false, inl, inr, length, refl, subst}
+use Rattle.std.specs.Prelude.{None, Option, Some, slice_index_or, ◌==◌}
+use Rattle.std.proofs.Common.{Bool, List, ap, arith, cond, false, inl, inr, length, refl, []}
 use Rattle.std.proofs.Common.{suc, sym, true, zero, ℕ, ◌*◌, ◌++◌, ◌+◌, ◌<◌, ◌∙◌, ◌∷◌, ◌≡◌, ◌≢◌, ◌≤◌}
-use Rattle.std.proofs.lemmas.Bool.{both_ways, cases_Bool, cases_eq, cases_lt}
+use Rattle.std.proofs.lemmas.Bool.{cases_eq}
 use Rattle.std.proofs.lemmas.Bool.Decides.{nat_tests}
 use Rattle.std.proofs.lemmas.List.{get_or_past}
 use Rattle.sixel_base.specs.Picture.{joined}
 use Rattle.sixel_encoder.specs.Marks.{AreDefinitions, Back, Definition, Draw, Draws, Mark, Next}
-use Rattle.sixel_encoder.specs.Marks.{Pen, Pick, first_pen, is_lit, register_entry}
+use Rattle.sixel_encoder.specs.Marks.{Pen, Pick, first_pen, register_entry}
 use Rattle.sixel_encoder.specs.Text.{Drawing, bands, entry_at, has_dot, row_of}
-use Rattle.sixel_encoder.specs.Trip.{IsWritable, is_used}
+use Rattle.sixel_encoder.specs.Trip.{IsWritable}
 use Rattle.sixel_encoder.proofs.EntryRows.{IsInBand, length-row_of, lit-own, no_dot-own, own-lit}
 use Rattle.sixel_encoder.proofs.EntryRows.{row_of-small}
 use Rattle.sixel_encoder.proofs.MarkSteps.{Leads, Leads-append, Leads-joined, Places, painted-place}
@@ -20,20 +20,12 @@ use Rattle.sixel_encoder.proofs.PlainPayload.{plain_definition, plain_definition
 -- an entry that a place has is one of the drawing's
 pub known_place : (drawing : Drawing) (place entry : ℕ) → IsWritable drawing
     → slice_index_or drawing.entries place None ≡ Some entry → entry < length drawing.colors
-known_place drawing place entry is e =
-    elim (cases_lt place (length drawing.entries)) [
-      | inl inside ↦ subst (λ (v : Option ℕ). IfSome v (λ n. n < length drawing.colors))
-          e (is.known place None inside)
-      | inr past ↦
-          absurd (both_ways (is_some (slice_index_or drawing.entries place None))
-          (ap is_some (get_or_past drawing.entries place None past)) (ap is_some e))
-    ]
+known_place drawing place entry is e = grind (arith, nat_tests, get_or_past)
 
 -- so is the entry of a pixel
 pub known_entry : (drawing : Drawing) (column line entry : ℕ) → IsWritable drawing
     → entry_at drawing column line ≡ Some entry → entry < length drawing.colors
-known_entry drawing column line entry is e =
-    known_place drawing (line * drawing.width + column) entry is e
+known_entry drawing column line entry is e = grind (arith, nat_tests, known_place)
 
 -- The pen is at the left of a band. No transparent pixel is set. The pixels of the bands above and,
 -- in this band, of the entries before this one are drawn in their own registers.
@@ -53,64 +45,8 @@ Leads-row : (drawing : Drawing) (band entry : ℕ) (pen : Pen) (place : Places) 
     → IsDrawnTo drawing band entry pen place
     → Leads drawing (IsDrawnTo drawing band (entry + 1)) pen place
     (Pick entry ∷ Draw (row_of drawing band entry) ∷ Back ∷ [])
-Leads-row drawing band entry pen place small lower dot at = record {
-  allowed = (
-    small,
-    (
-      record {
-        small = row_of-small drawing band entry;
-        inside = omega (arith, at.left, length-row_of drawing band entry);
-        lower = omega (arith, at.level, lower);
-        used = ap (is_used drawing) at.level ∙ used;
-        selected = refl;
-      },
-      (tt, tt),
-    ),
-  );
-  state = record {
-    left = refl;
-    level = at.level;
-    transparent = λ column line lc none.
-        shows column line (is_lit row pen.column (6 * pen.band) column line) refl None
-        (λ lit. let own = lit-own drawing band entry column line lit in sym own ∙ none)
-        (λ unlit. at.transparent column line lc none);
-    above = λ column line other lc over e.
-        shows column line (is_lit row pen.column (6 * pen.band) column line) refl (Some other)
-        (λ lit. let own = lit-own drawing band entry column line lit in sym own ∙ e)
-        (λ unlit. at.above column line other lc over e);
-    drawn = λ column line other lc in_it e l.
-        shows column line (is_lit row pen.column (6 * pen.band) column line) refl (Some other)
-        (λ lit. let own = lit-own drawing band entry column line lit in sym own ∙ e)
-        (λ unlit. elim (cases_eq other entry) [
-          | inl same ↦ absurd (both_ways (is_lit row 0 (6 * band) column line) unlit
-              (own-lit drawing band entry column line lc in_it (e ∙ ap Some same)))
-          | inr apart ↦ at.drawn column line other lc in_it e (omega arith)
-        ]);
-  };
-}
-  where
-    row : List ℕ
-    row = row_of drawing band entry
-
-    used : is_used drawing band ≡ true
-    used = elim (cases_Bool (is_used drawing band)) [
-      | inl is ↦ is
-      | inr not_used ↦
-          absurd (both_ways (has_dot row) (unused-dots drawing band entry not_used) dot)
-    ]
-
-    here : (column line : ℕ)
-        → is_lit row pen.column (6 * pen.band) column line ≡ is_lit row 0 (6 * band) column line
-    here column line =
-        ap (λ n. is_lit row n (6 * pen.band) column line) at.left
-        ∙ ap (λ n. is_lit row 0 (6 * n) column line) at.level
-
-    shows : (column line : ℕ) (b : Bool) → is_lit row pen.column (6 * pen.band) column line ≡ b
-        → (x : Option ℕ) → (is_lit row 0 (6 * band) column line ≡ true → Some entry ≡ x)
-        → (is_lit row 0 (6 * band) column line ≡ false → place column line ≡ x)
-        → cond b (Some entry) (place column line) ≡ x
-    shows column line true lit x on off = on (sym (here column line) ∙ lit)
-    shows column line false lit x on off = off (sym (here column line) ∙ lit)
+Leads-row drawing band entry pen place small lower dot at =
+    grind (arith, nat_tests, row_of-small, length-row_of, lit-own, own-lit, unused-dots)
 
 -- so does an entry, with a row or without
 Leads-entry : (drawing : Drawing) (band entry : ℕ) (pen : Pen) (place : Places) → entry < 256
@@ -123,27 +59,13 @@ Leads-entry drawing band entry pen place small lower at =
         → Leads drawing (IsDrawnTo drawing band (entry + 1)) pen place
         (cond b (Pick entry ∷ Draw (row_of drawing band entry) ∷ Back ∷ []) [])
     go true dot = Leads-row drawing band entry pen place small lower dot at
-    go false none = record {
-      allowed = tt;
-      state = record {
-        left = at.left;
-        level = at.level;
-        transparent = at.transparent;
-        above = at.above;
-        drawn = λ column line other lc in_it e l. elim (cases_eq other entry) [
-          | inl same ↦
-              absurd (no_dot-own drawing band entry column line lc in_it none (e ∙ ap Some same))
-          | inr apart ↦ at.drawn column line other lc in_it e (omega arith)
-        ];
-      };
-    }
+    go false none = grind (arith, nat_tests, no_dot-own)
 
 -- a band leads to the next band
 Leads-band : (drawing : Drawing) (band : ℕ) (pen : Pen) (place : Places) → IsWritable drawing
     → band < bands drawing.height → IsDrawnTo drawing band 0 pen place
     → Leads drawing (IsDrawnTo drawing (band + 1) 0) pen place (plain_band drawing band)
 Leads-band drawing band pen place is lower at =
-    let few = is.few in
     let rows : List Mark = joined (plain_entry drawing band) (length drawing.colors) in
     let first =
     Leads-joined drawing (IsDrawnTo drawing band) (plain_entry drawing band) (length drawing.colors)
@@ -152,19 +74,7 @@ Leads-band drawing band pen place is lower at =
     Leads-append drawing (IsDrawnTo drawing band (length drawing.colors))
     (IsDrawnTo drawing (band + 1) 0) pen place rows (Next ∷ []) first record {
       allowed = (omega (arith, state.level, lower), tt);
-      state = record {
-        left = refl;
-        level = omega (arith, state.level);
-        transparent = state.transparent;
-        above = λ column line other lc below e. elim (cases_lt line (6 * band)) [
-          | inl higher ↦ state.above column line other lc higher e
-          | inr since ↦ state.drawn column line other lc record {
-            since = since;
-            before = omega arith;
-          } e (known_entry drawing column line other is e)
-        ];
-        drawn = λ column line other lc in_it e l. absurd (omega arith);
-      };
+      state = grind (arith, nat_tests, known_entry);
     }
 
 -- the entry of a register after definitions, and then more
@@ -185,8 +95,7 @@ register_entry-plain (suc n) entry l =
     register_entry-append (joined plain_definition n) (plain_definition n) None entry
     ∙ elim (cases_eq entry n) [
       | inl same ↦ hit same
-      | inr apart ↦ other apart (register_entry (joined plain_definition n) None entry)
-          ∙ register_entry-plain n entry (omega arith)
+      | inr apart ↦ grind (arith, nat_tests, register_entry-plain n entry (omega arith), other)
     ]
   where
     hit : entry ≡ n
@@ -203,10 +112,8 @@ register_entry-plain (suc n) entry l =
 pub AreDefinitions-append : (drawing : Drawing) (a b : List Definition) → AreDefinitions drawing a
     → AreDefinitions drawing b → AreDefinitions drawing (a ++ b)
 AreDefinitions-append drawing [] b first then = then
-AreDefinitions-append drawing (definition ∷ a) b first then = (
-  first.0,
-  AreDefinitions-append drawing a b first.1 then,
-)
+AreDefinitions-append drawing (definition ∷ a) b first then =
+    grind (arith, nat_tests, AreDefinitions-append drawing a b first.1 then)
 
 -- there is a register for each entry
 AreDefinitions-plain : (drawing : Drawing) (n : ℕ) → length drawing.colors ≤ 256

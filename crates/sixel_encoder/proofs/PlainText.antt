@@ -12,8 +12,7 @@ use Rattle.sixel_base.specs.Size.{banded}
 use Rattle.sixel_base.specs.declared.state.DecoderState.{DecoderState}
 use Rattle.sixel_base.proofs.Histories.{carries}
 use Rattle.sixel_encoder.specs.Marks.{IsDrawnText}
-use Rattle.sixel_encoder.specs.Text.{Drawing, bands_text, palette_text, parameters_text}
-use Rattle.sixel_encoder.specs.Text.{raster_text, text_of}
+use Rattle.sixel_encoder.specs.Text.{Drawing, parameters_text, text_of}
 use Rattle.sixel_encoder.specs.Trip.{CanRead, CanShow, IsOneString, IsReadAs, IsWritable}
 use Rattle.sixel_encoder.specs.Trip.{drawing_settings, payload_text, trip}
 use Rattle.sixel_encoder.proofs.DcsText.{IsOneString-drawn, IsReadAs-drawn, found-sequence}
@@ -23,6 +22,8 @@ use Rattle.sixel_encoder.proofs.PlainPayload.{payload-plain, plain_definitions, 
 use Rattle.sixel_encoder.proofs.RoundTrip.{payload-sound, payload-trip}
 use Rattle.sixel_encoder.proofs.TextHistory.{before_terminator-carrying, carries-payload}
 use Rattle.sixel_encoder.proofs.TextHistory.{first_terminator-carrying, front-carrying}
+use Rattle.std.proofs.lemmas.Bool.Decides.{nat_tests}
+use Rattle.std.proofs.Common.{arith}
 
 -- the parts of a text in one order of joining
 payload-joined : (p r c b e : List ℕ) → p ++ r ++ c ++ b ++ e ≡ p ++ ((r ++ c ++ b) ++ e)
@@ -31,9 +32,7 @@ payload-joined p r c b e = simp append_assoc
 -- the payload stands between the parameters and the terminator
 pub text_of-parts : (drawing : Drawing)
     → text_of drawing ≡ parameters_text drawing ++ (payload_text drawing ++ 27 ∷ codes "\\")
-text_of-parts drawing =
-    payload-joined (parameters_text drawing) (raster_text drawing) (palette_text drawing)
-    (bands_text drawing) (27 ∷ codes "\\")
+text_of-parts drawing = grind (arith, nat_tests, payload-joined)
 
 -- the plain text is that of its marks
 pub IsDrawnText-plain : (drawing : Drawing) → IsWritable drawing
@@ -60,20 +59,17 @@ carries-plain drawing is =
 -- all of the payload is its own, up to the terminator
 pub payload-own : (drawing : Drawing) (rest : List ℕ) → IsWritable drawing
     → before_terminator (payload_text drawing ++ 27 ∷ rest) ≡ payload_text drawing
-payload-own drawing rest is =
-    before_terminator-carrying (payload_text drawing) rest (carries-plain drawing is)
+payload-own drawing rest is = grind (arith, nat_tests, before_terminator-carrying, carries-plain)
 
 -- so it is its own front
 pub payload-front : (drawing : Drawing) (rest : List ℕ) → IsWritable drawing
     → front (payload_text drawing ++ 27 ∷ rest) ≡ payload_text drawing
-payload-front drawing rest is =
-    front-carrying (payload_text drawing) rest (carries-plain drawing is)
+payload-front drawing rest is = grind (arith, nat_tests, front-carrying, carries-plain)
 
 -- it ends at the terminator
 pub payload-ended : (drawing : Drawing) (rest : List ℕ) → IsWritable drawing
     → first_terminator (payload_text drawing ++ 27 ∷ rest) ≡ Some 27
-payload-ended drawing rest is =
-    first_terminator-carrying (payload_text drawing) rest (carries-plain drawing is)
+payload-ended drawing rest is = grind (arith, nat_tests, first_terminator-carrying, carries-plain)
 
 -- the payload is read as the trip
 pub plain-trip : (decoder : DecoderState) (drawing : Drawing) (rest : List ℕ) → IsWritable drawing

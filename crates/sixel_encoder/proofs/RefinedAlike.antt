@@ -1,13 +1,11 @@
 -- A refined text of an image is one of each image that shows the same.
-use Rattle.std.proofs.Common.{◌≡◌, ℕ, ◌+◌, ◌*◌, ◌<◌, List}
-use Rattle.std.proofs.Common.{length, ap, sym, subst, ◌∙◌, arith, inl, inr}
-use Rattle.std.specs.Prelude.{◌/◌, All, Err, IfOk, None, Ok, OnOk, Option, Result, slice_index}
+use Rattle.std.proofs.Common.{◌≡◌, ℕ, ◌<◌, List, length, ap, sym, subst, ◌∙◌, arith}
+use Rattle.std.specs.Prelude.{All, Err, IfOk, None, Ok, OnOk, Option, Result}
 use Rattle.std.specs.Option.{option_or}
-use Rattle.std.proofs.lemmas.Bool.{cases_lt}
 use Rattle.sixel_base.specs.CallFault.{CallFault, FailsBy, size_call_fault}
 use Rattle.sixel_base.specs.Payload.{Image}
 use Rattle.sixel_base.specs.declared.error.SixelError.{SixelError}
-use Rattle.sixel_palette.specs.Palette.{AreIndices, IsNearest, IsShown, nearest}
+use Rattle.sixel_palette.specs.Palette.{AreIndices, nearest}
 use Rattle.sixel_palette.specs.Refined.{IsRefined, base_entries, cut_entries, opaque_bins}
 use Rattle.sixel_palette.specs.GainCut.{bin_step}
 use Rattle.sixel_palette.specs.declared.palette.refined.RefinedPalette.{RefinedPalette}
@@ -17,37 +15,20 @@ use Rattle.sixel_encoder.specs.declared.mapping.Mapping.{Mapping}
 use Rattle.sixel_encoder.specs.declared.form.TextForm.{TextForm}
 use Rattle.sixel_encoder.specs.Dithering.{AreDithered}
 use Rattle.sixel_encoder.specs.Encoding.{image_fault, shown_image}
-use Rattle.sixel_encoder.specs.IndexedDrawing.{IsPaletteText, IsTextOf, indexed_drawing}
+use Rattle.sixel_encoder.specs.IndexedDrawing.{IsPaletteText, indexed_drawing}
 use Rattle.sixel_encoder.specs.RefinedText.{IsRefinedText, ShowsEntries}
-use Rattle.sixel_encoder.specs.Text.{Drawing}
 use Rattle.sixel_encoder.proofs.PaletteText.{hidden-returned, rows-sound}
-use Rattle.sixel_encoder.proofs.SameDithering.{AreDithered-alike}
+use Rattle.sixel_encoder.proofs.SameDithering.{AreDithered-alike, drawing-alike, pixels-same}
 use Rattle.sixel_encoder.proofs.SameVisits.{AreAlike, AreAlike-images}
-use Rattle.sixel_encoder.proofs.SameDithering.{drawing-alike, pixels-same}
 use Rattle.sixel_encoder.proofs.SameDrawing.{IsShown-other}
+use Rattle.std.proofs.lemmas.Bool.Decides.{nat_tests}
 
 -- ---- the palette
 
 -- the indices of nearest entries are the same
 indices-same : (p q : List ℕ) (entries : List (List ℕ)) (indices : List ℕ) → AreAlike p q
     → AreIndices p entries indices → AreIndices q entries indices
-indices-same p q entries indices alike are = record {
-  one_each = omega (arith, are.one_each, alike.count);
-  opaque = λ pixel l light.
-      let here : pixel < length p / 4 = omega (arith, l, alike.count) in
-      elim (cases_lt (slice_index p (4 * pixel + 3)) 128) [
-        | inl dark ↦ absurd (omega (arith, alike.dark pixel here dark, light))
-        | inr lit ↦
-            subst (λ (c : List ℕ). IsNearest entries c (slice_index indices pixel))
-            (sym (alike.opaque pixel here lit).1) (are.opaque pixel here lit)
-      ];
-  hidden = λ pixel l dark.
-      let here : pixel < length p / 4 = omega (arith, l, alike.count) in
-      elim (cases_lt (slice_index p (4 * pixel + 3)) 128) [
-        | inl too ↦ are.hidden pixel here too
-        | inr lit ↦ absurd (omega (arith, (alike.opaque pixel here lit).0, dark))
-      ];
-}
+indices-same p q entries indices alike are = grind (arith, nat_tests)
 
 -- so a palette is refined for both
 pub IsRefined-other : (image other : Image) (max_colors : ℕ) (palette : RefinedPalette)
@@ -78,18 +59,12 @@ IsRefined-other image other max_colors palette e is =
             w.0 ∙ ap (λ p. cut_entries p max_colors) same,
             w.1 ∙ ap (λ p. base_entries p max_colors) same,
           );
-      indices =
-          indices-same image.pixels other.pixels palette.colors.items palette.indices.items alike
-          is.indices;
+      indices = grind (arith, nat_tests, indices-same);
       error = is.error ∙ first;
       falls = omega (arith, is.falls, first, initial);
       initial_shown = is.initial_shown;
       initial_few = is.initial_few;
-      top =
-          tops_alike (IsShown image.pixels) (IsShown other.pixels)
-          (λ c shown. IsShown-other image other e c shown)
-          (λ c shown. IsShown-other other image (sym e) c shown) max_colors is.base
-          palette.colors.items palette.witnesses.items is.top;
+      top = grind (arith, nat_tests, tops_alike);
       witnesses = λ k d l. IsShown-other image other e _ (is.witnesses k d l);
       apart = is.apart;
       bound = λ n l others few.
@@ -115,11 +90,7 @@ IsRefinedText-other image other max_colors mapping form text sound e is =
     is.text.dithered) in
     let drawing : indexed_drawing image colors indices ≡ indexed_drawing other colors indices =
     drawing-alike mapping image other colors indices indices e rows is.text.dithered dithered in
-    let own : IsPaletteText other colors mapping form text = record {
-      indices = indices;
-      dithered = dithered;
-      text = subst (λ (d : Drawing). IsTextOf form d text) drawing is.text.text;
-    } in
+    let own : IsPaletteText other colors mapping form text = grind (arith, nat_tests) in
     record {
       palette = is.palette;
       refined = IsRefined-other image other max_colors is.palette e is.refined;

@@ -1,7 +1,6 @@
 -- The text of an image in a refined palette: a decoder shows the entries unrounded.
-use Rattle.std.proofs.Common.{◌≡◌, ℕ, List, [], ◌∷◌, ◌++◌, map, ap, arith, sym, ◌∙◌}
-use Rattle.std.specs.Prelude.{All, IfOk, Result, Err, Ok, slice_index_or}
-use Rattle.sixel_base.specs.Color.{byte_of, rgb}
+use Rattle.std.proofs.Common.{◌≡◌, ℕ, List, map, arith}
+use Rattle.std.specs.Prelude.{All, IfOk, Result, Err, Ok}
 use Rattle.sixel_base.specs.Payload.{Image}
 use Rattle.sixel_base.specs.declared.error.SixelError.{SixelError}
 use Rattle.sixel_palette.specs.Refined.{IsRefined, IsRegisterColor}
@@ -12,26 +11,18 @@ use Rattle.sixel_encoder.specs.Dithering.{AreDithered}
 use Rattle.sixel_encoder.specs.IndexedDrawing.{IsTextOf, indexed_drawing}
 use Rattle.sixel_encoder.specs.RefinedText.{IsRefinedText, ShowsEntries}
 use Rattle.sixel_encoder.specs.Trip.{rounded}
+use Rattle.std.proofs.lemmas.Bool.Decides.{nat_tests}
 
 -- ---- colors that a register shows
 
--- such a channel is not rounded again
-rounded-byte_of : (percent : ℕ) → rounded (byte_of percent) ≡ byte_of percent
-rounded-byte_of percent = omega arith
-
 -- nor is such a color
 rounded-register : (c : List ℕ) → IsRegisterColor c → map rounded c ≡ c
-rounded-register c is =
-    let same : map rounded (rgb is.0 is.1 is.2) ≡ rgb is.0 is.1 is.2 = λ i.
-    rounded-byte_of is.0 i ∷ rounded-byte_of is.1 i ∷ rounded-byte_of is.2 i ∷ [] in
-    ap (map rounded) is.3 ∙ (same ∙ sym is.3)
+rounded-register c is = grind (arith, nat_tests)
 
 -- so a decoder shows the entries
 pub ShowsEntries-register : (image : Image) (colors : List (List ℕ)) (indices : List ℕ)
     → All IsRegisterColor colors → ShowsEntries (indexed_drawing image colors indices)
-ShowsEntries-register image colors indices all = λ entry l.
-    ap (λ (c : List ℕ). c ++ 255 ∷ []) (rounded-register (slice_index_or colors entry [])
-    (all entry [] l))
+ShowsEntries-register image colors indices all = grind (arith, nat_tests, rounded-register)
 
 -- ---- the text
 

@@ -1,37 +1,29 @@
 -- The round trip: what the payload of marks that draw a drawing means is the drawing's trip,
 -- without a fault.
-use Rattle.std.specs.Prelude.{None, Option, Some, slice_index_or}
-use Rattle.std.proofs.Common.{Bool, List, [], ap, arith, inl, inr, length, refl, sym, ℕ, ◌*◌, ◌++◌}
-use Rattle.std.proofs.Common.{false, true, ◌+◌, ◌<◌, ◌∙◌, ◌∷◌, ◌≡◌, ◌≤◌}
-use Rattle.std.proofs.lemmas.Bool.{cases_lt}
+use Rattle.std.specs.Prelude.{None, Option, slice_index_or}
+use Rattle.std.proofs.Common.{List, ap, arith, length, refl, ℕ, ◌*◌, ◌++◌}
+use Rattle.std.proofs.Common.{false, ◌+◌, ◌<◌, ◌∙◌, ◌∷◌, ◌≡◌, ◌≤◌, []}
 use Rattle.std.proofs.lemmas.List.{get_or_past}
 use Rattle.std.proofs.lemmas.List.FromFn.{get_or-map-range_with_len, length-map-range_with_len}
 use Rattle.std.proofs.lemmas.Nat.{mul-le}
 use Rattle.sixel_base.specs.Color.{default_color, default_registers}
 use Rattle.sixel_base.specs.Decoder.{origin_of}
 use Rattle.sixel_base.specs.Bytes.{front}
-use Rattle.sixel_base.specs.History.{History, history_of}
-use Rattle.sixel_base.specs.Lenient.{fault}
+use Rattle.sixel_base.specs.History.{history_of}
 use Rattle.sixel_base.proofs.ToleratedTokens.{effective-off, fault-sound}
-use Rattle.sixel_base.specs.Clip.{clipped_width}
-use Rattle.sixel_base.specs.Limits.{Limit, whole_limit}
-use Rattle.sixel_base.specs.Payload.{Image, image_height, image_of, payload_fault, payload_image}
-use Rattle.sixel_base.specs.Picture.{joined, picture}
+use Rattle.sixel_base.specs.Limits.{Limit}
+use Rattle.sixel_base.specs.Payload.{Image, image_of, payload_fault, payload_image}
+use Rattle.sixel_base.specs.Picture.{picture}
 use Rattle.sixel_base.specs.Place.{height, width}
-use Rattle.sixel_base.specs.Settings.{mode_of, mode_of_p2, p2_of, ratio_of}
+use Rattle.sixel_base.specs.Settings.{mode_of}
 use Rattle.sixel_base.specs.Size.{banded}
-use Rattle.sixel_base.specs.Stroke.{Origin, background, background_of, pixel, registers}
-use Rattle.sixel_base.specs.declared.settings.BackgroundMode.{BackgroundMode}
-use Rattle.sixel_base.specs.declared.settings.BackgroundMode.TheVariants.{Opaque, Transparent}
-use Rattle.sixel_base.specs.declared.settings.PixelAspectRatio.{PixelAspectRatio}
+use Rattle.sixel_base.specs.Stroke.{Origin, background, pixel, registers}
 use Rattle.sixel_base.specs.declared.state.DecoderState.{DecoderState}
 use Rattle.sixel_encoder.specs.Marks.{Definition, Draws, Mark, first_pen, marks_payload, painted}
 use Rattle.sixel_encoder.specs.Text.{Drawing, bands, entry_at}
-use Rattle.sixel_encoder.specs.Trip.{CanShow, IsWritable, blank, drawing_settings, trip}
-use Rattle.sixel_encoder.specs.Trip.{trip_height, trip_pixel}
+use Rattle.sixel_encoder.specs.Trip.{CanShow, IsWritable, blank, drawing_settings, trip, trip_pixel}
 use Rattle.sixel_encoder.proofs.DrawnHeight.{cropped_height-tokens}
 use Rattle.sixel_encoder.proofs.Extent.{first_fault-other}
-use Rattle.sixel_encoder.proofs.RasterAttributes.{height-covered}
 use Rattle.sixel_encoder.proofs.JoinedLists.{joined-same}
 use Rattle.sixel_encoder.proofs.PenSteps.{Follows, Follows-marks}
 use Rattle.sixel_encoder.specs.Marks.{moved_by}
@@ -39,19 +31,14 @@ use Rattle.sixel_encoder.proofs.TextHistory.{payload-read}
 use Rattle.sixel_encoder.proofs.TextPalette.{Follows-palette, pixel-palette, register-palette}
 use Rattle.sixel_encoder.proofs.TextPixels.{pixel-marks, color_in}
 use Rattle.sixel_encoder.proofs.Tokens.{tokens, with_palette}
+use Rattle.std.proofs.lemmas.Bool.Decides.{nat_tests}
 
 -- a picture depends on its pixels alone
 pub picture-same : (p q : ℕ → ℕ → List ℕ) (w h : ℕ)
     → ((column line : ℕ) → column < w → line < h → p column line ≡ q column line)
     → picture p w h ≡ picture q w h
 unfolding picture
-picture-same p q w h same =
-    joined-same (λ row. joined (λ column. p column row) w)
-    (λ row. joined (λ column. q column row) w)
-    h
-    (λ row lr.
-    joined-same (λ column. p column row) (λ column. q column row) w
-    (λ column lc. same column row lc lr))
+picture-same p q w h same = grind (arith, nat_tests, joined-same)
 
 -- an origin at which a drawing's text can be read: enough registers, and the drawing's background
 record IsOrigin (drawing : Drawing) (origin : Origin) : Type 0 where
@@ -62,10 +49,7 @@ record IsOrigin (drawing : Drawing) (origin : Origin) : Type 0 where
 -- below the drawing there is no entry
 entry_at-below : (drawing : Drawing) (column line : ℕ) → IsWritable drawing → drawing.height ≤ line
     → entry_at drawing column line ≡ None
-entry_at-below drawing column line is below =
-    get_or_past drawing.entries (line * drawing.width + column) None
-    (omega
-    (arith, is.pixels, mul-le drawing.height drawing.width line drawing.width below (omega arith)))
+entry_at-below drawing column line is below = grind (arith, nat_tests, get_or_past, mul-le)
 
 -- after the last mark
 Follows-tokens :
@@ -100,52 +84,17 @@ pixel-trip drawing definitions marks origin column line is draws from lc =
 
     nothing : entry_at drawing column line ≡ None
         → pixel origin (tokens drawing definitions marks) column line ≡ trip_pixel drawing None
-    nothing e =
-        last
-        ∙ (ap (color_in palette (background origin)) (draws.transparent column line lc e)
-        ∙ from.ground)
+    nothing e = grind (arith, nat_tests, palette, last)
 
     go : (place : Option ℕ) → entry_at drawing column line ≡ place
         → pixel origin (tokens drawing definitions marks) column line
         ≡ trip_pixel drawing (entry_at drawing column line)
-    go None e = nothing e ∙ ap (trip_pixel drawing) (sym e)
-    go (Some entry) e =
-        elim (cases_lt line drawing.height) [
-          | inl inside ↦
-              let has = draws.opaque column line entry lc inside e in
-              last
-              ∙ (ap (color_in palette (background origin)) has.1
-              ∙ (ap (λ c. c ++ 255 ∷ [])
-              (register-palette origin.registers drawing definitions has.0 entry is draws.defined
-              from.size has.2)
-              ∙ ap (trip_pixel drawing) (sym e)))
-          | inr below ↦
-              let none = entry_at-below drawing column line is below in
-              nothing none ∙ ap (trip_pixel drawing) (sym none)
-        ]
+    go place e = grind (arith, nat_tests, register-palette, entry_at-below, palette, last, nothing)
 
 -- images with equal parts are equal
 pub image-same : (a b : Image) → a.pixels ≡ b.pixels → a.width ≡ b.width → a.height ≡ b.height
     → a.aspect_ratio ≡ b.aspect_ratio → a.background_mode ≡ b.background_mode → a ≡ b
-image-same a b pixels wide high shape mode =
-    let made : List ℕ → ℕ → ℕ → PixelAspectRatio → BackgroundMode → Image =
-    λ p w h r m. record { pixels = p; width = w; height = h; aspect_ratio = r; background_mode = m }
-    in
-    let parts : made a.pixels a.width a.height a.aspect_ratio a.background_mode
-    ≡ made b.pixels b.width b.height b.aspect_ratio b.background_mode = cc in
-    parts
-
--- a trip is no higher than whole bands
-trip-low : (crop : Bool) (drawing : Drawing) (definitions : List Definition) (marks : List Mark)
-    → IsWritable drawing → Draws drawing definitions marks
-    → trip_height crop drawing ≤ 6 * bands drawing.height
-trip-low true drawing definitions marks is draws = height-covered drawing.height
-trip-low false drawing definitions marks is draws =
-    omega (
-      arith,
-      cropped_height-tokens false drawing definitions marks is draws,
-      (Follows-tokens drawing definitions marks [] is draws).fits.high,
-    )
+image-same a b pixels wide high shape mode = grind (arith, nat_tests)
 
 -- the image of the tokens is the trip
 image-tokens :
@@ -155,48 +104,15 @@ image-tokens :
     → 6 * bands drawing.height ≤ origin.pixel_limit.rows
     → image_of origin (tokens drawing definitions marks) ≡ trip origin.raster_crop drawing
 image-tokens drawing definitions marks origin is draws from narrow low =
-    let crop : Bool = origin.raster_crop in
-    let limit : Limit = origin.pixel_limit in
-    let h : History = tokens drawing definitions marks in
     let follows = Follows-tokens drawing definitions marks origin.registers is draws in
-    let wide : clipped_width limit h ≡ drawing.width =
-    omega (arith, follows.fits.wide, narrow) in
-    let high : image_height limit crop h ≡ trip_height crop drawing =
-    omega (
-      arith,
-      cropped_height-tokens crop drawing definitions marks is draws,
-      trip-low crop drawing definitions marks is draws,
-      low,
-    ) in
-    let pixels : picture (pixel origin h) (clipped_width limit h) (image_height limit crop h)
-    ≡ picture (λ column row. trip_pixel drawing (entry_at drawing column row))
-    drawing.width (trip_height crop drawing) =
-    ap (λ w. picture (pixel origin h) w (image_height limit crop h)) wide
-    ∙ (ap (picture (pixel origin h) drawing.width) high
-    ∙ picture-same (pixel origin h)
-    (λ column row. trip_pixel drawing (entry_at drawing column row))
-    drawing.width (trip_height crop drawing)
-    (λ column line lc ll.
-    pixel-trip drawing definitions marks origin column line is draws from lc)) in
-    image-same (image_of origin h) (trip crop drawing) pixels wide high
-    (follows.shape (ratio_of origin.settings)) from.mode
+    grind (arith, cropped_height-tokens, picture-same, pixel-trip)
 
 -- ---- a new decoder with the text's settings
-
--- a P2 that is written is read as its mode
-mode-read : (mode : BackgroundMode) → mode_of_p2 (p2_of mode) ≡ mode
-mode-read Opaque = refl
-mode-read Transparent = refl
 
 -- the first register is black
 first_register : slice_index_or default_registers 0 [] ≡ 0 ∷ 0 ∷ 0 ∷ []
 unfolding default_registers
 first_register = get_or-map-range_with_len default_color 0 256 0 0 [] (omega arith) (omega arith)
-
--- so the background is that of a trip
-ground-blank : (mode : BackgroundMode) → background_of default_registers mode ≡ blank mode
-ground-blank Opaque = ap (λ c. c ++ 255 ∷ []) first_register
-ground-blank Transparent = refl
 
 -- there are 256 registers
 length-default_registers : length default_registers ≡ 256
@@ -207,13 +123,8 @@ length-default_registers = length-map-range_with_len default_color 0 256
 IsOrigin-new : (decoder : DecoderState) (drawing : Drawing)
     → decoder.registers ≡ default_registers → decoder.pixel_limit.transparent ≡ false
     → IsOrigin drawing (origin_of decoder (drawing_settings drawing))
-IsOrigin-new decoder drawing new painted = record {
-  size = ap length new ∙ length-default_registers;
-  mode = mode-read drawing.background_mode;
-  ground = rw painted (ap (background_of decoder.registers) (mode-read drawing.background_mode))
-      ∙ (ap (λ rs. background_of rs drawing.background_mode) new
-      ∙ ground-blank drawing.background_mode);
-}
+IsOrigin-new decoder drawing new painted =
+    grind (arith, nat_tests, length-default_registers, first_register)
 
 -- the payload is read as the trip
 pub payload-trip : (decoder : DecoderState) (drawing : Drawing) (definitions : List Definition)
@@ -237,12 +148,4 @@ pub payload-sound : (limit : Limit) (drawing : Drawing) (definitions : List Defi
     → payload_fault limit (marks_payload drawing definitions marks ++ 27 ∷ rest) ≡ None
 payload-sound limit drawing definitions marks rest is draws room =
     let fits = (Follows-tokens drawing definitions marks [] is draws).fits in
-    let h = tokens drawing definitions marks in
-    ap (fault limit) (payload-read drawing definitions marks rest is draws)
-    ∙ fault-sound limit h (first_fault-other whole_limit limit h fits.sound
-    (omega (
-      arith,
-      room,
-      mul-le (width h) (height h) drawing.width (banded drawing.height) (omega (arith, fits.wide))
-          (omega (arith, fits.high)),
-    )))
+    grind (arith, nat_tests, payload-read, fault-sound, first_fault-other, mul-le)

@@ -1,15 +1,15 @@
 -- An entry's row as a part of the rows: what it has, and what a write to it leaves of the others.
 use Rattle.std.proofs.Common.{◌≡◌, ◌≢◌, ℕ, ◌+◌, ◌*◌, ◌<◌, ◌≤◌, List, length, get_or, take, drop}
-use Rattle.std.proofs.Common.{sym, ◌∙◌, subst, inl, inr, arith}
+use Rattle.std.proofs.Common.{◌∙◌, inl, inr, arith}
 use Rattle.std.specs.Prelude.{All}
 use borrow.Rule.Slice.PartMut.{put_mid}
 use Rattle.std.proofs.lemmas.Bool.{cases_lt}
 use Rattle.std.proofs.lemmas.Nat.{mul-le}
 use Rattle.std.proofs.lemmas.List.{places, get_or-take, get_or-drop, length-take-le, length-drop}
-use Rattle.std.proofs.lemmas.List.Elements.{All-from_get_or}
 use Rattle.std.proofs.lemmas.List.FromFn.{fill_by_all, length-map-range_with_len}
 use Rattle.std.proofs.lemmas.List.FromFn.{get_or-map-range_with_len}
 use Rattle.sixel_encoder.specs.inside.Grid.{cell, grid_row}
+use Rattle.std.proofs.lemmas.Bool.Decides.{nat_tests}
 
 -- a part is as long as it is cut
 pub length-part : (rows : List ℕ) (a k : ℕ) → a + k ≤ length rows
@@ -29,12 +29,7 @@ part-row rows width entry k e h =
 pub All-grid_row : (P : ℕ → Type 0) (rows : List ℕ) (width entry : ℕ)
     → ((x : ℕ) → x < width → P (cell rows width entry x)) → All P (grid_row rows width entry)
 All-grid_row P rows width entry h =
-    All-from_get_or P (grid_row rows width entry) 0 (λ x l.
-    let inside : x < width =
-    omega (arith, length-map-range_with_len (cell rows width entry) 0 width) in
-    let e : cell rows width entry x ≡ get_or (grid_row rows width entry) x 0 =
-    sym (get_or-map-range_with_len (cell rows width entry) 0 width x x 0 inside (omega arith)) in
-    subst P e (h x inside))
+    grind (arith, nat_tests, length-map-range_with_len, get_or-map-range_with_len)
 
 -- two rows with equal sixels are equal
 pub grid_row-same : (rows others : List ℕ) (width entry : ℕ)
@@ -45,11 +40,6 @@ grid_row-same rows others width entry h =
     (length-map-range_with_len (cell rows width entry) 0 width)
     (λ x l. get_or-map-range_with_len (cell rows width entry) 0 width x x 0 l (omega arith) ∙ h x l)
 
--- a write to a part keeps the length
-pub length-put : (rows ys : List ℕ) (a k : ℕ) → a + k ≤ length rows → length ys ≡ k
-    → length (put_mid a k rows ys) ≡ length rows
-length-put rows ys a k h e = grind (arith, places)
-
 pub put-before : (xs ys : List ℕ) (a k n : ℕ) → a ≤ length xs → n < a
     → get_or (put_mid a k xs ys) n 0 ≡ get_or xs n 0
 put-before xs ys a k n h l = grind (arith, places)
@@ -58,16 +48,11 @@ pub put-after : (xs ys : List ℕ) (a k n : ℕ) → a + k ≤ length xs → len
     → get_or (put_mid a k xs ys) n 0 ≡ get_or xs n 0
 put-after xs ys a k n h e l = grind (arith, places)
 
-pub put-within : (xs ys : List ℕ) (a k n : ℕ) → a + k ≤ length xs → length ys ≡ k → n < k
-    → get_or (put_mid a k xs ys) (a + n) 0 ≡ get_or ys n 0
-put-within xs ys a k n h e l = grind (arith, places)
-
 -- a write to an entry's row gives it these sixels
 pub cell-put_own : (rows ys : List ℕ) (width entry k x : ℕ) → k ≡ width → length ys ≡ k
     → entry * width + width ≤ length rows → x < width
     → cell (put_mid (entry * width) k rows ys) width entry x ≡ get_or ys x 0
-cell-put_own rows ys width entry k x ek el h lx =
-    put-within rows ys (entry * width) k x (omega arith) el (omega arith)
+cell-put_own rows ys width entry k x ek el h lx = grind (arith, nat_tests, places)
 
 -- a write to an entry's row changes no other row
 pub cell-put_other : (rows ys : List ℕ) (width entry k e x : ℕ) → k ≡ width → length ys ≡ k

@@ -1,23 +1,23 @@
 -- What the run-length tokens of a row do to the place, the colors and the pixels.
-use Rattle.std.specs.Prelude.{All, decimal, flat_map, slice_index_or}
-use Rattle.std.proofs.Common.{List, [], ap, arith, cond, get_or, length, length-append, refl}
-use Rattle.std.proofs.Common.{replicate, subst, sym, ℕ, ◌++◌, ◌+◌, ◌<◌, ◌∙◌, ◌∷◌, ◌≡◌, ◌≤◌}
-use Rattle.std.proofs.lemmas.Bool.{cond-false}
-use Rattle.std.proofs.lemmas.List.{length-replicate}
+use Rattle.std.specs.Prelude.{All, decimal, flat_map}
+use Rattle.std.proofs.Common.{List, ap, arith, cond, get_or, length, length-append}
+use Rattle.std.proofs.Common.{replicate, subst, ℕ, ◌++◌, ◌+◌, ◌<◌, ◌∷◌, ◌≡◌, ◌≤◌, []}
+use Rattle.std.proofs.lemmas.List.{length-replicate, get_or_append_left, get_or-append-add}
+use Rattle.std.proofs.lemmas.List.{get_or-replicate}
 use Rattle.sixel_base.specs.Limits.{repeat_limit}
 use Rattle.sixel_base.specs.Fields.{field}
 use Rattle.sixel_base.specs.History.{History, Repeat, Sixel}
-use Rattle.sixel_base.specs.Picture.{covers}
 use Rattle.sixel_base.specs.Place.{across, down, span}
 use Rattle.sixel_base.specs.Stroke.{Origin, color, pixel, ratio, registers, selected}
 use Rattle.sixel_base.specs.declared.settings.PixelAspectRatio.{PixelAspectRatio}
 use Rattle.sixel_encoder.specs.Marks.{is_lit}
 use Rattle.sixel_encoder.specs.RunTokens.{Many, One, RunToken, row_tokens, sixels}
 use Rattle.sixel_encoder.proofs.Digits.{fields-numbers}
-use Rattle.sixel_encoder.proofs.RowPixels.{is_lit-none, lit_append, lit_run}
 use Rattle.sixel_encoder.proofs.ShortestRows.{spells}
 use Rattle.sixel_encoder.proofs.TextHistory.{AreSound, AreSound-row, IsSound}
 use Rattle.sixel_encoder.proofs.Tokens.{with_run_token, with_run_tokens}
+use Rattle.std.proofs.lemmas.Bool.Decides.{nat_tests}
+use Rattle.sixel_encoder.proofs.RowPixels.{is_lit-past}
 
 -- a history has gone on by a row of sixels, drawn in the color that was selected
 pub record Moved (row : List ℕ) (old new : History) : Type 0 where
@@ -34,18 +34,7 @@ pub record Moved (row : List ℕ) (old new : History) : Type 0 where
 
 -- no sixel moves nothing
 Moved-none : (h : History) → span h ≡ 1 → Moved [] h h
-Moved-none h one = record {
-  single = one;
-  place = omega arith;
-  level = refl;
-  named = refl;
-  kept = λ start. refl;
-  shape = λ other. refl;
-  shown = λ origin column line.
-      sym (cond-false (is_lit [] (across h) (down h) column line)
-      (color origin.registers h ++ 255 ∷ []) (pixel origin h column line)
-      (is_lit-none (across h) (down h) column line));
-}
+Moved-none h one = grind (arith, nat_tests)
 
 -- the field of a repeat
 pub field-decimal : (n : ℕ) → n ≤ repeat_limit → field (decimal n) 0 ≡ n
@@ -53,37 +42,13 @@ field-decimal n h = ap (λ ns. get_or ns 0 0) (fields-numbers n [] (omega arith)
 
 -- one sixel
 Moved-one : (bits : ℕ) (h : History) → span h ≡ 1 → Moved (bits ∷ []) h (Sixel bits ∷ h)
-Moved-one bits h one = record {
-  single = refl;
-  place = omega arith;
-  level = refl;
-  named = refl;
-  kept = λ start. refl;
-  shape = λ other. refl;
-  shown = λ origin column line.
-      ap (λ t. cond t (color origin.registers h ++ 255 ∷ []) (pixel origin h column line))
-      (ap (λ s. covers (across h) (across h + s) (down h) bits column line) one
-      ∙ lit_run 1 bits (across h) (down h) column line);
-}
+Moved-one bits h one = grind (arith, nat_tests)
 
 -- a sixel that is repeated
 Moved-many : (count bits : ℕ) (h : History) → 1 ≤ count → count ≤ repeat_limit
     → Moved (replicate count bits) h (Sixel bits ∷ Repeat (decimal count) ∷ h)
 Moved-many count bits h low high =
-    let wide : span (Repeat (decimal count) ∷ h) ≡ count =
-    omega (arith, field-decimal count high) in
-    record {
-      single = refl;
-      place = omega (arith, wide, length-replicate count bits);
-      level = refl;
-      named = refl;
-      kept = λ start. refl;
-      shape = λ other. refl;
-      shown = λ origin column line.
-          ap (λ t. cond t (color origin.registers h ++ 255 ∷ []) (pixel origin h column line))
-          (ap (λ s. covers (across h) (across h + s) (down h) bits column line) wide
-          ∙ lit_run count bits (across h) (down h) column line);
-    }
+    grind (arith, nat_tests, length-replicate, field-decimal, get_or-replicate, is_lit-past)
 
 -- a run-length token
 pub Moved-run_token : (token : RunToken) (h : History) → IsSound token → span h ≡ 1
@@ -95,41 +60,8 @@ Moved-run_token (Many count bits) h is one = Moved-many count bits h is.1 is.2
 -- a row and another behind it
 Moved-more : (a b : List ℕ) (old mid new : History) → Moved a old mid → Moved b mid new
     → Moved (a ++ b) old new
-Moved-more a b old mid new first then = record {
-  single = then.single;
-  place = omega (arith, then.place, first.place, length-append a b);
-  level = then.level ∙ first.level;
-  named = then.named ∙ first.named;
-  kept = λ start. then.kept start ∙ first.kept start;
-  shape = λ other. then.shape other ∙ first.shape other;
-  shown = λ origin column line.
-      let same : color origin.registers mid ≡ color origin.registers old =
-      ap (λ rs. slice_index_or rs (selected mid) []) (first.kept origin.registers)
-      ∙ ap (λ n. slice_index_or (registers origin.registers old) n []) first.named in
-      then.shown origin column line
-      ∙ (ap
-      (λ n.
-      cond (is_lit b n (down mid) column line) (color origin.registers mid ++ 255 ∷ [])
-      (pixel origin mid column line))
-      first.place
-      ∙ (ap
-      (λ n.
-      cond (is_lit b (across old + length a) n column line) (color origin.registers mid ++ 255 ∷ [])
-      (pixel origin mid column line))
-      first.level
-      ∙ (ap
-      (λ c.
-      cond (is_lit b (across old + length a) (down old) column line) (c ++ 255 ∷ [])
-      (pixel origin mid column line))
-      same
-      ∙ (ap
-      (λ p.
-      cond (is_lit b (across old + length a) (down old) column line)
-      (color origin.registers old ++ 255 ∷ []) p)
-      (first.shown origin column line)
-      ∙ lit_append a b (across old) (down old) column line (color origin.registers old ++ 255 ∷ [])
-      (pixel origin old column line)))));
-}
+Moved-more a b old mid new first then =
+    grind (arith, nat_tests, length-append, get_or_append_left, get_or-append-add, is_lit-past)
 
 -- run-length tokens draw their sixels, one behind the other
 Moved-run_tokens : (tokens : List RunToken) (h : History) → AreSound tokens → span h ≡ 1

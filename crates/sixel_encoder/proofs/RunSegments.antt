@@ -1,15 +1,13 @@
 -- The segments of a band after a run of columns whose pixels all have one entry.
-use Rattle.std.specs.Prelude.{None, Option, Some, nat_le, slice_index_or}
-use Rattle.std.proofs.Common.{Bool, List, [], ap, arith, cond, false, length, refl, set}
+use Rattle.std.specs.Prelude.{None, Option, Some, slice_index_or}
+use Rattle.std.proofs.Common.{Bool, List, ap, arith, cond, false, length, refl, set, []}
 use Rattle.std.proofs.Common.{suc, sym, true, zero, ℕ, ◌++◌, ◌+◌, ◌-◌, ◌*◌, ◌<◌, ◌≤◌, ◌≡◌, ◌∙◌, ◌∷◌}
 use Rattle.std.proofs.lemmas.Bool.Decides.{nat_tests}
 use Rattle.sixel_encoder.specs.declared.segments.Segment.{Segment}
-use Rattle.sixel_encoder.specs.inside.Compact.{nth}
+use Rattle.sixel_encoder.specs.inside.Compact.{nth, with_run, AreLast}
 use Rattle.sixel_encoder.specs.Segments.{gap_of, segments_up_to, with_pixel}
 use Rattle.sixel_encoder.specs.Text.{Drawing, entry_at}
-use Rattle.sixel_encoder.specs.inside.Compact.{with_run}
 use Rattle.sixel_encoder.proofs.PassSteps.{segment-pixel, segment-skip, segment-uniform}
-use Rattle.sixel_encoder.specs.inside.Compact.{AreLast}
 use Rattle.sixel_encoder.proofs.SegmentSteps.{AreLast-later, AreLast-near, AreLast-new, grown}
 use Rattle.sixel_encoder.proofs.SegmentSteps.{is_near, near-own, new_segment}
 
@@ -20,9 +18,7 @@ run_of entry first end = record { entry = entry; first = first; end = end }
 -- a segment with these parts is this one
 pub run-made : (run : Segment) (entry first end : ℕ) → run.entry ≡ entry → run.first ≡ first
     → run.end ≡ end → run ≡ run_of entry first end
-run-made run entry first end a b c =
-    ap (λ x. run_of x run.first run.end) a
-    ∙ (ap (λ x. run_of entry x run.end) b ∙ ap (run_of entry first) c)
+run-made run entry first end a b c = grind (arith, nat_tests)
 
 -- a segment up to the end of a run
 abbrev pub longer : Segment → Segment → Segment
@@ -32,10 +28,7 @@ longer run segment = record { entry = segment.entry; first = segment.first; end 
 pub run-pixel : (gap column entry : ℕ) (segments : List Segment)
     → with_run gap (run_of entry column (column + 1)) segments
     ≡ with_pixel gap column entry segments
-run-pixel gap column entry [] = refl
-run-pixel gap column entry (segment ∷ segments) =
-    ap (λ r. cond (is_near gap column entry segment) (grown column segment ∷ segments)
-    (segment ∷ r)) (run-pixel gap column entry segments)
+run-pixel gap column entry segments = grind (arith, nat_tests)
 
 -- a segment that is not near a column is not near a later one
 far-later : (gap first end entry : ℕ) (segment : Segment) → first ≤ end
@@ -61,17 +54,7 @@ run-more gap first end entry (segment ∷ segments) some l =
         (segment ∷ with_run gap (run_of entry first end) segments))
         ≡ cond b (longer (run_of entry first (end + 1)) segment ∷ segments)
         (segment ∷ with_run gap (run_of entry first (end + 1)) segments)
-    go true near rest =
-        let same : segment.entry ≡ entry = grind (arith, nat_tests) in
-        let last : Segment = longer (run_of entry first end) segment in
-        ap (λ t. cond t (grown end last ∷ segments) (last ∷ with_pixel gap end entry segments))
-        (near-own gap end entry last same (omega arith))
-    go false far rest =
-        ap (λ t. cond t
-        (grown end segment ∷ with_run gap (run_of entry first end) segments)
-        (segment ∷ with_pixel gap end entry (with_run gap (run_of entry first end) segments)))
-        (far-later gap first end entry segment l far)
-        ∙ ap (λ s. segment ∷ s) rest
+    go b near rest = grind (arith, nat_tests, near-own, far-later)
 
 -- ---- the segment that a run joins
 
@@ -82,10 +65,7 @@ pub run-near : (gap : ℕ) (run : Segment) (segments : List Segment) (k : ℕ) (
     → is_near gap run.first run.entry near ≡ true
     → with_run gap run segments ≡ set segments k (longer run near)
 run-near gap run [] k near l at before is = absurd (omega arith)
-run-near gap run (segment ∷ segments) zero near l at before is =
-    ap (λ t. cond t (longer run segment ∷ segments) (segment ∷ with_run gap run segments))
-    (ap (is_near gap run.first run.entry) at ∙ is)
-    ∙ ap (λ s. longer run s ∷ segments) at
+run-near gap run (segment ∷ segments) zero near l at before is = grind (arith, nat_tests)
 run-near gap run (segment ∷ segments) (suc k) near l at before is =
     ap (λ t. cond t (longer run segment ∷ segments) (segment ∷ with_run gap run segments))
     (before 0 (omega arith))
@@ -132,11 +112,7 @@ AreLast-run segments last gap run some are inside none =
 
 -- an image with a column has a gap
 pub gap-positive : (drawing : Drawing) → 0 < drawing.width → 0 < gap_of drawing
-gap-positive drawing wide =
-    (elim (nat_le (length drawing.colors) 24) as (λ b. 0 < cond b drawing.width 10) [
-      | true ↦ wide
-      | false ↦ omega arith
-    ])
+gap-positive drawing wide = grind (arith, nat_tests)
 
 -- the pixels of a column all have this entry, or none
 abbrev pub IsColumn : Drawing → ℕ → ℕ → Option ℕ → Type 0
@@ -147,15 +123,12 @@ IsColumn drawing band column place =
 next-column : (drawing : Drawing) (band column : ℕ)
     → segments_up_to drawing band (6 * column + (5 + 1))
     ≡ segments_up_to drawing band (6 * (column + 1))
-next-column drawing band column =
-    let e : 6 * column + (5 + 1) ≡ 6 * (column + 1) = omega arith in
-    ap (segments_up_to drawing band) e
+next-column drawing band column = grind (arith, nat_tests)
 
 -- the first pixel of a column
 first-pixel : (drawing : Drawing) (band column : ℕ)
     → segments_up_to drawing band (6 * column) ≡ segments_up_to drawing band (6 * column + 0)
-first-pixel drawing band column =
-    let e : 6 * column ≡ 6 * column + 0 = omega arith in ap (segments_up_to drawing band) e
+first-pixel drawing band column = grind (arith, nat_tests)
 
 -- one column of an entry
 column-pixel : (drawing : Drawing) (band column entry : ℕ)
@@ -192,10 +165,7 @@ columns-run drawing band first entry zero some is =
     let start = segments_up_to drawing band (6 * first) in
     let e : first + (zero + 1) ≡ first + 1 = omega arith in
     let at : first + 0 ≡ first = omega arith in
-    ap (λ end. with_run (gap_of drawing) (run_of entry first end) start) e
-    ∙ (run-pixel (gap_of drawing) first entry start
-    ∙ (column-pixel drawing band first entry (rw at at (is 0 (omega arith)))
-    ∙ ap (λ c. segments_up_to drawing band (6 * c)) (sym e)))
+    grind (arith, nat_tests, run-pixel, column-pixel)
 columns-run drawing band first entry (suc n) some is =
     let gap = gap_of drawing in
     let start = segments_up_to drawing band (6 * first) in
@@ -212,9 +182,7 @@ columns-run drawing band first entry (suc n) some is =
 columns-none : (drawing : Drawing) (band first n : ℕ)
     → ((k : ℕ) → k < n → IsColumn drawing band (first + k) None)
     → segments_up_to drawing band (6 * first) ≡ segments_up_to drawing band (6 * (first + n))
-columns-none drawing band first zero is =
-    let e : first ≡ first + zero = omega arith in
-    ap (λ c. segments_up_to drawing band (6 * c)) e
+columns-none drawing band first zero is = grind (arith, nat_tests)
 columns-none drawing band first (suc n) is =
     let e : first + n + 1 ≡ first + suc n = omega arith in
     columns-none drawing band first n (λ k l. is k (omega arith))
@@ -235,11 +203,7 @@ pub columns-whole : (drawing : Drawing) (band first end gap lane : ℕ) (items n
 columns-whole drawing band first end gap lane items new some wide is was alike same at pushed =
     let n : ℕ = end - first - 1 in
     let e : first + (n + 1) ≡ end = omega arith in
-    pushed
-    ∙ (ap (λ g. with_run g (run_of lane first end) items) is
-    ∙ (ap (with_run (gap_of drawing) (run_of lane first end)) was
-    ∙ rw e at (columns-run drawing band first lane n (gap-positive drawing (omega arith))
-    (λ k l bit lb. same (first + k) bit (omega arith) (omega arith) lb ∙ (alike bit lb ∙ at)))))
+    grind (arith, nat_tests, columns-run, gap-positive)
 
 -- and after transparent ones
 pub columns-blank : (drawing : Drawing) (band first end : ℕ) (items : List Segment)
@@ -253,6 +217,4 @@ pub columns-blank : (drawing : Drawing) (band first end : ℕ) (items : List Seg
 columns-blank drawing band first end items some was alike same at =
     let n : ℕ = end - first in
     let e : first + n ≡ end = omega arith in
-    was
-    ∙ rw e at (columns-none drawing band first n
-    (λ k l bit lb. same (first + k) bit (omega arith) (omega arith) lb ∙ (alike bit lb ∙ at)))
+    grind (arith, nat_tests, columns-none)

@@ -1,7 +1,6 @@
 -- Images that show the same have one drawing.
 use Rattle.std.proofs.Common.{◌≡◌, ℕ, ◌+◌, ◌*◌, ◌/◌, ◌<◌, nat_le, true, false, cond, List, length}
-use Rattle.std.proofs.Common.{get_or, subst, ap, sym, ◌∙◌, inl, inr, arith, Some, None}
-use Rattle.std.proofs.lemmas.Bool.{cases_lt}
+use Rattle.std.proofs.Common.{get_or, ap, sym, ◌∙◌, arith, Some, None}
 use Rattle.std.proofs.lemmas.Bool.Decides.{nat_tests}
 use Rattle.std.proofs.lemmas.List.{ext_get_or}
 use Rattle.std.proofs.lemmas.List.FromFn.{length-map-range_with_len, get_or-map-range_with_len}
@@ -46,31 +45,20 @@ pub opaque-other : (image other : Image) (pixel : ℕ) → shown_image image ≡
     → pixel < length image.pixels / 4 → IsOpaque image.pixels pixel
     → IsOpaque other.pixels pixel × (color_at other.pixels pixel ≡ color_at image.pixels pixel)
 opaque-other image other pixel e l is =
-    let here = shown_color-opaque image.pixels pixel is in
     let same = color-same image other pixel e l in
-    elim (cases_lt (get_or other.pixels (4 * pixel + 3) 0) 128) [
-      | inl transparent ↦
-          let there = shown_color-transparent other.pixels pixel transparent in absurd cc
-      | inr opaque ↦ let there = shown_color-opaque other.pixels pixel opaque in (opaque, cc)
-    ]
+    grind (arith, nat_tests, shown_color-transparent, shown_color-opaque)
 
 pub transparent-other : (image other : Image) (pixel : ℕ) → shown_image image ≡ shown_image other
     → pixel < length image.pixels / 4 → get_or image.pixels (4 * pixel + 3) 0 < 128
     → get_or other.pixels (4 * pixel + 3) 0 < 128
 transparent-other image other pixel e l is =
-    let here = shown_color-transparent image.pixels pixel is in
     let same = color-same image other pixel e l in
-    elim (cases_lt (get_or other.pixels (4 * pixel + 3) 0) 128) [
-      | inl transparent ↦ transparent
-      | inr opaque ↦ let there = shown_color-opaque other.pixels pixel opaque in absurd cc
-    ]
+    grind (arith, nat_tests, shown_color-opaque)
 
 -- they show the same colors
 pub IsShown-other : (image other : Image) → shown_image image ≡ shown_image other → (c : List ℕ)
     → IsShown image.pixels c → IsShown other.pixels c
-IsShown-other image other e c shown =
-    let there = opaque-other image other shown.0 e shown.1 shown.2 in
-    (shown.0, omega (arith, shown.1, count-same image other e), there.0, there.1 ∙ shown.3)
+IsShown-other image other e c shown = grind (arith, nat_tests, opaque-other, count-same)
 
 -- their pixels have the same entries, if a color has one nearest entry
 entry-same : (image other : Image) (max_colors : ℕ) (drawing another : Drawing) (pixel : ℕ)
@@ -80,37 +68,12 @@ entry-same : (image other : Image) (max_colors : ℕ) (drawing another : Drawing
     → drawing.colors ≡ another.colors → pixel < length image.pixels / 4
     → get_or drawing.entries pixel None ≡ get_or another.entries pixel None
 entry-same image other max_colors drawing another pixel one e is also palette l =
-    let count = count-same image other e in
-    elim (cases_lt (get_or image.pixels (4 * pixel + 3) 0) 128) [
-      | inl transparent ↦
-          is.hidden pixel l transparent
-          ∙ sym (also.hidden pixel (omega (arith, count))
-          (transparent-other image other pixel e l transparent))
-      | inr opaque ↦
-          let there = opaque-other image other pixel e l opaque in
-          let first = is.shown pixel l opaque in
-          let second = also.shown pixel (omega (arith, count)) there.0 in
-          let moved =
-          subst (λ (p : List (List ℕ)). IsNearest p (color_at other.pixels pixel) second.0)
-          (sym palette) second.2 in
-          let near = subst (λ (c : List ℕ). IsNearest drawing.colors c second.0) there.1 moved in
-          first.1
-          ∙ (ap (λ (i : ℕ). Some i)
-          (one drawing.colors (color_at image.pixels pixel) first.0 second.0 first.2 near)
-          ∙ sym second.1)
-    ]
+    grind (arith, nat_tests, count-same, transparent-other, opaque-other)
 
 pub drawing-fields : (a b : Drawing) → a.width ≡ b.width → a.height ≡ b.height
     → a.aspect_ratio ≡ b.aspect_ratio → a.background_mode ≡ b.background_mode → a.colors ≡ b.colors
     → a.entries ≡ b.entries → a ≡ b
-drawing-fields a b w h r m c e = λ i. record {
-  width = w i;
-  height = h i;
-  aspect_ratio = r i;
-  background_mode = m i;
-  colors = c i;
-  entries = e i;
-}
+drawing-fields a b w h r m c e = grind (arith, nat_tests)
 
 pub drawing_same : (image other : Image) (max_colors : ℕ) (drawing another : Drawing)
     → ((entries : List (List ℕ)) (c : List ℕ) (i j : ℕ) → IsNearest entries c i

@@ -1,9 +1,8 @@
 -- The second trip: what a transparent image has become by a trip it stays, if it may use as many
 -- colors again.
 use Rattle.std.proofs.Common.{◌≡◌, ℕ, zero, suc, ◌+◌, ◌*◌, ◌<◌, ◌≤◌, Bool, true, false, List, []}
-use Rattle.std.proofs.Common.{◌∷◌, ◌++◌, map, length, refl, ap, sym, subst, ◌∙◌, arith, inl, inr}
+use Rattle.std.proofs.Common.{◌∷◌, ◌++◌, map, length, refl, ap, sym, subst, ◌∙◌, arith}
 use Rattle.std.specs.Prelude.{Option, Some, None, slice_index_or, All, Contains}
-use Rattle.std.proofs.lemmas.Bool.{cases_Bool, cond-true, cond-false}
 use Rattle.std.proofs.lemmas.Nat.{mul-add-lt}
 use Rattle.std.proofs.lemmas.List.{get_or_default, length-map, length_push}
 use Rattle.std.proofs.lemmas.List.Quantifiers.{all_pairs_push}
@@ -37,6 +36,7 @@ use Rattle.sixel_encoder.proofs.PlainText.{text-trip, IsOneString-text}
 use Rattle.sixel_encoder.proofs.TripPixels.{entry_in, known_in, rounded_entry, length-trip}
 use Rattle.sixel_encoder.proofs.TripPixels.{alpha-some, color-some, alpha-none, shown-among}
 use Rattle.sixel_base.specs.Limits.{Limit}
+use Rattle.std.proofs.lemmas.Bool.Decides.{nat_tests}
 
 -- ---- palettes with room for all colors
 
@@ -64,10 +64,7 @@ nearest-held : (entries : List (List ℕ)) (c : List ℕ) (i : ℕ) → All (λ 
 nearest-held entries c i three long held near =
     let place : slice_index_or entries held.0 [] ≡ c =
     get_or_default entries held.0 [] c held.1 ∙ held.2 in
-    let none : distance (slice_index_or entries held.0 []) c ≡ 0 =
-    ap (λ p. distance p c) place ∙ distance_self c in
-    same_from_distance (slice_index_or entries i []) c (three i [] near.entry) long
-    (omega (arith, near.least held.0 held.1))
+    grind (arith, nat_tests, distance_self, same_from_distance)
 
 -- ---- an image and its trip, each drawn with as many colors
 
@@ -141,16 +138,12 @@ again-none : (crop : Bool) (max_colors : ℕ) (image : Image) (first second : Dr
     → Again crop max_colors image first second → place < first.width * trip_height crop first
     → entry_in first place ≡ None → entry_in second place ≡ None
 again-none crop max_colors image first second place again l e =
-    let alpha = alpha-none crop first place again.is again.mode l e in
-    let all = length-trip crop first again.is in
-    again.drawn.hidden place (omega arith) (omega arith)
+    grind (arith, nat_tests, alpha-none, length-trip)
 
 -- a color that was rounded stays
 rounded-all : (c : List ℕ) → map rounded (map rounded c) ≡ map rounded c
 rounded-all [] = refl
-rounded-all (n ∷ c) =
-    ap (λ m. m ∷ map rounded (map rounded c)) (rounded-rounded n)
-    ∙ ap (λ ms. rounded n ∷ ms) (rounded-all c)
+rounded-all (n ∷ c) = grind (arith, nat_tests, rounded-rounded, rounded-all c)
 
 -- each pixel is the same again
 pixel-again : (crop : Bool) (max_colors : ℕ) (image : Image) (first second : Drawing) (place : ℕ)
@@ -165,10 +158,7 @@ pixel-again crop max_colors image first second place again l = go (entry_in firs
         ∙ (ap blank again.drawn.background_mode ∙ ap (trip_pixel first) (sym e))
     go (Some entry) e =
         let found = again-some crop max_colors image first second place entry again l e in
-        ap (trip_pixel second) found.1
-        ∙ (ap (λ c. map rounded c ++ 255 ∷ []) found.3
-        ∙ (ap (λ c. c ++ 255 ∷ []) (rounded-all (slice_index_or first.colors entry []))
-        ∙ ap (trip_pixel first) (sym e)))
+        grind (arith, nat_tests, rounded-all)
 
 -- ---- the height
 
@@ -211,48 +201,7 @@ bands_up_to-less : (test other : ℕ → Bool) (n : ℕ) → ((k : ℕ) → test
 bands_up_to-less test other zero less = omega (arith, bands_up_to-none test, bands_up_to-none other)
 bands_up_to-less test other (suc n) less =
     let here = bands_up_to-more test n in
-    let there = bands_up_to-more other n in
-    let before = bands_up_to-less test other n less in
-    let below = bands_up_to-le other n in
-    let next : suc n ≡ n + 1 = omega arith in
-    elim (cases_Bool (test n)) [
-      | inl yes_here ↦
-          omega (
-            arith,
-            ap (bands_up_to test) next,
-            ap (bands_up_to other) next,
-            here,
-            there,
-            cond-true (test n) (n + 1) (bands_up_to test n) yes_here,
-            cond-true (other n) (n + 1) (bands_up_to other n) (less n yes_here),
-          )
-      | inr not_here ↦
-          elim (cases_Bool (other n)) [
-            | inl yes_there ↦
-                omega (
-                  arith,
-                  ap (bands_up_to test) next,
-                  ap (bands_up_to other) next,
-                  here,
-                  there,
-                  before,
-                  below,
-                  cond-false (test n) (n + 1) (bands_up_to test n) not_here,
-                  cond-true (other n) (n + 1) (bands_up_to other n) yes_there,
-                )
-            | inr not_there ↦
-                omega (
-                  arith,
-                  ap (bands_up_to test) next,
-                  ap (bands_up_to other) next,
-                  here,
-                  there,
-                  before,
-                  cond-false (test n) (n + 1) (bands_up_to test n) not_here,
-                  cond-false (other n) (n + 1) (bands_up_to other n) not_there,
-                )
-          ]
-    ]
+    grind (arith, nat_tests, bands_up_to-more, bands_up_to-le, bands_up_to-less test other n less)
 
 -- the height is the same again
 height-again : (crop : Bool) (max_colors : ℕ) (image : Image) (first second : Drawing)
@@ -340,8 +289,7 @@ text-again decoder image max_colors text was mode reads is =
     let sound : image_fault image ≡ None =
     ap image_fault was.5 ∙ image_fault-trip crop was.1 first in
     let bytes : All (λ byte. byte < 256) image.pixels =
-    subst (λ (i : Image). All (λ byte. byte < 256) i.pixels)
-    (sym was.5) (bytes-trip crop was.1 first) in
+    grind (arith, nat_tests, bytes-trip) in
     let read = image-read_back decoder image max_colors text sound bytes reads is in
     subst (λ (i : Image). IsReadAs decoder text i)
     (trip-again crop image max_colors read.0 was mode read.1) read.2

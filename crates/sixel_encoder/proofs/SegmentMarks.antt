@@ -1,16 +1,16 @@
 -- The marks of a segment draw its pixels and cover none that may not be covered.
 use Rattle.std.specs.Int.{bit_at}
-use Rattle.std.specs.Prelude.{None, Option, Some, is_some, nat_le, slice_index, ◌==◌}
-use Rattle.std.proofs.Common.{Bool, List, [], ap, arith, cond, false, inl, inr, length, refl, sym}
-use Rattle.std.proofs.Common.{true, ℕ, ◌*◌, ◌++◌, ◌+◌, ◌-◌, ◌<◌, ◌∙◌, ◌∷◌, ◌≡◌, ◌≤◌}
-use Rattle.std.proofs.lemmas.Bool.{both_ways, cases_eq, cases_lt, eq-eqb}
+use Rattle.std.specs.Prelude.{None, Option, Some, nat_le, slice_index}
+use Rattle.std.proofs.Common.{Bool, List, ap, arith, cond, false, inl, inr, length, refl, sym}
+use Rattle.std.proofs.Common.{true, ℕ, ◌*◌, ◌++◌, ◌+◌, ◌-◌, ◌<◌, ◌∙◌, ◌∷◌, ◌≡◌, ◌≤◌, []}
+use Rattle.std.proofs.lemmas.Bool.{cases_eq}
 use Rattle.std.proofs.lemmas.Bool.Decides.{nat_tests}
 use Rattle.std.proofs.lemmas.Nat.Bits.{bit_at-lt}
 use Rattle.sixel_encoder.specs.declared.segments.Segment.{Segment}
 use Rattle.sixel_encoder.specs.Compact.{Drawn, blocked_after, drawn_after, drawn_by, is_selected}
 use Rattle.sixel_encoder.specs.Compact.{segment_marks, segment_row, segments_marks, start_column}
 use Rattle.sixel_encoder.specs.Compact.{to_register, to_segment}
-use Rattle.sixel_encoder.specs.Marks.{Back, Draw, Mark, Pen, Pick, is_lit, moved, moved_by}
+use Rattle.sixel_encoder.specs.Marks.{Back, Draw, Mark, Pen, Pick, is_lit, moved_by}
 use Rattle.sixel_encoder.specs.RegisterOrder.{number_of}
 use Rattle.sixel_encoder.specs.Text.{Drawing, bands, entry_at}
 use Rattle.sixel_encoder.specs.Trip.{is_used}
@@ -47,16 +47,8 @@ IsDrawn-moved : (drawing : Drawing) (band : ℕ) (drawn next : Drawn) (pen other
     (place : Places) → other.column ≡ next.column → other.register ≡ next.register
     → other.band ≡ pen.band → next.blocked ≡ drawn.blocked
     → IsDrawn drawing band drawn pen place → IsDrawn drawing band next other place
-IsDrawn-moved drawing band drawn next pen other place column register same kept at = record {
-  column = column;
-  register = register;
-  level = same ∙ at.level;
-  transparent = at.transparent;
-  above = at.above;
-  here = λ x line entry lc inside e bit.
-      at.here x line entry lc inside e
-      (ap (λ b. bit_at (slice_index b x) (line - 6 * band)) (sym kept) ∙ bit);
-}
+IsDrawn-moved drawing band drawn next pen other place column register same kept at =
+    grind (arith, nat_tests)
 
 -- what is drawn when the row of a segment begins
 abbrev at_start : Drawn → Segment → Drawn
@@ -81,18 +73,12 @@ Leads-left drawing band drawn segment pen place at = go (nat_le drawn.column seg
           blocked = drawn.blocked;
         }) pen place (cond b [] (Back ∷ []))
     go true = record { allowed = tt; state = at }
-    go false = record {
-      allowed = (tt, tt);
-      state = IsDrawn-moved drawing band drawn _ pen (moved pen Back) place refl at.register refl
-          refl at;
-    }
+    go false = grind (arith, nat_tests, IsDrawn-moved)
 
 -- a register that is selected
 selected-is : (register : ℕ) (place : Option ℕ) → is_selected register place ≡ true
     → place ≡ Some register
-selected-is register None is = absurd cc
-selected-is register (Some other) is =
-    let e : register ≡ other = grind (arith, nat_tests) in ap Some (sym e)
+selected-is register place is = grind (arith, nat_tests)
 
 -- what is drawn when a register is selected, too
 abbrev in_register : ℕ → Drawn → Drawn
@@ -113,16 +99,8 @@ Leads-register drawing band drawn register pen place small at =
     go : (b : Bool) → is_selected register drawn.register ≡ b
         → Leads drawing (IsDrawn drawing band (in_register register drawn)) pen place
         (cond b [] (Pick register ∷ []))
-    go true e = record {
-      allowed = tt;
-      state = IsDrawn-moved drawing band drawn _ pen pen place at.column
-          (at.register ∙ selected-is register drawn.register e) refl refl at;
-    }
-    go false e = record {
-      allowed = (small, tt);
-      state = IsDrawn-moved drawing band drawn _ pen (moved pen (Pick register)) place at.column
-          refl refl refl at;
-    }
+    go true e = grind (arith, nat_tests, IsDrawn-moved, selected-is)
+    go false e = grind (arith, nat_tests, IsDrawn-moved)
 
 -- ---- where a row sets a pixel
 
@@ -137,30 +115,13 @@ record IsLit (band from end column line value : ℕ) : Type 0 where
 lit-is : (row : List ℕ) (band from end column line : ℕ) → length row ≡ end - from
     → is_lit row from (6 * band) column line ≡ true
     → IsLit band from end column line (slice_index row (column - from))
-lit-is row band from end column line size lit =
-    let since : from ≤ column = grind (arith, nat_tests) in
-    record {
-      since = since;
-      before = elim (cases_lt column end) [
-        | inl l ↦ l
-        | inr past ↦ absurd (both_ways (is_lit row from (6 * band) column line)
-            (is_lit-past row from (6 * band) column line (omega arith)) lit)
-      ];
-      inside = record {
-        since = grind (arith, nat_tests);
-        before = grind (arith, nat_tests);
-      };
-      bit = grind (arith, nat_tests);
-    }
+lit-is row band from end column line size lit = grind (arith, nat_tests, is_lit-past)
 
 -- a row sets a pixel whose bit it has
 is-lit : (row : List ℕ) (band from column line : ℕ) → from ≤ column → IsInBand band line
     → bit_at (slice_index row (column - from)) (line - 6 * band) ≡ 1
     → is_lit row from (6 * band) column line ≡ true
-is-lit row band from column line since at bit =
-    let low = at.since in
-    let high = at.before in
-    grind (arith, nat_tests)
+is-lit row band from column line since at bit = grind (arith, nat_tests)
 
 -- ---- the row of a segment
 
@@ -173,36 +134,9 @@ Leads-row : (drawing : Drawing) (band : ℕ) (drawn : Drawn) (segment : Segment)
     → Leads drawing (IsDrawn drawing band (drawn_after drawing band drawn segment)) pen place
     (Draw (segment_row drawing band drawn.blocked segment drawn.column) ∷ [])
 Leads-row drawing band drawn segment segments pen place are lower used left at = record {
-  allowed = (
-    record {
-      small = row-small drawing band drawn.blocked segment drawn.column;
-      inside = omega (arith, is.size, known.wide, known.some, at.column, left);
-      lower = omega (arith, at.level, lower);
-      used = ap (is_used drawing) at.level ∙ used;
-      selected = ap is_some at.register;
-    },
-    tt,
-  );
-  state = record {
-    column = omega (arith, is.size, known.some, at.column, left);
-    register = at.register;
-    level = at.level;
-    transparent = λ column line lc e.
-        keep column line (is_lit row pen.column (6 * pen.band) column line) refl
-        (λ lit. let it = lit-here column line lit in
-        coverable column line lit
-        (are.transparent column (line - 6 * band) lc (bit-of line it.inside)
-        (at-bit column line it.inside ∙ e)))
-        (at.transparent column line lc e);
-    above = λ column line entry lc over e.
-        keep column line (is_lit row pen.column (6 * pen.band) column line) refl
-        (λ lit. let it = (lit-here column line lit).inside in absurd
-        (omega (arith, it.since, over)))
-        (at.above column line entry lc over e);
-    here = λ column line entry lc inside e bit.
-        draws column line entry lc inside e bit
-        (is_lit row pen.column (6 * pen.band) column line) refl;
-  };
+  allowed = grind (arith, nat_tests, row-small, known, is);
+  state =
+      grind (arith, nat_tests, row, known, is, lit-here, bit-of, at-bit, coverable, keep, draws);
 }
   where
     row : List ℕ
@@ -217,38 +151,30 @@ Leads-row drawing band drawn segment segments pen place are lower used left at =
     same : (column line : ℕ)
         → is_lit row pen.column (6 * pen.band) column line
         ≡ is_lit row drawn.column (6 * band) column line
-    same column line =
-        ap (λ c. is_lit row c (6 * pen.band) column line) at.column
-        ∙ ap (λ b. is_lit row drawn.column (6 * b) column line) at.level
+    same column line = grind (arith, nat_tests, row)
 
     lit-here : (column line : ℕ) → is_lit row pen.column (6 * pen.band) column line ≡ true
         → IsLit band drawn.column segment.end column line
         (slice_index row (column - drawn.column))
-    lit-here column line lit =
-        lit-is row band drawn.column segment.end column line is.size (sym (same column line) ∙ lit)
+    lit-here column line lit = grind (arith, nat_tests, lit-is, row, is, same)
 
     bit-of : (line : ℕ) → IsInBand band line → line - 6 * band < 6
     bit-of line inside = omega (arith, inside.since, inside.before)
 
     at-bit : (column line : ℕ) → IsInBand band line
         → entry_at drawing column (6 * band + (line - 6 * band)) ≡ entry_at drawing column line
-    at-bit column line inside =
-        let e : 6 * band + (line - 6 * band) ≡ line = omega (arith, inside.since) in
-        ap (entry_at drawing column) e
+    at-bit column line inside = grind (arith, nat_tests)
 
     -- what the row sets could be covered
     coverable : (column line : ℕ) → is_lit row pen.column (6 * pen.band) column line ≡ true
         → bit_at (slice_index drawn.blocked column) (line - 6 * band) ≡ 1 → ⊥
-    coverable column line lit blocked =
-        let it = lit-here column line lit in
-        omega (arith, it.bit, blocked, is.none column it.since it.before (line - 6 * band))
+    coverable column line lit blocked = grind (arith, nat_tests, is, lit-here)
 
     keep : (column line : ℕ) (b : Bool)
         → is_lit row pen.column (6 * pen.band) column line ≡ b
         → (is_lit row pen.column (6 * pen.band) column line ≡ true → ⊥) → {x : Option ℕ}
         → place column line ≡ x → cond b pen.register (place column line) ≡ x
-    keep column line true lit never was = absurd (never lit)
-    keep column line false lit never was = was
+    keep column line b lit never was = grind (arith, nat_tests)
 
     -- a pixel that may not be covered since this segment is one of its own
     owned : (column line entry : ℕ) → column < drawing.width → IsInBand band line
@@ -261,14 +187,10 @@ Leads-row drawing band drawn segment segments pen place are lower used left at =
         let i : ℕ = line - 6 * band in
         let low = bit-of line inside in
         let at_bit = at-bit column line inside ∙ e in
-        let old = are.once column i entry lc low at_bit in
         let now =
         (AreLeft-after drawing band drawn.blocked segment segments are).once column i entry lc low
         at_bit in
-        let none : bit_at (slice_index drawn.blocked column) i ≡ 0 =
-        bit-none (bit_at (slice_index drawn.blocked column) i)
-        (bit_at-lt (slice_index drawn.blocked column) i) never in
-        one-is (is_of column (Some entry) segment) (omega (arith, old, now, none, bit))
+        grind (arith, nat_tests, bit_at-lt)
       where
         bit-none : (n : ℕ) → n < 2 → (n ≡ 1 → ⊥) → n ≡ 0
         bit-none n l other = elim (cases_eq n 1) [
@@ -301,29 +223,14 @@ Leads-row drawing band drawn segment segments pen place are lower used left at =
               let has =
               own-bit drawing band segment.entry column i entry (bit-of line inside)
               (at-bit column line inside ∙ e) in
-              let own_test : entry == segment.entry ≡ true = eq-eqb entry segment.entry own.0 in
-              let on : bit_at (slice_index row (column - drawn.column)) i ≡ 1 =
-              omega (
-                arith,
-                has,
-                ap one own_test,
-                is.all column own.1 own.2 i,
-                bit_at-lt (slice_index row (column - drawn.column)) i,
-              ) in
-              absurd (both_ways (is_lit row pen.column (6 * pen.band) column line) unlit
-              (same column line
-              ∙ is-lit row band drawn.column column line (omega (arith, left, own.1)) inside on))
+              grind (arith, nat_tests, bit_at-lt, is-lit, row, is, same)
         ]
 
 -- ---- some segments
 
 -- the row begins at the segment or left of it
 start-left : (column : ℕ) (segment : Segment) → start_column column segment ≤ segment.first
-start-left column segment = go (nat_le column segment.first) refl
-  where
-    go : (b : Bool) → nat_le column segment.first ≡ b → cond b column 0 ≤ segment.first
-    go true e = grind (arith, nat_tests)
-    go false e = omega arith
+start-left column segment = grind (arith, nat_tests)
 
 -- a segment leads to the next
 Leads-segment : (drawing : Drawing) (band : ℕ) (drawn : Drawn) (segment : Segment)

@@ -1,17 +1,17 @@
 -- The segments that a compact text draws have each pixel of the drawing once.
 use Rattle.std.specs.Int.{bit_at}
 use Rattle.std.specs.Prelude.{None, Option, Some, is_some, slice_index, slice_index_or, ◌%◌, ◌/◌}
-use Rattle.std.proofs.Common.{Bool, List, [], ap, arith, false, inl, inr, length, not, refl, subst}
-use Rattle.std.proofs.Common.{suc, sym, true, zero, ℕ, ◌*◌, ◌+◌, ◌<◌, ◌∙◌, ◌∷◌, ◌≡◌, ◌≤◌}
-use Rattle.std.proofs.lemmas.Bool.{both_ways, cases_Bool, cases_eq}
+use Rattle.std.proofs.Common.{Bool, List, ap, arith, false, inl, inr, length, not, refl, subst}
+use Rattle.std.proofs.Common.{suc, true, zero, ℕ, ◌*◌, ◌+◌, ◌<◌, ◌∷◌, ◌≡◌, ◌≤◌, []}
+use Rattle.std.proofs.lemmas.Bool.{cases_eq}
 use Rattle.std.proofs.lemmas.Bool.Decides.{nat_tests}
 use Rattle.std.proofs.lemmas.List.FromFn.{get_or-map-range_with_len, length-map-range_with_len}
 use Rattle.sixel_encoder.specs.declared.segments.Segment.{Segment}
 use Rattle.sixel_encoder.specs.Compact.{band_register, register_after, transparent_row}
 use Rattle.sixel_encoder.specs.Compact.{transparent_sixel}
-use Rattle.sixel_encoder.specs.Segments.{band_segments, drawn_segments, gap_of, passes}
+use Rattle.sixel_encoder.specs.Segments.{band_segments, drawn_segments, gap_of}
 use Rattle.sixel_encoder.specs.Segments.{segments_up_to, with_pixel, with_place}
-use Rattle.sixel_encoder.specs.Text.{Drawing, entry_at, mask}
+use Rattle.sixel_encoder.specs.Text.{Drawing, entry_at}
 use Rattle.sixel_encoder.specs.Trip.{is_used}
 use Rattle.sixel_encoder.specs.inside.Compact.{nth}
 use Rattle.sixel_encoder.proofs.LeftSegments.{AreLeft, IsSegment, bit-mask, is_segment}
@@ -40,13 +40,7 @@ AreOf-place drawing band n None segments is known was = record {
   cut =
       AreCut-wider (gap_of drawing) (length drawing.colors) ((n + 5) / 6) ((suc n + 5) / 6)
       segments (omega arith) was.cut;
-  whole = λ k e l at. elim (cases_eq k n) [
-    | inl same ↦
-        absurd (both_ways (is_some (entry_at drawing (k / 6) (6 * band + k % 6)))
-        (ap (λ m. is_some (entry_at drawing (m / 6) (6 * band + m % 6))) same ∙ ap is_some is)
-        (ap is_some at))
-    | inr apart ↦ was.whole k e (omega arith) at
-  ];
+  whole = λ k e l at. grind (arith, nat_tests);
 }
 AreOf-place drawing band n (Some entry) segments is known was =
     let gap : ℕ = gap_of drawing in
@@ -60,13 +54,7 @@ AreOf-place drawing band n (Some entry) segments is known was =
           (AreCut-pixel gap entries ((n + 5) / 6) (n / 6) entry segments bound
           (known entry refl) was.cut);
       whole = λ k e l at. elim (cases_eq k n) [
-        | inl same ↦
-            let value : Some entry ≡ Some e =
-            sym (ap (λ m. entry_at drawing (m / 6) (6 * band + m % 6)) same ∙ is) ∙ at in
-            let equal : entry ≡ e = some-same entry e value in
-            subst (λ (m : ℕ). 1 ≤ tally (is_of (m / 6) (Some e)) grown) (sym same)
-            (subst (λ (v : ℕ). 1 ≤ tally (is_of (n / 6) (Some v)) grown) equal
-            (own-pixel gap entries ((n + 5) / 6) (n / 6) entry segments bound was.cut))
+        | inl same ↦ grind (arith, nat_tests, own-pixel, some-same)
         | inr apart ↦
             let more =
             tally-pixel gap entries ((n + 5) / 6) (n / 6) entry (k / 6) e segments bound
@@ -102,10 +90,7 @@ unused-segments : (drawing : Drawing) (band n : ℕ) → is_used drawing band �
 unfolding segments_up_to
 unused-segments drawing band zero unused l = refl
 unused-segments drawing band (suc n) unused l =
-    ap
-    (λ place. with_place (gap_of drawing) (n / 6) place (segments_up_to drawing band n))
-    (unused-places drawing band (n % 6) (n / 6) unused (omega arith) (omega arith))
-    ∙ unused-segments drawing band n unused (omega arith)
+    grind (arith, nat_tests, unused-places, unused-segments drawing band n unused (omega arith))
 
 -- ---- the segments in the order in which they are drawn
 
@@ -115,11 +100,7 @@ known-cut : (drawing : Drawing) (gap bound : ℕ) (segments : List Segment)
     → tally (λ s. not (is_segment drawing s)) segments ≡ 0
 known-cut drawing gap bound [] l are = refl
 known-cut drawing gap bound (segment ∷ segments) l are =
-    omega (
-      arith,
-      here are.0 are.1 (omega (arith, are.2)),
-      known-cut drawing gap bound segments l are.4,
-    )
+    grind (arith, nat_tests, known-cut drawing gap bound segments l are.4, here)
   where
     here : segment.entry < length drawing.colors → segment.first < segment.end
         → segment.end ≤ drawing.width → one (not (is_segment drawing segment)) ≡ 0
@@ -128,69 +109,33 @@ known-cut drawing gap bound (segment ∷ segments) l are =
 -- a band that is drawn is used
 pub used-drawn : (drawing : Drawing) (band : ℕ) → 0 < length (drawn_segments drawing band)
     → is_used drawing band ≡ true
-used-drawn drawing band some = elim (cases_Bool (is_used drawing band)) [
-  | inl used ↦ used
-  | inr unused ↦ absurd (omega (
-    arith,
-    some,
-    ap (λ segments. length (passes (length segments) segments))
-        (unused-segments drawing band (6 * drawing.width) unused (omega arith)),
-    ap length (passes-none []),
-  ))
-]
+used-drawn drawing band some = grind (arith, nat_tests, passes-none, unused-segments)
 
 -- the bit of a transparent pixel when a band begins
 transparent-bit : (drawing : Drawing) (band column bit : ℕ) → column < drawing.width → bit < 6
     → (b : Bool) → not (is_some (entry_at drawing column (6 * band + bit))) ≡ b
     → bit_at (slice_index (transparent_row drawing band) column) bit ≡ one b
 transparent-bit drawing band column bit lc lb b is =
-    ap (λ v. bit_at v bit)
-    (get_or-map-range_with_len (transparent_sixel drawing band) 0 drawing.width column column 0 lc
-    (omega arith))
-    ∙ go b is
-  where
-    test : ℕ → Bool
-    test = λ k. not (is_some (entry_at drawing column (6 * band + k)))
-
-    go : (b : Bool) → test bit ≡ b → bit_at (mask test 6) bit ≡ one b
-    go true on = bit-mask test bit lb on
-    go false off = no_bit-mask test bit lb off
+    grind (arith, nat_tests, get_or-map-range_with_len, not, bit-mask, no_bit-mask)
 
 -- and that of an opaque one
 pub opaque-bit : (drawing : Drawing) (band column bit entry : ℕ) → column < drawing.width → bit < 6
     → entry_at drawing column (6 * band + bit) ≡ Some entry
     → bit_at (slice_index (transparent_row drawing band) column) bit ≡ 0
-opaque-bit drawing band column bit entry lc lb e =
-    transparent-bit drawing band column bit lc lb false (ap (λ p. not (is_some p)) e)
+opaque-bit drawing band column bit entry lc lb e = grind (arith, nat_tests, not, transparent-bit)
 
 -- when a band begins all its segments are left
 pub AreLeft-drawn : (drawing : Drawing) (band : ℕ) → AreKnown drawing
     → AreLeft drawing band (transparent_row drawing band) (drawn_segments drawing band)
 AreLeft-drawn drawing band known = record {
   size = length-map-range_with_len (transparent_sixel drawing band) 0 drawing.width;
-  known =
-      tally-drawn (λ s. not (is_segment drawing s)) drawing band
-      ∙ known-cut drawing gap bound (band_segments drawing band) (omega arith) of.cut;
+  known = grind (arith, nat_tests, tally-drawn, not, known-cut, gap, bound, of);
   transparent = λ column bit lc lb e.
       transparent-bit drawing band column bit lc lb true (ap (λ p. not (is_some p)) e);
   once = λ column bit entry lc lb e.
       let k : ℕ = 6 * column + bit in
       let at : k / 6 ≡ column = omega arith in
-      let rest : k % 6 ≡ bit = omega arith in
-      let here : entry_at drawing (k / 6) (6 * band + k % 6) ≡ Some entry =
-      ap (λ c. entry_at drawing c (6 * band + k % 6)) at
-      ∙ (ap (λ b. entry_at drawing column (6 * band + b)) rest ∙ e) in
-      let has : 1 ≤ tally (is_of column (Some entry)) (band_segments drawing band) =
-      subst
-      (λ (c : ℕ). 1 ≤ tally (is_of c (Some entry)) (band_segments drawing band))
-      at (of.whole k entry (omega arith) here) in
-      omega (
-        arith,
-        opaque-bit drawing band column bit entry lc lb e,
-        has,
-        tally-drawn (is_of column (Some entry)) drawing band,
-        few-cut gap (length drawing.colors) bound column entry (band_segments drawing band) of.cut,
-      );
+      grind (arith, nat_tests, tally-drawn, few-cut, opaque-bit, gap, bound, of);
 }
   where
     gap : ℕ
@@ -223,5 +168,4 @@ pub register_after-more : (drawing : Drawing) (band : ℕ)
     → register_after drawing (band + 1)
     ≡ band_register drawing band (register_after drawing band)
 unfolding register_after
-register_after-more drawing band =
-    let e : band + 1 ≡ suc band = omega arith in ap (register_after drawing) e
+register_after-more drawing band = grind (arith, nat_tests)

@@ -1,11 +1,12 @@
 -- How many segments pass a test, pass by pass.
 use Rattle.std.specs.Prelude.{Option, nat_le, nat_lt, ◌&&◌}
-use Rattle.std.proofs.Common.{Bool, List, [], arith, cond, false, length, not, refl}
-use Rattle.std.proofs.Common.{suc, true, zero, ℕ, ◌++◌, ◌+◌, ◌<◌, ◌∷◌, ◌≡◌}
+use Rattle.std.proofs.Common.{Bool, List, arith, cond, false, length, not, refl}
+use Rattle.std.proofs.Common.{suc, true, zero, ℕ, ◌++◌, ◌+◌, ◌<◌, ◌∷◌, ◌≡◌, []}
 use Rattle.sixel_encoder.specs.declared.segments.Segment.{Segment}
 use Rattle.sixel_encoder.specs.inside.Compact.{nth}
 use Rattle.sixel_encoder.specs.Segments.{after_pass, band_segments, drawn_segments, in_pass, passes}
 use Rattle.sixel_encoder.specs.Text.{Drawing, is_entry}
+use Rattle.std.proofs.lemmas.Bool.Decides.{nat_tests}
 
 -- whether a pixel in this column with this entry is one of the segment's
 abbrev pub is_of : ℕ → Option ℕ → Segment → Bool
@@ -48,8 +49,7 @@ tally-pass test column (segment ∷ segments) =
         + tally test
         (cond b (after_pass segment.end segments) (segment ∷ after_pass column segments))
         ≡ one (test segment) + tally test segments
-    go true taken left = omega (arith, taken)
-    go false taken left = omega (arith, left)
+    go b taken left = grind (arith, nat_tests)
 
 -- all passes have the segments
 pub tally-passes : (test : Segment → Bool) (n : ℕ) (segments : List Segment)
@@ -57,18 +57,12 @@ pub tally-passes : (test : Segment → Bool) (n : ℕ) (segments : List Segment)
 unfolding passes
 tally-passes test zero segments = refl
 tally-passes test (suc n) segments =
-    omega (
-      arith,
-      tally-append test (in_pass 0 segments) (passes n (after_pass 0 segments)),
-      tally-passes test n (after_pass 0 segments),
-      tally-pass test 0 segments,
-    )
+    grind (arith, nat_tests, tally-append, tally-pass, tally-passes test n (after_pass 0 segments))
 
 -- so have the segments in the order in which they are drawn
 pub tally-drawn : (test : Segment → Bool) (drawing : Drawing) (band : ℕ)
     → tally test (drawn_segments drawing band) ≡ tally test (band_segments drawing band)
-tally-drawn test drawing band =
-    tally-passes test (length (band_segments drawing band)) (band_segments drawing band)
+tally-drawn test drawing band = grind (arith, nat_tests, tally-passes)
 
 -- if none fails each passes
 pub each-tally : (test : Segment → Bool) (segments : List Segment)

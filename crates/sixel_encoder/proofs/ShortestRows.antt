@@ -1,21 +1,21 @@
 -- No list of tokens that spells a row takes fewer bytes than the row's own tokens.
-use Rattle.std.proofs.Common.{◌≡◌, ◌≢◌, ℕ, zero, suc, ◌+◌, ◌*◌, ◌<◌, ◌≤◌, true, false, cond, List}
-use Rattle.std.proofs.Common.{[], ◌∷◌, ◌++◌, length, replicate, refl, ap, sym, ◌∙◌, arith, inl, inr}
-use Rattle.std.proofs.Common.{length-append, append_assoc, ◌/◌, ◌%◌}
-use Rattle.std.specs.Prelude.{flat_map, All, decimal, nat_lt}
+use Rattle.std.proofs.Common.{◌≡◌, ◌≢◌, ℕ, zero, suc, ◌+◌, ◌*◌, ◌<◌, ◌≤◌, List}
+use Rattle.std.proofs.Common.{◌∷◌, ◌++◌, length, replicate, refl, ap, sym, ◌∙◌, arith, inl, inr}
+use Rattle.std.proofs.Common.{length-append, append_assoc, ◌/◌, ◌%◌, []}
+use Rattle.std.specs.Prelude.{flat_map, All}
 use Rattle.std.proofs.Math.Nat.{div-add-mod, mul_comm}
 use Rattle.std.proofs.lemmas.Bool.{cases_eq}
 use Rattle.std.proofs.lemmas.Bool.Decides.{nat_tests}
 use Rattle.std.proofs.lemmas.List.{append-nil, replicate-append-replicate, replicate_more}
 use Rattle.std.proofs.lemmas.List.Concat.{flat_map-append}
-use Rattle.std.proofs.lemmas.List.Elements.{All-head, All-tail, All-cons, All-nil, All-append}
-use Rattle.std.proofs.lemmas.List.Elements.{All-replicate, All-same}
+use Rattle.std.proofs.lemmas.List.Elements.{All-head, All-tail, All-append, All-same}
 use Rattle.sixel_base.specs.Limits.{repeat_limit}
 use Rattle.sixel_encoder.specs.RunTokens.{RunToken, One, Many, sixels, spelling, written}
 use Rattle.sixel_encoder.specs.RunTokens.{cost, IsRunToken, Spells, IsShortest, rest_tokens}
 use Rattle.sixel_encoder.specs.RunTokens.{run_tokens, tokens_after, row_tokens}
 use Rattle.sixel_encoder.proofs.RunCost.{run_cost, run_cut, run_least, run_cost0, run_cost1}
 use Rattle.sixel_encoder.proofs.RunCost.{cost-append, cost-run}
+use Rattle.std.proofs.lemmas.Grind.{common_steps}
 
 -- the bytes of the tokens of `n` equal sixels and a row
 abbrev pub left : ℕ → ℕ → List ℕ → ℕ
@@ -35,10 +35,7 @@ pub tokens_after-other : (n b c : ℕ) (row : List ℕ) → c ≢ b
 tokens_after-other n b c row e = grind (arith, nat_tests)
 
 pub left-other : (n b c : ℕ) (row : List ℕ) → c ≢ b → left n b (c ∷ row) ≡ run_cost n + left 1 c row
-left-other n b c row e =
-    ap cost (tokens_after-other n b c row e)
-    ∙ (cost-append (run_tokens n b) (tokens_after 1 c row)
-    ∙ ap (λ x. x + left 1 c row) (cost-run n b))
+left-other n b c row e = grind (arith, nat_tests, cost-append, cost-run, tokens_after-other)
 
 pub left-same : (n b c : ℕ) (row : List ℕ) → c ≡ b → left n b (c ∷ row) ≡ left (n + 1) b row
 left-same n b c row e = ap cost (tokens_after-same n b c row e)
@@ -48,15 +45,7 @@ pub left_cut : (m n b : ℕ) (row : List ℕ) → left (m + n) b row ≤ run_cos
 left_cut m n b [] = omega (arith, left-nil (m + n) b, left-nil n b, run_cut m n)
 left_cut m n b (c ∷ row) =
     elim (cases_eq c b) [
-      | inl e ↦
-          let shift : m + n + 1 ≡ m + (n + 1) = omega arith in
-          omega (
-            arith,
-            left-same (m + n) b c row e,
-            left-same n b c row e,
-            ap (λ x. left x b row) shift,
-            left_cut m (n + 1) b row,
-          )
+      | inl e ↦ grind (arith, nat_tests, left-same, left_cut m (n + 1) b row)
       | inr e ↦ omega (arith, left-other (m + n) b c row e, left-other n b c row e, run_cut m n)
     ]
 
@@ -66,19 +55,12 @@ left_any b c [] = omega (arith, left-nil 0 b, left-nil 0 c)
 left_any b c (x ∷ row) = first b ∙ sym (first c)
   where
     first : (d : ℕ) → left 0 d (x ∷ row) ≡ left 1 x row
-    first d =
-        elim (cases_eq x d) [
-          | inl e ↦ left-same 0 d x row e ∙ ap (λ y. left 1 y row) (sym e)
-          | inr e ↦ left-other 0 d x row e ∙ omega arith
-        ]
+    first d = grind (arith, nat_tests, left-same, left-other)
 
 -- equal sixels add to the run
 left_run : (k n b : ℕ) (row : List ℕ) → left n b (replicate k b ++ row) ≡ left (n + k) b row
 left_run zero n b row = ap (λ x. left x b row) (omega arith)
-left_run (suc k) n b row =
-    let shift : n + 1 + k ≡ n + suc k = omega arith in
-    left-same n b b (replicate k b ++ row) refl
-    ∙ (left_run k (n + 1) b row ∙ ap (λ x. left x b row) shift)
+left_run (suc k) n b row = grind (arith, nat_tests, left-same, left_run k (n + 1) b row)
 
 left_many : (n b : ℕ) (row : List ℕ) → left 0 0 (replicate n b ++ row) ≤ run_cost n + left 0 0 row
 left_many n b row =
@@ -97,9 +79,7 @@ left_token : (token : RunToken) (row : List ℕ) → IsRunToken token
     → left 0 0 (sixels token ++ row) ≤ length (spelling token) + left 0 0 row
 unfolding sixels
 left_token (One b) row is = omega (arith, left_many 1 b row, run_cost1)
-left_token (Many n b) row is =
-    omega
-    (arith, left_many n b row, run_least n is.0 is.1, length-append (decimal n) ((63 + b) ∷ []))
+left_token (Many n b) row is = grind (arith, nat_tests, run_least, length-append, left_many)
 
 left_tokens : (tokens : List RunToken) → All IsRunToken tokens
     → left 0 0 (flat_map sixels tokens) ≤ cost tokens
@@ -114,8 +94,7 @@ left_tokens (token ∷ tokens) all =
 
 -- the tokens of a row are a shortest spelling of it
 pub shortest : (row : List ℕ) → IsShortest (row_tokens row) row
-shortest row = λ others spells.
-    omega (arith, left_tokens others spells.each, ap (λ (r : List ℕ). left 0 0 r) spells.joined)
+shortest row = grind (arith, nat_tests, left_tokens)
 
 -- ---- and they spell it
 
@@ -124,9 +103,7 @@ sixels-replicate : (n k b : ℕ) → flat_map sixels (replicate n (Many k b)) �
 unfolding sixels
 sixels-replicate zero k b = let product : 0 ≡ 0 * k = omega arith in ap (λ x. replicate x b) product
 sixels-replicate (suc n) k b =
-    let product : k + n * k ≡ suc n * k = omega arith in
-    ap (λ r. replicate k b ++ r) (sixels-replicate n k b)
-    ∙ (replicate-append-replicate k (n * k) b ∙ ap (λ x. replicate x b) product)
+    grind (arith, nat_tests, replicate-append-replicate, sixels-replicate n k b)
 
 sixels-singly : (n b : ℕ) → flat_map sixels (replicate n (One b)) ≡ replicate n b
 unfolding sixels
@@ -135,12 +112,7 @@ sixels-singly (suc n) b = ap (λ r. b ∷ r) (sixels-singly n b)
 
 sixels-rest : (n b : ℕ) → flat_map sixels (rest_tokens n b) ≡ replicate n b
 unfolding sixels
-sixels-rest n b =
-    (elim (nat_lt 3 n) as
-    (λ t. flat_map sixels (cond t (Many n b ∷ []) (replicate n (One b))) ≡ replicate n b) [
-      | true ↦ append-nil (replicate n b)
-      | false ↦ sixels-singly n b
-    ])
+sixels-rest n b = grind (arith, nat_tests, append-nil, sixels-singly)
 
 -- the tokens of a run spell it, whatever the greatest count
 sixels-cut : (n k b : ℕ) → 0 < k
@@ -174,22 +146,8 @@ sixels-after n b (c ∷ row) =
           ∙ ap (λ r. replicate n b ++ r) (sixels-after 1 c row)))
     ]
 
-All-rest_tokens : (n b : ℕ) → n < repeat_limit → All IsRunToken (rest_tokens n b)
-All-rest_tokens n b h =
-    (elim (nat_lt 3 n) as
-    (λ t. nat_lt 3 n ≡ t → All IsRunToken (cond t (Many n b ∷ []) (replicate n (One b)))) [
-      | true ↦ λ is.
-          All-cons IsRunToken (Many n b) [] (grind (arith, nat_tests), omega arith)
-          (All-nil IsRunToken)
-      | false ↦ λ is. All-replicate IsRunToken n (One b) tt
-    ]) refl
-
 All-run : (n b : ℕ) → All IsRunToken (run_tokens n b)
-All-run n b =
-    All-append IsRunToken (replicate (n / repeat_limit) (Many repeat_limit b))
-    (rest_tokens (n % repeat_limit) b)
-    (All-replicate IsRunToken (n / repeat_limit) (Many repeat_limit b) (omega arith, omega arith))
-    (All-rest_tokens (n % repeat_limit) b (omega arith))
+All-run n b = grind (arith, common_steps, nat_tests)
 
 All-after : (n b : ℕ) (row : List ℕ) → All IsRunToken (tokens_after n b row)
 All-after n b [] = All-run n b

@@ -1,7 +1,7 @@
 -- The tokens of a text of marks are its history, and the text's front is the whole of it.
 use Rattle.std.specs.List.{list_all}
-use Rattle.std.specs.Prelude.{All, IsTrue, Some, decimal, flat_map, slice_index, slice_index_or}
-use Rattle.std.proofs.Common.{List, [], ap, arith, false, length, length-append, refl, replicate}
+use Rattle.std.specs.Prelude.{All, IsTrue, Some, flat_map, slice_index_or}
+use Rattle.std.proofs.Common.{List, ap, arith, false, length-append, refl, replicate, []}
 use Rattle.std.proofs.Common.{subst, suc, sym, true, zero, ℕ, ◌++◌, ◌+◌, ◌<◌, ◌∙◌, ◌∷◌, ◌≡◌, ◌≤◌}
 use Rattle.std.proofs.lemmas.Bool.Decides.{nat_tests}
 use Rattle.std.proofs.lemmas.Grind.{common_steps}
@@ -16,10 +16,7 @@ use Rattle.sixel_base.specs.History.{Repeat, Return, Sixel, Skip, Token, history
 use Rattle.sixel_base.specs.History.{spellings}
 use Rattle.sixel_base.specs.Settings.{pad_of}
 use Rattle.sixel_base.specs.declared.settings.PixelAspectRatio.{PixelAspectRatio}
-use Rattle.sixel_base.specs.declared.settings.PixelAspectRatio.TheVariants.{Ratio2To1, Ratio3To1}
-use Rattle.sixel_base.specs.declared.settings.PixelAspectRatio.TheVariants.{Ratio5To1, Square}
 use Rattle.sixel_base.proofs.Histories.{carries, history_unique}
-use Rattle.sixel_palette.specs.Refined.{percentage}
 use Rattle.sixel_encoder.specs.Marks.{AreAllowed, AreDefinitions, Back, Definition, Draw, Draws}
 use Rattle.sixel_encoder.specs.Marks.{IsAllowed, Mark, Next, Pen, Pick, first_pen, marks_payload}
 use Rattle.sixel_encoder.specs.Marks.{moved}
@@ -29,10 +26,9 @@ use Rattle.sixel_encoder.specs.Trip.{IsColor, IsWritable}
 use Rattle.sixel_encoder.proofs.Digits.{AreFields, all_digits-decimal, all_parameters-numbers}
 use Rattle.sixel_encoder.proofs.Digits.{numbers}
 use Rattle.sixel_encoder.proofs.ShortestRows.{spells}
-use Rattle.sixel_encoder.proofs.Tokens.{AreTokens-sixel, percentages, raster_of, sizes}
-use Rattle.sixel_encoder.proofs.Tokens.{spellings-tokens, token-more, tokens, with_definition}
-use Rattle.sixel_encoder.proofs.Tokens.{with_definitions, with_mark, with_marks, with_palette}
-use Rattle.sixel_encoder.proofs.Tokens.{with_run_token, with_run_tokens}
+use Rattle.sixel_encoder.proofs.Tokens.{percentages, raster_of, sizes, spellings-tokens, token-more}
+use Rattle.sixel_encoder.proofs.Tokens.{tokens, with_definition, with_definitions, with_mark}
+use Rattle.sixel_encoder.proofs.Tokens.{with_marks, with_palette, with_run_token, with_run_tokens}
 
 -- a run-length token of six bits whose count can be written
 abbrev pub IsSound : RunToken → Type 0
@@ -46,9 +42,7 @@ AreSound (token ∷ tokens) = IsSound token × AreSound tokens
 
 -- what holds of two lists joined holds of the second
 All-right : (P : ℕ → Type 0) (xs ys : List ℕ) → All P (xs ++ ys) → All P ys
-All-right P xs ys all = λ k d lt.
-    subst P (get_or-append-add xs ys k d)
-    (all (length xs + k) d (omega (arith, length-append xs ys)))
+All-right P xs ys all = grind (arith, nat_tests, get_or-append-add, length-append)
 
 -- what holds of a repeated element holds of the element
 All-repeated : (P : ℕ → Type 0) (n b : ℕ) (row : List ℕ) → 1 ≤ n → All P (replicate n b ++ row)
@@ -60,8 +54,7 @@ All-repeated P (suc n) b row some all = All-head P b (replicate n b ++ row) all
 sound-run_token : (token : RunToken) (row : List ℕ) → IsRunToken token
     → All (λ b. b < 64) (sixels token ++ row) → IsSound token
 unfolding sixels
-sound-run_token (One b) row is all = All-head (λ b. b < 64) b row all
-sound-run_token (Many n b) row is all = (All-repeated (λ b. b < 64) n b row is.0 all, is.0, is.1)
+sound-run_token token row is all = grind (arith, nat_tests, All-repeated)
 
 -- run-length tokens whose sixels have six bits each
 AreSound-spelled : (tokens : List RunToken) → All IsRunToken tokens
@@ -84,10 +77,7 @@ AreSound-row row all =
 -- a run-length token may follow any token
 AreTokens-run_token : (token : RunToken) (h : History) → IsSound token → AreTokens h
     → AreTokens (with_run_token token h)
-AreTokens-run_token (One bits) h is are = AreTokens-sixel bits h is are
-AreTokens-run_token (Many count bits) h is are =
-    AreTokens-sixel bits (Repeat (decimal count) ∷ h) is.0
-    (token-more (Repeat (decimal count)) h (all_digits-decimal count (omega arith)) refl are)
+AreTokens-run_token token h is are = grind (arith, nat_tests, token-more, all_digits-decimal)
 
 -- so may run-length tokens
 AreTokens-run_tokens : (tokens : List RunToken) (h : History) → AreSound tokens → AreTokens h
@@ -115,26 +105,9 @@ AreTokens-marks drawing pen (mark ∷ marks) h is are =
     AreTokens-marks drawing (moved pen mark) marks (with_mark mark h) is.1
     (AreTokens-mark drawing pen mark h is.0 are)
 
--- a byte is at most 100 percent
-percent-byte : (c : ℕ) → c < 256 → percentage c ≤ 100
-percent-byte c h = omega arith
-
--- a channel of a color is a byte
-channel-small : (color : List ℕ) (k : ℕ) → IsColor color → k < 3 → slice_index color k < 256
-channel-small color k is h = is.bytes k 0 (omega (arith, is.channels))
-
 -- the percentages of a color fit fields
 pub AreFields-percentages : (color : List ℕ) → IsColor color → AreFields (percentages color)
-AreFields-percentages color is = (
-  omega arith,
-  (
-    omega (arith, percent-byte _ (channel-small color 0 is (omega arith))),
-    (
-      omega (arith, percent-byte _ (channel-small color 1 is (omega arith))),
-      (omega (arith, percent-byte _ (channel-small color 2 is (omega arith))), tt),
-    ),
-  ),
-)
+AreFields-percentages color is = grind (arith, nat_tests)
 
 -- definitions may follow any token
 AreTokens-definitions : (drawing : Drawing) (definitions : List Definition) (h : History)
@@ -143,7 +116,6 @@ AreTokens-definitions : (drawing : Drawing) (definitions : List Definition) (h :
 AreTokens-definitions drawing [] h is known are = are
 AreTokens-definitions drawing (definition ∷ definitions) h is known are =
     let color : List ℕ = slice_index_or drawing.colors definition.entry [] in
-    let small : definition.register < 256 = known.0.0 in
     AreTokens-definitions drawing definitions (with_definition drawing definition h) is known.1
     (token-more (Color (numbers definition.register (percentages color))) h
     (all_parameters-numbers definition.register (percentages color) (omega arith)
@@ -151,10 +123,7 @@ AreTokens-definitions drawing (definition ∷ definitions) h is known are =
 
 -- a pixel's height has one digit
 pub pad-small : (ratio : PixelAspectRatio) → pad_of ratio ≤ 5
-pad-small Ratio5To1 = omega arith
-pad-small Ratio3To1 = omega arith
-pad-small Ratio2To1 = omega arith
-pad-small Square = omega arith
+pad-small ratio = grind (arith, nat_tests)
 
 -- the sizes fit fields
 pub AreFields-sizes : (drawing : Drawing) → IsWritable drawing → AreFields (sizes drawing)
@@ -177,18 +146,14 @@ AreTokens-tokens drawing definitions marks is draws =
 carries-parameters : (t : List ℕ) → IsTrue (list_all is_parameter t) → IsTrue (list_all carries t)
 carries-parameters [] all = refl
 carries-parameters (b ∷ t) all =
-    let first : is_parameter b ≡ true = grind (arith, common_steps) in
     let rest : IsTrue (list_all is_parameter t) = grind (arith, common_steps) in
-    let here : carries b ≡ true = grind (arith, nat_tests) in
     grind (arith, common_steps, carries-parameters t rest)
 
 -- so do digits
 carries-digits : (t : List ℕ) → IsTrue (list_all is_digit t) → IsTrue (list_all carries t)
 carries-digits [] all = refl
 carries-digits (b ∷ t) all =
-    let first : is_digit b ≡ true = grind (arith, common_steps) in
     let rest : IsTrue (list_all is_digit t) = grind (arith, common_steps) in
-    let here : carries b ≡ true = grind (arith, nat_tests) in
     grind (arith, common_steps, carries-digits t rest)
 
 -- so does a list of one byte that does
@@ -222,8 +187,7 @@ carries-joined a b ha hb = grind (arith, common_steps)
 carries-spellings : (h : History) → AreTokens h → IsTrue (list_all carries (spellings h))
 carries-spellings [] are = refl
 carries-spellings (token ∷ older) are =
-    carries-joined (spellings older) (spelling token) (carries-spellings older are.2)
-    (carries-token token are.0)
+    grind (arith, nat_tests, carries-joined, carries-token, carries-spellings older are.2)
 
 -- what carries meaning goes on up to the terminator
 pub before_terminator-carrying : (bytes rest : List ℕ) → IsTrue (list_all carries bytes)
@@ -275,8 +239,7 @@ carries-payload drawing definitions marks is draws =
 -- bytes that carry meaning are their own front, up to the terminator
 pub front-carrying : (bytes rest : List ℕ) → IsTrue (list_all carries bytes)
     → front (bytes ++ 27 ∷ rest) ≡ bytes
-front-carrying bytes rest all =
-    ap carrying (before_terminator-carrying bytes rest all) ∙ carrying-all bytes all
+front-carrying bytes rest all = grind (arith, nat_tests, before_terminator-carrying, carrying-all)
 
 -- the history of the payload is its tokens
 pub payload-read :
@@ -286,9 +249,7 @@ pub payload-read :
     ≡ tokens drawing definitions marks
 payload-read drawing definitions marks rest is draws =
     let payload : List ℕ = marks_payload drawing definitions marks in
-    let whole : IsHistory payload (tokens drawing definitions marks) = (
-      spellings-tokens drawing definitions marks,
-      AreTokens-tokens drawing definitions marks is draws,
-    ) in
+    let whole : IsHistory payload (tokens drawing definitions marks) =
+    grind (arith, nat_tests, spellings-tokens, AreTokens-tokens) in
     ap history_of (front-carrying payload rest (carries-payload drawing definitions marks is draws))
     ∙ sym (history_unique payload (tokens drawing definitions marks) whole)

@@ -1,35 +1,23 @@
 -- A text up to some band is no longer than the whole text.
-use Rattle.std.proofs.Common.{List, ap, arith, length, length-append, ℕ, ◌++◌, ◌+◌}
-use Rattle.std.proofs.Common.{refl, ◌-◌, ◌∙◌, ◌∷◌, ◌≡◌, ◌≤◌}
+use Rattle.std.proofs.Common.{List, arith, length, length-append, ℕ, ◌++◌, ◌+◌}
+use Rattle.std.proofs.Common.{refl, ◌-◌, ◌∷◌, ◌≡◌, ◌≤◌}
 use Rattle.std.specs.Prelude.{codes}
 use Rattle.sixel_base.specs.Picture.{joined}
 use Rattle.sixel_encoder.specs.Text.{Drawing, band_text, bands, bands_text, palette_text}
 use Rattle.sixel_encoder.specs.Text.{parameters_text, raster_text, text_of}
 use Rattle.sixel_encoder.proofs.JoinedLists.{joined-add, joined-more}
+use Rattle.std.proofs.lemmas.Bool.Decides.{nat_tests}
 
 -- the first n lists are no longer than more of them
 length-joined : (f : ℕ → List ℕ) (n m : ℕ) → n ≤ m → length (joined f n) ≤ length (joined f m)
 length-joined f n m l =
     let e : m ≡ n + (m - n) = omega arith in
-    omega (
-      arith,
-      ap (λ x. length (joined f x)) e,
-      ap length (joined-add f n (m - n)),
-      length-append (joined f n) (joined (λ k. f (n + k)) (m - n)),
-    )
+    grind (arith, nat_tests, joined-add, length-append)
 
 -- a list of three parts is no shorter than a shorter second part makes it
 length-parts : (head part whole tail : List ℕ) (limit : ℕ) → length part ≤ length whole
     → limit ≤ length (head ++ part) → limit ≤ length (head ++ whole ++ tail)
-length-parts head part whole tail limit l long =
-    omega (
-      arith,
-      length-append head part,
-      length-append head whole,
-      length-append (head ++ whole) tail,
-      l,
-      long,
-    )
+length-parts head part whole tail limit l long = grind (arith, nat_tests, length-append)
 
 -- where the text so far reaches a limit the whole text does, too
 pub length-stopped : (drawing : Drawing) (band limit : ℕ) (begun text : List ℕ)
@@ -47,11 +35,7 @@ pub text-joined : (drawing : Drawing) (band : ℕ) (begun text whole : List ℕ)
     → begun ≡ parameters_text drawing ++ raster_text drawing ++ palette_text drawing
     → text ≡ begun ++ joined (band_text drawing) band → band ≡ bands drawing.height
     → whole ≡ text ++ 27 ∷ codes "\\" → whole ≡ text_of drawing
-text-joined drawing band begun text whole is more all end =
-    end
-    ∙ ap (λ t. t ++ 27 ∷ codes "\\")
-    (more
-    ∙ (ap (λ n. begun ++ joined (band_text drawing) n) all ∙ ap (λ b. b ++ bands_text drawing) is))
+text-joined drawing band begun text whole is more all end = grind (arith, nat_tests)
 
 -- the bands up to some band are no longer than the whole text
 pub length-bands : (drawing : Drawing) (band : ℕ) → band ≤ bands drawing.height
@@ -73,11 +57,4 @@ pub length-band : (drawing : Drawing) (band old least new : ℕ)
     → old ≤ length (joined (band_text drawing) band) → least ≤ length (band_text drawing band)
     → new ≤ old + least → new ≤ length (joined (band_text drawing) (band + 1))
 length-band drawing band old least new low more le =
-    omega (
-      arith,
-      low,
-      more,
-      le,
-      ap length (joined-more (band_text drawing) band),
-      length-append (joined (band_text drawing) band) (band_text drawing band),
-    )
+    grind (arith, nat_tests, joined-more, length-append)

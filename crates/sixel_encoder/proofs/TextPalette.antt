@@ -1,19 +1,15 @@
 -- What the definitions of a text leave: in each register the color of the last entry that was
 -- defined in it, rounded.
-use Rattle.std.specs.Prelude.{None, Option, Some, nat_le, slice_index, slice_index_or, slice_set}
-use Rattle.std.specs.Prelude.{◌&&◌, ◌==◌, ◌||◌}
-use Rattle.std.proofs.Common.{Bool, List, [], ap, arith, cond, false, get_or, inl, inr, length, map}
-use Rattle.std.proofs.Common.{min, nat_lt, refl, sym, true, ℕ, ◌*◌, ◌<◌, ◌∙◌, ◌∷◌, ◌≡◌, ◌≢◌}
-use Rattle.std.proofs.lemmas.Bool.{cases_eq}
+use Rattle.std.specs.Prelude.{None, Option, Some, slice_index_or, slice_set, ◌==◌}
+use Rattle.std.proofs.Common.{List, arith, cond, length, map}
+use Rattle.std.proofs.Common.{nat_lt, refl, ℕ, ◌*◌, ◌<◌, ◌∙◌, ◌∷◌, ◌≡◌, []}
 use Rattle.std.proofs.lemmas.Bool.Decides.{nat_tests}
 use Rattle.std.proofs.lemmas.List.{get_or-set_other, get_or-set_same, length-set}
-use Rattle.sixel_base.specs.Color.{hls, rgb}
 use Rattle.sixel_base.specs.Fields.{fields}
 use Rattle.sixel_base.specs.History.{History}
 use Rattle.sixel_base.specs.Limits.{whole_limit}
 use Rattle.sixel_base.specs.Place.{across, down, height, raster_height, span}
 use Rattle.sixel_base.specs.Stroke.{Origin, background, pixel, ratio, registers}
-use Rattle.sixel_palette.specs.Refined.{percentage}
 use Rattle.sixel_encoder.specs.Marks.{AreDefinitions, Definition, IsDefinition, first_pen}
 use Rattle.sixel_encoder.specs.Marks.{register_entry}
 use Rattle.sixel_encoder.specs.Text.{Drawing, bands}
@@ -26,22 +22,13 @@ use Rattle.sixel_encoder.proofs.Tokens.{percentages, raster_of, with_definition,
 use Rattle.sixel_encoder.proofs.Tokens.{with_palette}
 use Rattle.sixel_encoder.proofs.RasterAttributes.{raster-field3, raster-height, raster-shape}
 use Rattle.sixel_encoder.proofs.RasterAttributes.{Fits-raster}
+use Rattle.std.proofs.lemmas.Grind.{common_steps}
 
 -- the fields of a definition
 defines : (entry : ℕ) (color : List ℕ) → entry < 256 → IsColor color
     → fields (numbers entry (percentages color)) ≡ entry ∷ percentages color
 defines entry color small is =
     fields-numbers entry (percentages color) (omega arith) (AreFields-percentages color is)
-
--- three channels, rounded
-rgb-rounded : (color : List ℕ) → length color ≡ 3
-    → rgb (percentage (slice_index color 0)) (percentage (slice_index color 1))
-    (percentage (slice_index color 2)) ≡ map rounded color
-rgb-rounded [] three = absurd (omega arith)
-rgb-rounded (a ∷ []) three = absurd (omega arith)
-rgb-rounded (a ∷ b ∷ []) three = absurd (omega arith)
-rgb-rounded (a ∷ b ∷ c ∷ []) three = refl
-rgb-rounded (a ∷ b ∷ c ∷ d ∷ ds) three = absurd (omega arith)
 
 -- the color of an entry after a round trip
 abbrev rounded_color : Drawing → ℕ → List ℕ
@@ -54,24 +41,7 @@ registers-definition :
     → registers start (with_definition drawing definition h)
     ≡ slice_set (registers start h) definition.register (rounded_color drawing definition.entry)
 registers-definition start drawing definition h is known =
-    let color : List ℕ = slice_index_or drawing.colors definition.entry [] in
-    let small : definition.register < 256 = known.0 in
-    let right : IsColor color = is.colors definition.entry [] known.1 in
-    let named : List ℕ → ℕ = λ ns. min (get_or ns 0 0) 255 in
-    let value : List ℕ → List ℕ = λ ns.
-    cond (get_or ns 1 0 == 1) (hls (get_or ns 2 0) (get_or ns 3 0) (get_or ns 4 0))
-    (rgb (get_or ns 2 0) (get_or ns 3 0) (get_or ns 4 0)) in
-    let test : List ℕ → Bool = λ ns.
-    nat_le 5 (length ns) && (get_or ns 1 0 == 1 || get_or ns 1 0 == 2) in
-    ap
-    (λ ns. cond (test ns) (slice_set (registers start h) (named ns) (value ns)) (registers start h))
-    (defines definition.register color small right)
-    ∙ (ap
-    (λ n.
-    slice_set (registers start h) n (rgb (percentage (slice_index color 0))
-    (percentage (slice_index color 1)) (percentage (slice_index color 2))))
-    (omega arith)
-    ∙ ap (slice_set (registers start h) definition.register) (rgb-rounded color right.channels))
+    grind (arith, nat_tests, defines, common_steps)
 
 -- a register that was defined has the color of its entry
 abbrev HasColor : Drawing → List (List ℕ) → Option ℕ → ℕ → Type 0
@@ -87,44 +57,7 @@ HasColor-definition : (start : List (List ℕ)) (drawing : Drawing) (definition 
     → HasColor drawing (registers start (with_definition drawing definition h))
     (cond (definition.register == register) (Some definition.entry) before) register
 HasColor-definition start drawing definition h before register is known size was =
-    let set = registers-definition start drawing definition h is known in
-    let small : definition.register < 256 = known.0 in
-    elim (cases_eq definition.register register) [
-      | inl same ↦ hit set small same
-      | inr apart ↦ other set apart before was
-    ]
-  where
-    hit : registers start (with_definition drawing definition h)
-        ≡ slice_set (registers start h) definition.register (rounded_color drawing definition.entry)
-        → definition.register < 256 → definition.register ≡ register
-        → HasColor drawing (registers start (with_definition drawing definition h))
-        (cond (definition.register == register) (Some definition.entry) before) register
-    hit set small same =
-        let test : definition.register == register ≡ true = grind (arith, nat_tests) in
-        rw test
-        (ap (λ rs. slice_index_or rs register []) set
-        ∙ (ap
-        (λ n.
-        slice_index_or (slice_set (registers start h) n (rounded_color drawing definition.entry))
-        register [])
-        same
-        ∙ get_or-set_same (registers start h) register (rounded_color drawing definition.entry) []
-        (omega arith)))
-
-    other : registers start (with_definition drawing definition h)
-        ≡ slice_set (registers start h) definition.register (rounded_color drawing definition.entry)
-        → definition.register ≢ register → (place : Option ℕ)
-        → HasColor drawing (registers start h) place register
-        → HasColor drawing (registers start (with_definition drawing definition h))
-        (cond (definition.register == register) (Some definition.entry) place) register
-    other set apart None was =
-        let test : definition.register == register ≡ false = grind (arith, nat_tests) in rw test tt
-    other set apart (Some entry) was =
-        let test : definition.register == register ≡ false = grind (arith, nat_tests) in
-        rw test
-        (ap (λ rs. slice_index_or rs register []) set
-        ∙ (get_or-set_other (registers start h) definition.register register _ []
-        (λ e. apart (sym e)) ∙ was))
+    grind (arith, nat_tests, get_or-set_same, get_or-set_other, registers-definition)
 
 -- a definition keeps the number of registers
 length-definition :
@@ -132,8 +65,7 @@ length-definition :
     → IsWritable drawing → IsDefinition drawing definition
     → length (registers start (with_definition drawing definition h)) ≡ length (registers start h)
 length-definition start drawing definition h is known =
-    ap length (registers-definition start drawing definition h is known)
-    ∙ length-set (registers start h) definition.register _
+    grind (arith, nat_tests, length-set, registers-definition)
 
 -- after definitions a register has the color of its entry
 HasColor-definitions : (start : List (List ℕ)) (drawing : Drawing) (definitions : List Definition)
@@ -165,9 +97,7 @@ register-palette start drawing definitions register entry is known size e =
         → HasColor drawing (registers start (with_palette drawing definitions)) place register
         → slice_index_or (registers start (with_palette drawing definitions)) register []
         ≡ rounded_color drawing entry
-    go None e holds = absurd cc
-    go (Some other) e holds =
-        let same : other ≡ entry = cc in holds ∙ ap (rounded_color drawing) same
+    go place e holds = grind (arith, nat_tests)
 
 -- what no definition changes is as the raster attributes left it
 undefined :

@@ -1,7 +1,6 @@
 -- What the tokens of a text show: each pixel in the register that it was last drawn in.
 use Rattle.std.specs.Prelude.{None, Option, Some, is_some, slice_index_or}
-use Rattle.std.proofs.Common.{Bool, List, [], ap, cond, false, refl, true, ℕ, ◌*◌, ◌++◌, ◌∙◌, ◌∷◌}
-use Rattle.std.proofs.Common.{◌≡◌}
+use Rattle.std.proofs.Common.{Bool, List, ap, cond, true, ℕ, ◌*◌, ◌++◌, ◌∙◌, ◌∷◌, ◌≡◌, arith, []}
 use Rattle.sixel_base.specs.History.{History}
 use Rattle.sixel_base.specs.Place.{down}
 use Rattle.sixel_base.specs.Stroke.{Origin, color, pixel, selected}
@@ -12,6 +11,7 @@ use Rattle.sixel_encoder.specs.Trip.{IsWritable}
 use Rattle.sixel_encoder.proofs.PenSteps.{Follows, Follows-mark}
 use Rattle.sixel_encoder.proofs.RowSteps.{Moved-row}
 use Rattle.sixel_encoder.proofs.Tokens.{with_mark, with_marks}
+use Rattle.std.proofs.lemmas.Bool.Decides.{nat_tests}
 
 -- the color of a pixel in this register of the palette, or the color that it had before
 abbrev pub color_in : List (List ℕ) → List ℕ → Option ℕ → List ℕ
@@ -22,22 +22,14 @@ color_in palette before (Some register) = slice_index_or palette register [] ++ 
 color_in-cond : (palette : List (List ℕ)) (base : List ℕ) (b : Bool) (x y : Option ℕ)
     → cond b (color_in palette base x) (color_in palette base y)
     ≡ color_in palette base (cond b x y)
-color_in-cond palette base true x y = refl
-color_in-cond palette base false x y = refl
+color_in-cond palette base b x y = grind (arith, nat_tests)
 
 -- the pen's register has the color that the decoder draws in
 color_in-selected : (drawing : Drawing) (origin : Origin) (palette : List (List ℕ)) (base : List ℕ)
     (pen : Pen) (h : History) → Follows drawing origin.registers palette pen h
     → is_some pen.register ≡ true
     → color origin.registers h ++ 255 ∷ [] ≡ color_in palette base pen.register
-color_in-selected drawing origin palette base pen h follows some = go pen.register refl some
-  where
-    go : (place : Option ℕ) → pen.register ≡ place → is_some place ≡ true
-        → color origin.registers h ++ 255 ∷ [] ≡ color_in palette base place
-    go None e is = absurd cc
-    go (Some register) e is =
-        ap (λ rs. slice_index_or rs (selected h) [] ++ 255 ∷ []) follows.defined
-        ∙ ap (λ n. slice_index_or palette n [] ++ 255 ∷ []) (follows.named register e)
+color_in-selected drawing origin palette base pen h follows some = grind (arith, nat_tests)
 
 -- a mark sets the pixels of its row
 pixel-mark : (drawing : Drawing) (origin : Origin) (palette : List (List ℕ)) (base : List ℕ)

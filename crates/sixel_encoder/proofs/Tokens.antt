@@ -1,44 +1,30 @@
 -- The tokens of definitions and marks, newest first, and that they spell the text.
 use Rattle.std.specs.Prelude.{decimal, slice_index, slice_index_or}
-use Rattle.std.proofs.Common.{List, [], ap, append_assoc, arith, false, refl, sym, ℕ, ◌++◌, ◌+◌}
-use Rattle.std.proofs.Common.{◌<◌, ◌∙◌, ◌∷◌, ◌≡◌}
+use Rattle.std.proofs.Common.{List, ap, append_assoc, arith, false, refl, sym, ℕ, ◌++◌, ◌+◌}
+use Rattle.std.proofs.Common.{◌∙◌, ◌∷◌, ◌≡◌, []}
 use Rattle.std.proofs.lemmas.Bool.Decides.{nat_tests}
 use Rattle.std.proofs.lemmas.Fmt.{decimal_digit}
 use Rattle.std.proofs.lemmas.List.{append-nil}
 use Rattle.sixel_base.specs.Bytes.{count, is_parameter}
 use Rattle.sixel_base.specs.History.{AreTokens, Color, History, IsToken, Newline, Raster, Repeat}
-use Rattle.sixel_base.specs.History.{Return, Sixel, Skip, Token, goes_on, spellings, start}
+use Rattle.sixel_base.specs.History.{Return, Sixel, Token, goes_on, spellings, start}
 use Rattle.sixel_base.specs.Settings.{pad_of}
 use Rattle.sixel_palette.specs.Refined.{percentage}
 use Rattle.sixel_encoder.specs.Marks.{Back, Definition, Draw, Mark, Next, Pick, definitions_text}
 use Rattle.sixel_encoder.specs.Marks.{mark_text, marks_payload, marks_text, register_definition}
 use Rattle.sixel_encoder.specs.RunTokens.{Many, One, RunToken, row_tokens}
-use Rattle.sixel_encoder.specs.RunTokens.{spelling as run_token_spelling, written}
-use Rattle.sixel_encoder.specs.Text.{Drawing, color_definition, raster_text}
+use Rattle.sixel_encoder.specs.RunTokens.{written, spelling as run_token_spelling}
+use Rattle.sixel_encoder.specs.Text.{Drawing, color_definition}
 use Rattle.sixel_encoder.proofs.Digits.{numbers}
 
 -- a byte that no text takes begins a token after any
 goes_on-apart : (h : History) (byte : ℕ) → is_parameter byte ≡ false → goes_on h byte ≡ false
-goes_on-apart [] byte apart = refl
-goes_on-apart (Sixel _ ∷ older) byte apart = refl
-goes_on-apart (Repeat t ∷ older) byte apart = grind (arith, nat_tests)
-goes_on-apart (Raster t ∷ older) byte apart = apart
-goes_on-apart (Color t ∷ older) byte apart = apart
-goes_on-apart (Return ∷ older) byte apart = refl
-goes_on-apart (Newline ∷ older) byte apart = refl
-goes_on-apart (Skip _ ∷ older) byte apart = refl
+goes_on-apart h byte apart = grind (arith, nat_tests)
 
 -- a token whose first byte no text takes may follow any
 pub token-more : (token : Token) (h : History) → IsToken token → is_parameter (start token) ≡ false
     → AreTokens h → AreTokens (token ∷ h)
 token-more token h is apart are = (is, goes_on-apart h (start token) apart, are)
-
--- a sixel may follow any token
-pub AreTokens-sixel : (bits : ℕ) (h : History) → bits < 64 → AreTokens h
-    → AreTokens (Sixel bits ∷ h)
-AreTokens-sixel bits h small are =
-    let apart : is_parameter (63 + bits) ≡ false = grind (arith, nat_tests) in
-    token-more (Sixel bits) h small apart are
 
 -- ---- the tokens
 
@@ -120,10 +106,7 @@ spellings-run_tokens (token ∷ tokens) h =
 -- a mark appends its text
 spellings-mark : (mark : Mark) (h : History)
     → spellings (with_mark mark h) ≡ spellings h ++ mark_text mark
-spellings-mark (Pick register) h = refl
-spellings-mark (Draw row) h = spellings-run_tokens (row_tokens row) h
-spellings-mark Back h = refl
-spellings-mark Next h = refl
+spellings-mark mark h = grind (arith, nat_tests, spellings-run_tokens)
 
 -- marks append theirs
 spellings-marks : (marks : List Mark) (h : History)
@@ -143,16 +126,7 @@ definition-joined e r g b = simp append_assoc
 -- a definition is spelled as it is written
 spelling-definition : (entry : ℕ) (color : List ℕ)
     → 35 ∷ numbers entry (percentages color) ≡ color_definition entry color
-spelling-definition entry color =
-    ap (λ two.
-    35
-    ∷ (decimal entry ++ 59
-    ∷ (two ++ 59
-    ∷ numbers (percentage (slice_index color 0))
-    (percentage (slice_index color 1) ∷ percentage (slice_index color 2) ∷ []))))
-    (decimal_digit 2 (omega arith))
-    ∙ definition-joined (decimal entry) (decimal (percentage (slice_index color 0)))
-    (decimal (percentage (slice_index color 1))) (decimal (percentage (slice_index color 2)))
+spelling-definition entry color = grind (arith, nat_tests, decimal_digit, definition-joined)
 
 -- definitions append their text
 spellings-definitions : (drawing : Drawing) (definitions : List Definition) (h : History)
@@ -173,23 +147,8 @@ raster-joined : (p w h : List ℕ)
     ≡ (34 ∷ []) ++ p ++ (59 ∷ 49 ∷ 59 ∷ []) ++ w ++ (59 ∷ []) ++ h
 raster-joined p w h = simp append_assoc
 
--- the raster attributes are spelled as they are written
-spelling-raster : (drawing : Drawing)
-    → 34 ∷ numbers (pad_of drawing.aspect_ratio) (sizes drawing) ≡ raster_text drawing
-spelling-raster drawing =
-    ap (λ one.
-    34
-    ∷ (decimal (pad_of drawing.aspect_ratio) ++ 59
-    ∷ (one ++ 59 ∷ numbers drawing.width (drawing.height ∷ []))))
-    (decimal_digit 1 (omega arith))
-    ∙ raster-joined (decimal (pad_of drawing.aspect_ratio)) (decimal drawing.width)
-    (decimal drawing.height)
-
 -- the tokens spell the payload
 pub spellings-tokens : (drawing : Drawing) (definitions : List Definition) (marks : List Mark)
     → spellings (tokens drawing definitions marks) ≡ marks_payload drawing definitions marks
 spellings-tokens drawing definitions marks =
-    spellings-marks marks (with_palette drawing definitions)
-    ∙ ap (λ s. s ++ marks_text marks) (spellings-definitions drawing definitions
-    (raster_of drawing ∷ [])
-    ∙ ap (λ s. s ++ definitions_text drawing definitions) (spelling-raster drawing))
+    grind (arith, nat_tests, spellings-marks, spellings-definitions, decimal_digit, raster-joined)

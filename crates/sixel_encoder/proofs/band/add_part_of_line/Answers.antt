@@ -11,6 +11,7 @@ use Rattle.sixel_encoder.proofs.band.add_part_of_line.Goals.{
   else-has_row-via-then-has_row+else-is_opaque,
 }
 use Rattle.sixel_encoder.proofs.band.add_part_of_line.Goals.{else-has_row-via-else-has_row}
+use Rattle.std.proofs.lemmas.Bool.Decides.{nat_tests}
 
 pub columns-preserved : goal.columns-preserved
 columns-preserved c =
@@ -62,7 +63,6 @@ columns-preserved c =
       | else-has_row w ↦ record {
         cells = λ e x le lx.
             let count : e < length used = omega (arith, c.if-has_row.auto.used) in
-            let same = ap (λ r. cell r width e x) w.rows-is in
             let none : bit e column ≡ 0 = elim w.else-has_row.branch [
               | else-has_row-via-then-has_row+else-is_opaque v ↦
                   pixel_bit-transparent pixels indices weight (first + e) pixel
@@ -72,10 +72,7 @@ columns-preserved c =
                   (λ is. absurd (c.has_row.ensures.outside v.if-has_row.false e count
                   (c.from-entry.ensures ∙ is)))
             ] in
-            column-more (bit e) (cell c.args.rows.now width e x) (cell rows width e x)
-            (cell c.if-has_row.rows width e x) column others x
-            (c.columns.invariant.cells e x count lx) (λ _. same) (λ _. omega (arith, same, none))
-            (after e x count lx);
+            grind (arith, nat_tests, column-more, c.columns.invariant.cells);
         marks = AreMarks-same w.rows-is w.used-is c.columns.invariant.marks;
       }
     ]

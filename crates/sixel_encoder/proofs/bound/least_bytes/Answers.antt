@@ -6,6 +6,7 @@ use Rattle.sixel_encoder.proofs.bound.least_bytes.Goals as goal
 use Rattle.sixel_encoder.proofs.bound.least_bytes.Goals.{else-left-right, else-not-is_repeated}
 use Rattle.sixel_encoder.proofs.bound.least_bytes.Goals.{then-left-right}
 use Rattle.sixel_encoder.proofs.bound.least_bytes.Goals.{then-not-is_repeated+else-loop-bit-test}
+use Rattle.std.proofs.lemmas.Bool.Decides.{nat_tests}
 
 pub loop-column-init : goal.loop-column-init
 loop-column-init c = record {
@@ -17,13 +18,7 @@ loop-column-init c = record {
 }
 
 pub end-requires-clause-lane : goal.end-requires-clause-lane
-end-requires-clause-lane c =
-    let entries = c.args.entries.now in
-    let column = c.loop-column.column in
-    let lc : column < entries.image.now.width =
-    omega (arith, c.loop-column-test.true, c.loop-column.auto.column-end) in
-    lane-most entries (column - 1) c.loop-bit.bit c.lane-left.result c.requires (omega (arith, lc))
-    c.lane-left.ensures
+end-requires-clause-lane c = grind (arith, nat_tests, lane-most, c.requires, c.lane-left.ensures)
 
 pub end-requires-then-left-right-clause-lane : goal.end-requires-then-left-right-clause-lane
 end-requires-then-left-right-clause-lane c =

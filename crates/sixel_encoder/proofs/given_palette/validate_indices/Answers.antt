@@ -1,12 +1,12 @@
-use Rattle.std.proofs.Common.{◌≡◌, ◌+◌, false, cond, length, refl, ap, sym, subst, ◌∙◌, arith}
-use Rattle.std.specs.Prelude.{All, Bool, Err, None, Ok, Some}
+use Rattle.std.proofs.Common.{◌≡◌, ◌+◌, false, length, ap, ◌∙◌, arith}
+use Rattle.std.specs.Prelude.{All}
 use Rattle.std.specs.List.{range_with_len}
 use Rattle.std.proofs.lemmas.List.Folds.{list_any_none}
 use Rattle.std.proofs.lemmas.List.FromFn.{get_or-range_with_len, length-range_with_len}
-use Rattle.sixel_base.specs.CallFault.{IndexRange, IsVerdict}
 use Rattle.sixel_encoder.specs.IndexedDrawing.{is_past}
 use Rattle.sixel_encoder.proofs.IndexedText.{list_any-past}
 use Rattle.sixel_encoder.proofs.given_palette.validate_indices.Goals as goal
+use Rattle.std.proofs.lemmas.Bool.Decides.{nat_tests}
 
 pub returns-then-from-colors : goal.returns-then-from-colors
 returns-then-from-colors c =
@@ -14,8 +14,7 @@ returns-then-from-colors c =
     list_any-past c.args.pixels.now c.args.indices.now c.args.colors c.loop-pixel.pixel
     (omega arith) (c.is_opaque.ensures.opaque c.if-is_opaque.true)
     (omega (arith, c.if-from-colors.true, c.from.ensures)) in
-    subst (λ (b : Bool). IsVerdict (cond b (Some IndexRange) None) (Err c.index_range.result))
-    (sym found) c.index_range.ensures
+    grind (arith, nat_tests, c.index_range.ensures)
 
 pub returns : goal.returns
 returns c =
@@ -27,5 +26,4 @@ returns c =
     let zero : 0 + k ≡ k = omega arith in
     ap past (get_or-range_with_len 0 count k d (omega arith) ∙ zero)
     ∙ c.loop-pixel.invariant k (omega arith) in
-    subst (λ (b : Bool). IsVerdict (cond b (Some IndexRange) None) (Ok tt))
-    (sym (list_any_none past (range_with_len 0 count) each)) refl
+    grind (arith, nat_tests, list_any_none)

@@ -1,10 +1,11 @@
-use Rattle.std.proofs.Common.{◌≡◌, ◌+◌, ◌-◌, ◌*◌, ◌<◌, ◌≤◌, length, get_or, ap, sym, ◌∙◌, arith}
+use Rattle.std.proofs.Common.{◌≡◌, ◌+◌, ◌-◌, ◌*◌, ◌<◌, length, get_or, ap, sym, ◌∙◌, arith}
 use Rattle.std.specs.Prelude.{None}
 use Rattle.sixel_encoder.specs.inside.Indexed.{entries_of}
 use Rattle.sixel_encoder.proofs.IndexedDrawing.{get_or-entries}
 use Rattle.sixel_encoder.proofs.Masks.{length-entries}
 use Rattle.sixel_encoder.proofs.UsedBands.{window-any, window-blank}
 use Rattle.sixel_encoder.proofs.pixels.is_used.Goals as goal
+use Rattle.std.proofs.lemmas.Bool.Decides.{nat_tests}
 
 pub returns-in-Some : goal.returns-in-Some
 returns-in-Some c =
@@ -14,9 +15,6 @@ returns-in-Some c =
     let start = 6 * c.args.band * image.width in
     let pixel = c.loop-pixel.pixel in
     let size = length-entries image c.requires.image in
-    let wide = c.requires.image.indices in
-    let since : start ≤ pixel = c.loop-pixel.auto.pixel in
-    let test = c.loop-pixel-test.true in
     let end = c.min-end.ensures in
     let place : start + (pixel - start) ≡ pixel = omega arith in
     let low : pixel < length indices = omega arith in
@@ -28,15 +26,6 @@ returns-in-Some c =
 pub returns : goal.returns
 returns c =
     let image = c.args.image.now in
-    let pixels = image.pixels.now in
-    let indices = image.indices.now in
-    let start = 6 * c.args.band * image.width in
     let size = length-entries image c.requires.image in
-    let wide = c.requires.image.indices in
-    let test = c.loop-pixel-test.false in
     let end = c.min-end.ensures in
-    sym (window-blank (entries_of pixels indices) start (6 * image.width)
-    (λ k since before inside.
-    let low : k < length indices = omega arith in
-    let past : k < c.loop-pixel.pixel = omega arith in
-    get_or-entries pixels indices k low ∙ c.loop-pixel.invariant k since past))
+    grind (arith, nat_tests, window-blank, get_or-entries, c.loop-pixel.invariant)

@@ -1,8 +1,8 @@
-use Rattle.std.proofs.Common.{◌++◌, string_bytes, ap, sym, ◌∙◌, arith}
-use Rattle.sixel_encoder.specs.RunTokens.{written}
+use Rattle.std.proofs.Common.{string_bytes, arith}
 use Rattle.sixel_encoder.proofs.EqualRuns.{tokens_skip}
 use Rattle.sixel_encoder.proofs.ShortestRows.{spells, shortest}
 use Rattle.sixel_encoder.proofs.run_tokens.push_row.Goals as goal
+use Rattle.std.proofs.lemmas.Bool.Decides.{nat_tests}
 
 pub returns-in_err-push_run-clause-spells : goal.returns-in_err-push_run-clause-spells
 returns-in_err-push_run-clause-spells c = spells c.args.row.now
@@ -23,8 +23,5 @@ sixels-preserved-then-same-gt0 c =
       sixel = c.sixels.invariant.sixel;
       few = omega (arith, c.sixels.invariant.few);
       within = run.within;
-      text =
-          ap (λ p. string_bytes c.sixels.text ++ written p)
-          (sym (tokens_skip c.run_from-same.result c.args.row.now c.sixels.at c.sixels.count
-          c.sixels.bits run.within run.same)) ∙ c.sixels.invariant.text;
+      text = grind (arith, nat_tests, string_bytes, tokens_skip, c.sixels.invariant.text);
     }

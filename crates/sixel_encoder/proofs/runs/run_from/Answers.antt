@@ -1,15 +1,10 @@
 use Rattle.std.proofs.Common.{◌≡◌, ◌+◌, ◌-◌, arith}
 use Rattle.sixel_encoder.proofs.EqualRuns.{run_join}
 use Rattle.sixel_encoder.proofs.runs.run_from.Goals as goal
+use Rattle.std.proofs.lemmas.Bool.Decides.{nat_tests}
 
 pub run-init : goal.run-init
-run-init c =
-    let count : c.args.at + c.equal_from-same.result - c.args.at ≡ c.equal_from-same.result =
-    omega arith in
-    record {
-      some = omega (arith, c.if-same-lt-LANES.false);
-      run = rw count c.equal_from-same.ensures.run;
-    }
+run-init c = grind (arith, nat_tests, c.if-same-lt-LANES.false, c.equal_from-same.ensures.run)
 
 pub run-preserved : goal.run-preserved
 run-preserved c =

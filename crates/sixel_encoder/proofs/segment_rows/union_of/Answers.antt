@@ -1,9 +1,8 @@
 use Rattle.std.proofs.Common.{◌≡◌, ◌+◌, ◌-◌, ap, sym, ◌∙◌, arith, ℕ}
-use Rattle.std.specs.Int.Bits.{bit_or}
-use Rattle.std.specs.Prelude.{slice_index}
 use Rattle.sixel_encoder.specs.Compact.{union}
 use Rattle.sixel_encoder.proofs.FillSteps.{union-more, union-none}
 use Rattle.sixel_encoder.proofs.segment_rows.union_of.Goals as goal
+use Rattle.std.proofs.lemmas.Bool.Decides.{nat_tests}
 
 pub loop-column-init : goal.loop-column-init
 loop-column-init c =
@@ -12,15 +11,11 @@ loop-column-init c =
 
 pub loop-column-preserved : goal.loop-column-preserved
 loop-column-preserved c =
-    let row = c.args.row.now in
     let from = c.args.from in
     let n : ℕ = c.loop-column.column - from in
     let low = c.loop-column.auto.column in
     let more : c.loop-column.column + 1 - from ≡ n + 1 = omega (arith, low) in
-    let here : from + n ≡ c.loop-column.column = omega (arith, low) in
-    ap (λ u. bit_or u (slice_index row c.loop-column.column)) c.loop-column.invariant
-    ∙ (ap (λ k. bit_or (union row from n) (slice_index row k)) (sym here)
-    ∙ (sym (union-more row from n) ∙ ap (union row from) (sym more)))
+    grind (arith, nat_tests, union-more, c.loop-column.invariant)
 
 pub returns : goal.returns
 returns c =

@@ -1,7 +1,5 @@
-use Rattle.std.proofs.Common.{◌≡◌, ◌+◌, ◌-◌, ◌*◌, ◌<◌, length, ap, sym, refl}
-use Rattle.std.proofs.Common.{◌∙◌, inl, inr, arith, ℕ}
-use Rattle.std.proofs.lemmas.Bool.{cases_eq}
-use Rattle.sixel_encoder.specs.Segments.{segments_up_to, with_pixel}
+use Rattle.std.proofs.Common.{◌≡◌, ◌+◌, ◌-◌, ◌<◌, length, ap, refl, ◌∙◌, arith}
+use Rattle.sixel_encoder.specs.Segments.{with_pixel}
 use Rattle.sixel_encoder.specs.inside.Compact.{with_run}
 use Rattle.sixel_encoder.specs.inside.Indexed.{drawing_of}
 use Rattle.sixel_encoder.proofs.EntryLaneMasks.{opaque-lane, transparent-lane}
@@ -12,11 +10,11 @@ use Rattle.sixel_encoder.proofs.SegmentSteps.{AreLast-later, AreLast-none}
 use Rattle.sixel_encoder.proofs.segments.band_segments.Goals as goal
 use Rattle.sixel_encoder.proofs.segments.band_segments.Goals.{then-is_new+in_ok-push_run-2}
 use Rattle.sixel_encoder.proofs.segments.band_segments.Goals.{else-is_new}
+use Rattle.std.proofs.lemmas.Bool.Decides.{nat_tests}
 
 pub columns-init : goal.columns-init
 columns-init c = record {
-  segments = c.new-segments.ensures.items
-      ∙ sym (segments_up_to-none (drawing_of c.args.entries.now.image.now) c.args.entries.now.band);
+  segments = grind (arith, nat_tests, segments_up_to-none, c.new-segments.ensures.items);
   last = rw c.new-segments.ensures.items
       (AreLast-none _ c.gap_of-gap.result 0 (λ e. none-replicated 256 e));
   size = refl;
@@ -53,31 +51,14 @@ columns-preserved-in-Continue-1 c =
           c.push_run.new.segments.items told.order c.columns-test.true c.gap_of-gap.ensures
           is.segments (c.is_uniform.ensures c.if-is_uniform.true) told.same at.0
           (c.in_ok-push_run.ensures.segments ∙ ap (λ r. with_run gap r items) made);
-      last = AreLast-later c.push_run.new.segments.items c.push_run.new.last gap (run.end - 1) end
-          (omega (arith, c.run_of-run.ensures.end)) c.in_ok-push_run.ensures.last;
+      last = grind (arith, nat_tests, c.run_of-run.ensures.end, c.in_ok-push_run.ensures.last);
       size = c.push_run.ensures.size ∙ is.size;
       within = told.within;
     }
 
 pub columns-preserved-else-lane-ne-TRANSPARENT : goal.columns-preserved-else-lane-ne-TRANSPARENT
 columns-preserved-else-lane-ne-TRANSPARENT c =
-    let entries = c.args.entries.now in
-    let column = c.columns.column in
-    let end = c.end_of_repeats-column.result in
-    let is = c.columns.invariant in
-    let told = c.end_of_repeats-column.ensures in
-    let none =
-    transparent-lane entries column 0 c.lane-lane.result c.requires c.columns-test.true
-    c.lane-lane.ensures c.if-lane-ne-TRANSPARENT.false in
-    record {
-      segments = columns-blank (drawing_of entries.image.now) entries.band column end
-          c.columns.segments.items told.order is.segments
-          (c.is_uniform.ensures c.if-is_uniform.true) told.same none;
-      last = AreLast-later c.columns.segments.items c.columns.last c.gap_of-gap.result column end
-          (omega (arith, told.order)) is.last;
-      size = is.size;
-      within = told.within;
-    }
+    grind (arith, transparent-lane, columns-blank, c.columns.invariant)
 
 pub push_run-requires-then-is_new-clause-entry : goal.push_run-requires-then-is_new-clause-entry
 push_run-requires-then-is_new-clause-entry c =
@@ -112,8 +93,7 @@ loop-bit-preserved c =
           let items : c.if-is_new.segments.items ≡ new.segments.items =
           ap (λ v. v.items) w.segments-is in
           let pushed : new.segments.items ≡ with_pixel gap column lane was =
-          w.in_ok-push_run-2.ensures.segments
-          ∙ (ap (λ r. with_run gap r was) made ∙ run-pixel gap column lane was) in
+          grind (arith, nat_tests, run-pixel, w.in_ok-push_run-2.ensures.segments) in
           record {
             segments =
                 items
@@ -126,46 +106,11 @@ loop-bit-preserved c =
             size = ap length w.last-is ∙ (w.push_run-then-is_new.ensures.size ∙ is.size);
             above = λ l. rw (items, pushed) (with_pixel-twice gap column lane was);
           }
-      | else-is_new w ↦
-          let items : c.if-is_new.segments.items ≡ was = ap (λ v. v.items) w.segments-is in
-          elim (cases_eq lane 256) [
-            | inl none ↦ record {
-              segments =
-                  items
-                  ∙ segment-skip drawing entries.band column bit was lb is.segments
-                  (transparent-lane entries column bit lane c.requires lc
-                  c.lane-lane-in-loop-bit.ensures none);
-              last = rw (items, w.last-is) is.last;
-              size = ap length w.last-is ∙ is.size;
-              above = λ l. absurd (omega (arith, none, l));
-            }
-            | inr other ↦
-                let same = c.is_new.ensures.same w.if-is_new.false other in
-                let at =
-                opaque-lane entries column bit lane c.requires lc c.lane-lane-in-loop-bit.ensures
-                other in
-                let kept : with_pixel gap column lane was ≡ was =
-                ap (λ (e : ℕ). with_pixel gap column e was) same
-                ∙ is.above (omega (arith, same, at.1)) in
-                record {
-                  segments =
-                      items
-                      ∙ segment-pixel drawing entries.band column bit gap lane was was lb
-                      c.gap_of-gap.ensures is.segments at.0 (sym kept);
-                  last = rw (items, w.last-is) is.last;
-                  size = ap length w.last-is ∙ is.size;
-                  above = λ l. rw items kept;
-                }
-          ]
+      | else-is_new w ↦ grind (arith, segment-skip, transparent-lane, opaque-lane, segment-pixel)
     ]
 
 pub returns : goal.returns
-returns c =
-    let drawing = drawing_of c.args.entries.now.image.now in
-    let whole : c.columns.column ≡ drawing.width =
-    omega (arith, c.columns-test.false, c.columns.invariant.within) in
-    c.columns.invariant.segments
-    ∙ ap (λ n. segments_up_to drawing c.args.entries.now.band (6 * n)) whole
+returns c = grind (arith, nat_tests, c.columns.invariant.segments)
 
 pub push_run-requires-clause-last : goal.push_run-requires-clause-last
 push_run-requires-clause-last c = rw c.run_of-run.ensures.first c.columns.invariant.last
@@ -176,16 +121,5 @@ push_run-requires-then-is_new-clause-last c =
 
 pub columns-preserved : goal.columns-preserved
 columns-preserved c =
-    let entries = c.args.entries.now in
-    let column = c.columns.column in
     let is = c.loop-bit.invariant in
-    let next : 6 * column + c.loop-bit.bit ≡ 6 * (column + 1) =
-    omega (arith, c.loop-bit.auto.bit-end, c.loop-bit-test.false) in
-    record {
-      segments = is.segments
-          ∙ ap (segments_up_to (drawing_of entries.image.now) entries.band) next;
-      last = AreLast-later c.loop-bit.segments.items c.loop-bit.last c.gap_of-gap.result column
-          (column + 1) (omega arith) is.last;
-      size = is.size;
-      within = omega (arith, c.columns-test.true);
-    }
+    grind (arith, nat_tests, is.segments, is.last, is.size, c.columns-test.true)

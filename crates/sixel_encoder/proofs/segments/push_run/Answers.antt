@@ -6,6 +6,7 @@ use Rattle.sixel_encoder.proofs.RunSegments.{AreLast-longer, AreLast-run, run-ne
 use Rattle.sixel_encoder.proofs.SegmentSteps.{is_near, last-far, near-own, none-near, others-far}
 use Rattle.sixel_encoder.proofs.segments.push_run.Goals as goal
 use Rattle.sixel_encoder.proofs.segments.push_run.Goals.{in-Some+else-run-near, in-None}
+use Rattle.std.proofs.lemmas.Bool.Decides.{nat_tests}
 
 -- no segment
 abbrev none_there : Segment
@@ -24,8 +25,7 @@ overflow_add-near c =
     let known = c.requires.last.known c.args.run.entry index c.in-Some.is in
     let at : nth items index ≡ near =
     get_or_default items index none_there near known.0 ∙ sym c.index-near.ensures in
-    let ended = c.requires.last.ended index known.0 in
-    omega (arith, ended, ap (λ (s : Segment). s.end) at, c.requires.small, c.requires.some)
+    grind (arith, nat_tests, c.requires.last.ended, c.requires.small, c.requires.some)
 
 pub returns-then-run-near-clause-segments : goal.returns-then-run-near-clause-segments
 returns-then-run-near-clause-segments c =
@@ -52,26 +52,7 @@ returns-then-run-near-clause-last c =
     (get_or_default items index none_there near known.0 ∙ sym c.index-near.ensures)
 
 pub returns-clause-segments : goal.returns-clause-segments
-returns-clause-segments c =
-    let items = c.args.segments.now.items in
-    let last = c.args.last.now in
-    let far : (j : ℕ) → j < length items
-    → is_near c.args.gap c.args.run.first c.args.run.entry (nth items j) ≡ false =
-    elim c.match-last-run.branch [
-      | in-Some+else-run-near w ↦ λ j l.
-          let index = w.in-Some.index in
-          let near = w.index-near.result.now in
-          let known = c.requires.last.known c.args.run.entry index w.in-Some.is in
-          let at : nth items index ≡ near =
-          get_or_default items index none_there near known.0 ∙ sym w.index-near.ensures in
-          last-far items last c.args.gap c.args.run.first c.args.run.entry index j c.requires.last
-          w.in-Some.is (omega (arith, w.if-run-near.false, ap (λ (s : Segment). s.end) at)) l
-      | in-None w ↦ λ j l.
-          none-near items last c.args.gap c.args.run.first c.args.run.entry j c.requires.last
-          w.in-None.is l
-    ] in
-    c.in_ok-push.ensures.items
-    ∙ sym (run-new c.args.gap c.args.run items far)
+returns-clause-segments c = grind (arith, nat_tests, get_or_default, run-new)
 
 pub returns-clause-last : goal.returns-clause-last
 returns-clause-last c =
@@ -86,8 +67,7 @@ returns-clause-last c =
           let known = c.requires.last.known c.args.run.entry index w.in-Some.is in
           let at : nth items index ≡ near =
           get_or_default items index none_there near known.0 ∙ sym w.index-near.ensures in
-          last-far items last c.args.gap c.args.run.first c.args.run.entry index j c.requires.last
-          w.in-Some.is (omega (arith, w.if-run-near.false, ap (λ (s : Segment). s.end) at)) l
+          grind (arith, nat_tests, last-far, c.requires.last, w.in-Some.is, w.if-run-near.false)
       | in-None w ↦ λ j l.
           none-near items last c.args.gap c.args.run.first c.args.run.entry j c.requires.last
           w.in-None.is l

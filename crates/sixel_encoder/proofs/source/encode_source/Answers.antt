@@ -9,7 +9,6 @@ use Rattle.sixel_encoder.proofs.source.encode_source.Goals as goal
 
 pub encode_in_form-requires : goal.encode_in_form-requires
 encode_in_form-requires c =
-    let source = c.args.source.now in
     let told = c.in_ok-choice.ensures in
     IsIndexed-chosen _ (none-found _ _ _ c.validate_source.ensures c.in_ok-validate_source.was)
     (rw c.deref.ensures.value (omega (arith, told.palette.size.2)))

@@ -5,12 +5,10 @@ use Rattle.sixel_encoder.specs.inside.Indexed.{drawing_of}
 use Rattle.sixel_encoder.proofs.Dots.{appended-start, appended-more}
 use Rattle.sixel_encoder.proofs.TextLength.{length-stopped, text-joined}
 use Rattle.sixel_encoder.proofs.text.encode_below.Goals as goal
+use Rattle.std.proofs.lemmas.Bool.Decides.{nat_tests}
 
 pub loop-band-init : goal.loop-band-init
-loop-band-init c = record {
-  text = appended-start (band_text (drawing_of c.args.image.now)) (string_bytes c.in_ok-text.text);
-  empty = c.in_ok-rows.ensures;
-}
+loop-band-init c = grind (arith, nat_tests, appended-start, c.in_ok-rows.ensures)
 
 pub loop-band-preserved : goal.loop-band-preserved
 loop-band-preserved c =

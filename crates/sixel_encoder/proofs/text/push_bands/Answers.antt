@@ -3,12 +3,10 @@ use Rattle.sixel_encoder.specs.Text.{band_text}
 use Rattle.sixel_encoder.specs.inside.Indexed.{drawing_of}
 use Rattle.sixel_encoder.proofs.Dots.{appended-start, appended-more}
 use Rattle.sixel_encoder.proofs.text.push_bands.Goals as goal
+use Rattle.std.proofs.lemmas.Bool.Decides.{nat_tests}
 
 pub loop-band-init : goal.loop-band-init
-loop-band-init c = record {
-  text = appended-start (band_text (drawing_of c.args.image.now)) (string_bytes c.args.text.now);
-  empty = c.in_ok-rows.ensures;
-}
+loop-band-init c = grind (arith, nat_tests, appended-start, string_bytes, c.in_ok-rows.ensures)
 
 pub loop-band-preserved : goal.loop-band-preserved
 loop-band-preserved c =

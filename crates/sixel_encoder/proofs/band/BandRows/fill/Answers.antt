@@ -1,5 +1,4 @@
-use Rattle.std.proofs.Common.{◌≡◌, ℕ, ◌<◌, ◌≤◌, ◌+◌, ◌*◌, ◌^◌, List, length, refl, ◌∙◌, sym, ap}
-use Rattle.std.proofs.Common.{arith}
+use Rattle.std.proofs.Common.{◌≡◌, ℕ, ◌<◌, ◌≤◌, ◌+◌, ◌*◌, ◌^◌, List, length, ◌∙◌, ap, arith}
 use Rattle.std.proofs.lemmas.Grind.{pow_more}
 use Rattle.std.proofs.lemmas.List.{with_items_is}
 use Rattle.std.proofs.lemmas.Nat.{mul-le}
@@ -8,12 +7,13 @@ use Rattle.sixel_encoder.specs.declared.text.IndexedImage.{IndexedImage}
 use Rattle.sixel_encoder.specs.Text.{mask}
 use Rattle.sixel_encoder.specs.inside.Indexed.{entry_of, IsIndexed}
 use Rattle.sixel_encoder.specs.inside.Grid.{cell, pixel_bit}
-use Rattle.sixel_encoder.proofs.Cells.{AreMarks-clear, AreMarks-same}
+use Rattle.sixel_encoder.proofs.Cells.{AreMarks-same}
 use Rattle.sixel_encoder.proofs.Masks.{hits, mask-none, mask-lt, weight-le, mask-line, mask-below}
 use Rattle.sixel_encoder.proofs.band.BandRows.fill.Goals as goal
 use Rattle.sixel_encoder.proofs.band.BandRows.fill.Goals.{then-row-image+then-is_whole}
 use Rattle.sixel_encoder.proofs.band.BandRows.fill.Goals.{then-row-image+else-is_whole}
 use Rattle.sixel_encoder.proofs.band.BandRows.fill.Goals.{else-row-image}
+use Rattle.std.proofs.lemmas.Bool.Decides.{nat_tests}
 
 -- a line ends within the image
 line-within : (row width height : ℕ) → row < height → row * width + width ≤ width * height
@@ -22,15 +22,7 @@ line-within row width height l =
 
 pub loop-bit-init : goal.loop-bit-init
 loop-bit-init c =
-    let rows = c.args.self.now in
-    record {
-      weight = refl;
-      shape = record { wide = refl; from = refl; sixels = refl; marks = refl };
-      cells = λ e x le lx. c.requires.empty.clear.blank e x le lx
-          ∙ sym (mask-none (hits c.args.image.now c.args.band (rows.first + e) x));
-      marks = AreMarks-clear rows.rows.items rows.used.items c.args.image.now.width
-          c.requires.empty.clear;
-    }
+    grind (arith, nat_tests, mask-none, c.requires.empty.clear.blank, c.requires.empty.clear)
 
 pub add_whole_line-requires-clause-line : goal.add_whole_line-requires-clause-line
 add_whole_line-requires-clause-line c =
@@ -73,13 +65,7 @@ line-added : (image : IndexedImage) (band bit weight first entry e x : ℕ) (was
     (entry_of image.pixels.now image.indices.now ((6 * band + bit) * image.width + x))
     → cell now image.width e x ≡ mask (hits image band (first + e) x) (bit + 1)
 line-added image band bit weight first entry e x was before now is lx inside had weighs same own
-    added =
-    let pixel = (6 * band + bit) * image.width + x in
-    let place = entry_of image.pixels.now image.indices.now pixel in
-    mask-line image band bit (first + e) x (cell was image.width e x) weight
-    (cell now image.width e x) is lx inside had weighs
-    (added ∙ ap (λ r. cell r image.width e x + pixel_bit weight entry place) same
-    ∙ ap (λ k. cell was image.width e x + pixel_bit weight k place) own)
+    added = grind (arith, nat_tests, mask-line)
 
 pub overflow_mul-weight : goal.overflow_mul-weight
 overflow_mul-weight c = omega (arith, weight-le c.loop-bit.bit c.loop-bit-test.true)

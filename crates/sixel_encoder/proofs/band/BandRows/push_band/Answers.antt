@@ -1,38 +1,24 @@
 use Rattle.std.proofs.Common.{◌≡◌, ℕ, [], ◌∷◌, ◌+◌, ◌*◌, ◌<◌, ◌≤◌, ◌++◌, length, string_bytes}
-use Rattle.std.proofs.Common.{append_assoc, ap, refl, sym, ◌∙◌, arith}
+use Rattle.std.proofs.Common.{append_assoc, ap, sym, ◌∙◌, arith}
 use Rattle.std.specs.Prelude.{encode_utf8}
 use Rattle.sixel_base.specs.Picture.{joined}
 use Rattle.sixel_encoder.specs.Text.{entry_text, band_text, sixel_of}
 use Rattle.sixel_encoder.specs.inside.Indexed.{drawing_of}
 use Rattle.sixel_encoder.specs.inside.Grid.{cell}
 use Rattle.sixel_encoder.proofs.Dots.{appended-start, joined-part}
-use Rattle.sixel_encoder.proofs.Masks.{hits, mask-lt}
-use Rattle.sixel_encoder.proofs.Ok.{OnOk-pushed}
+use Rattle.sixel_encoder.proofs.Masks.{mask-lt}
 use Rattle.sixel_encoder.proofs.Parts.{joined-all, appended-part}
 use Rattle.sixel_encoder.proofs.band.BandRows.push_band.Goals as goal
+use Rattle.std.proofs.lemmas.Bool.Decides.{nat_tests}
 
 pub loop-part-init : goal.loop-part-init
 loop-part-init c =
     let none : 0 * length c.args.self.now.used.items ≡ 0 = omega arith in
-    record {
-      text = rw none (appended-start (entry_text (drawing_of c.args.image.now) c.args.band)
-          (string_bytes c.args.text.now));
-      count = refl;
-      empty = c.requires.empty;
-    }
+    grind (arith, nat_tests, appended-start, string_bytes, c.requires.empty)
 
 pub push_rows-requires-clause-below : goal.push_rows-requires-clause-below
 push_rows-requires-clause-below c = λ e x le lx.
-    let image = c.args.image.now in
-    let from = c.loop-part.part * c.len-in-loop-part.result in
-    let shape = c.fill.ensures.shape in
-    let wide : c.fill.new.self.width ≡ image.width =
-    shape.wide ∙ c.loop-part.invariant.empty.wide in
-    rw wide (omega (
-      arith,
-      c.fill.ensures.cells e x (omega (arith, le, shape.marks)) (rw wide at lx),
-      mask-lt (hits image c.args.band (from + e) x) 6,
-    ))
+    grind (arith, nat_tests, mask-lt, c.loop-part.invariant.empty.wide, c.fill.ensures.cells)
 
 pub loop-part-preserved : goal.loop-part-preserved
 loop-part-preserved c =
@@ -84,21 +70,12 @@ returns-clause-text c =
     let f = entry_text (drawing_of image) c.args.band in
     let part = c.loop-part.part in
     let count = part * length c.loop-part.self.used.items in
-    let parts : part ≡ c.parts-part-end.result = omega arith in
-    let size : c.len.result ≡ length c.loop-part.self.used.items =
-    omega (arith, c.len.ensures, c.args.self.now.used.ok.0, c.loop-part.invariant.count) in
     let all : length image.colors.now ≤ count =
-    omega (
-      arith,
-      c.parts-part-end.ensures.all,
-      ap (λ n. n * c.len.result) parts,
-      ap (λ n. part * n) size,
-    ) in
+    grind (arith, nat_tests, c.parts-part-end.ensures.all) in
     let rows : before ≡ start ++ joined f (length image.colors.now) = c.loop-part.invariant.text
     ∙ ap (λ s. start ++ s) (joined-all image c.args.band count c.requires.image all) in
     let dash : encode_utf8 45 ≡ 45 ∷ [] = c.push.ensures.ascii (omega arith) in
     let whole : before ++ encode_utf8 45 ≡ start ++ band_text (drawing_of image) c.args.band =
     ap (λ d. before ++ d) dash ∙ (ap (λ b. b ++ 45 ∷ []) rows
     ∙ append_assoc start (joined f (length image.colors.now)) (45 ∷ [])) in
-    OnOk-pushed c.push.result before (string_bytes c.push.new.self) (encode_utf8 45)
-    (start ++ band_text (drawing_of image) c.args.band) c.push.ensures.bytes whole
+    grind (arith, nat_tests, string_bytes, c.push.ensures.bytes)

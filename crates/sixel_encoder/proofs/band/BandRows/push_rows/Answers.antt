@@ -1,33 +1,16 @@
-use Rattle.std.proofs.Common.{◌≡◌, ◌<◌, ◌++◌, length, false, set, get_or, string_bytes, refl}
+use Rattle.std.proofs.Common.{◌≡◌, ◌<◌, length, false, set, get_or, string_bytes}
 use Rattle.std.proofs.Common.{ap, sym, ◌∙◌, arith}
 use Rattle.std.proofs.lemmas.List.{append-nil, get_or_default, length-set}
 use Rattle.sixel_encoder.specs.declared.band.BandRows.{BandRows}
-use Rattle.sixel_encoder.specs.inside.Grid.{grid_text}
 use Rattle.sixel_encoder.proofs.JoinedLists.{joined-none}
 use Rattle.sixel_encoder.proofs.Progress.{progress-used, progress-unused, progress-same}
 use Rattle.sixel_encoder.proofs.band.BandRows.push_rows.Goals as goal
 use Rattle.sixel_encoder.proofs.band.BandRows.push_rows.Goals.{then-index+in_ok-push_entry}
 use Rattle.sixel_encoder.proofs.band.BandRows.push_rows.Goals.{else-index}
+use Rattle.std.proofs.lemmas.Bool.Decides.{nat_tests}
 
 pub loop-row-init : goal.loop-row-init
-loop-row-init c =
-    let rows = c.args.self.now in
-    let start = string_bytes c.args.text.now in
-    record {
-      progress = record {
-        text =
-            sym (ap (λ s. start ++ s)
-            (joined-none (grid_text rows.rows.items rows.width rows.first))
-            ∙ append-nil start);
-        clear = record {
-          blank = λ e x l lx. absurd (omega arith);
-          unused = λ e l. absurd (omega arith);
-        };
-        rest = λ e x _ l lx. refl;
-        unread = λ e _. refl;
-      };
-      shape = record { wide = refl; from = refl; sixels = refl; marks = refl };
-    }
+loop-row-init c = grind (arith, nat_tests, string_bytes, joined-none, append-nil)
 
 pub loop-row-preserved : goal.loop-row-preserved
 loop-row-preserved c =
@@ -50,8 +33,7 @@ loop-row-preserved c =
           let rows : after.rows.items ≡ new.self.rows.items =
           ap (λ (s : BandRows). s.rows.items) w.self-is in
           let used : after.used.items ≡ set old.used.items row false =
-          ap (λ (s : BandRows). s.used.items) w.self-is
-          ∙ ap (λ u. set u row false) w.push_entry.ensures.used in
+          grind (arith, nat_tests, w.self-is, w.push_entry.ensures.used) in
           record {
             progress = progress-same start (string_bytes new.text) (string_bytes c.if-index.text)
                 first.rows.items new.self.rows.items after.rows.items

@@ -1,7 +1,7 @@
-use Rattle.std.proofs.Common.{◌≤◌, ap, length, refl, ◌∙◌, arith}
+use Rattle.std.proofs.Common.{◌≤◌, length, ◌∙◌, arith}
 use Rattle.std.specs.Prelude.{string_bytes}
 use Rattle.std.proofs.lemmas.List.FromFn.{length-map-range_with_len}
-use Rattle.sixel_encoder.specs.Compact.{nothing_of, transparent_sixel}
+use Rattle.sixel_encoder.specs.Compact.{nothing_of}
 use Rattle.sixel_encoder.specs.inside.Compact.{drawn_so_far}
 use Rattle.sixel_encoder.specs.inside.Indexed.{drawing_of}
 use Rattle.sixel_encoder.proofs.CompactSteps.{IsWithin-drawn, band-selected, band-text, drawn-end}
@@ -9,22 +9,7 @@ use Rattle.sixel_encoder.proofs.CompactSteps.{drawn-made, drawn-more, text-end, 
 use Rattle.sixel_encoder.proofs.compact.BandWriter.push_band.Goals as goal
 
 pub loop-segment-init : goal.loop-segment-init
-loop-segment-init c = record {
-  writer = record {
-    indexed = c.read.ensures.entries.indexed;
-    spare = c.read.ensures.entries.spare;
-    numbered = rw c.read.ensures.image c.requires.writer.numbered;
-    wide = ap length c.begin.ensures
-        ∙ length-map-range_with_len
-        (transparent_sixel (drawing_of c.read.new.self.image.now) c.read.new.self.band) 0
-        c.read.new.self.image.now.width;
-  };
-  entries = c.read.ensures.entries;
-  image = c.read.ensures.image;
-  band = c.read.ensures.band;
-  text = refl;
-  drawn = refl;
-}
+loop-segment-init c = grind (arith, length-map-range_with_len)
 
 pub push_segment-requires-clause-within : goal.push_segment-requires-clause-within
 push_segment-requires-clause-within c =

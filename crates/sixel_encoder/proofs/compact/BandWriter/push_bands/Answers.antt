@@ -1,16 +1,16 @@
-use Rattle.std.proofs.Common.{◌≡◌, ◌++◌, ◌∷◌, refl, ap, sym, ◌∙◌, arith}
-use Rattle.std.specs.Prelude.{codes, string_bytes}
-use Rattle.sixel_base.specs.Picture.{joined}
-use Rattle.sixel_encoder.specs.Compact.{band_marks, band_register, compact_band}
-use Rattle.sixel_encoder.specs.Marks.{mark_text, marks_text}
+use Rattle.std.proofs.Common.{refl, ap, sym, ◌∙◌, arith}
+use Rattle.std.specs.Prelude.{string_bytes}
+use Rattle.sixel_encoder.specs.Compact.{band_register, compact_band}
+use Rattle.sixel_encoder.specs.Marks.{mark_text}
 use Rattle.sixel_encoder.specs.Text.{bands}
-use Rattle.sixel_encoder.specs.Trip.{bands_up_to, is_used}
+use Rattle.sixel_encoder.specs.Trip.{is_used}
 use Rattle.sixel_encoder.specs.inside.Indexed.{drawing_of}
 use Rattle.sixel_encoder.proofs.Counts.{flat_map-more, flat_map-start}
 use Rattle.sixel_encoder.proofs.DrawnHeight.{bands_up_to-le}
 use Rattle.sixel_encoder.proofs.SegmentOrder.{register_after-more, register_after-none}
 use Rattle.sixel_encoder.proofs.TextLength.{length-band, length-bands}
 use Rattle.sixel_encoder.proofs.compact.BandWriter.push_bands.Goals as goal
+use Rattle.std.proofs.lemmas.Bool.Decides.{nat_tests}
 
 pub loop-band-init : goal.loop-band-init
 loop-band-init c =
@@ -39,10 +39,7 @@ loop-band-preserved c =
     record {
       writer = told.writer;
       image = ap (λ b. b.now) c.push_band.ensures.image ∙ is.image;
-      text = flat_map-more mark_text (compact_band drawing) band (string_bytes c.args.text.now)
-          (string_bytes c.loop-band.text) (string_bytes c.push_band.new.text) _ is.text
-          (ap (λ r. marks_text (band_marks drawing band r)) is.register)
-          (rw is.image at told.text);
+      text = grind (arith, nat_tests, flat_map-more, is.text, is.register, is.image, told.text);
       plain = length-band drawing band c.loop-band.plain_bytes c.least_bytes.result
           c.saturating_add-plain_bytes.result is.plain
           (rw (c.push_band.ensures.image, is.image, told.band) at c.least_bytes.ensures)
@@ -52,30 +49,8 @@ loop-band-preserved c =
     }
 
 pub returns-clause-plain : goal.returns-clause-plain
-returns-clause-plain c =
-    let image = c.args.self.now.entries.image.now in
-    let drawing = drawing_of image in
-    let most = bands_up_to-le (is_used drawing) (bands image.height) in
-    omega (
-      arith,
-      c.loop-band.invariant.plain,
-      length-bands drawing c.loop-band.band
-          (omega (
-            arith,
-            most,
-            c.loop-band.auto.band-end,
-            c.used_bands-band-end.ensures,
-          )),
-    )
+returns-clause-plain c = grind (arith, bands_up_to-le, length-bands)
 
 pub returns-clause-text : goal.returns-clause-text
 returns-clause-text c =
-    let drawing = drawing_of c.args.self.now.entries.image.now in
-    let old = string_bytes c.args.text.now in
-    let all : c.loop-band.band ≡ bands_up_to (is_used drawing) (bands drawing.height) =
-    omega
-    (arith, c.loop-band-test.false, c.loop-band.auto.band-end, c.used_bands-band-end.ensures) in
-    c.in_ok-push_str.ensures.bytes
-    ∙ ap (λ t. t ++ 27 ∷ codes "\\")
-    (c.loop-band.invariant.text
-    ∙ ap (λ n. old ++ marks_text (joined (compact_band drawing) n)) all)
+    grind (arith, nat_tests, c.in_ok-push_str.ensures.bytes, c.loop-band.invariant.text)

@@ -1,41 +1,18 @@
-use Rattle.std.proofs.Common.{◌≡◌, ◌+◌, ◌-◌, ◌<◌, [], List, length, set, ap, sym, ◌∙◌, arith}
-use Rattle.std.proofs.Common.{ℕ, refl}
+use Rattle.std.proofs.Common.{◌≡◌, ◌+◌, ◌-◌, ◌<◌, List, length, set, ap, ◌∙◌, arith, ℕ, refl}
 use Rattle.std.specs.Int.Bits.{bit_or}
 use Rattle.std.specs.Prelude.{slice_index, vec_len}
 use Rattle.std.proofs.lemmas.List.{get_or_default}
-use Rattle.sixel_encoder.specs.Compact.{union}
 use Rattle.sixel_encoder.specs.Text.{sixel_of}
 use Rattle.sixel_encoder.specs.inside.Indexed.{drawing_of}
 use Rattle.sixel_encoder.proofs.FillSteps.{IsBlocking, blocked-after, blocked-more, fill-end}
-use Rattle.sixel_encoder.proofs.FillSteps.{fill-off, fill-on, state}
+use Rattle.sixel_encoder.proofs.FillSteps.{fill-off, fill-on}
 use Rattle.sixel_encoder.proofs.segment_rows.SegmentRows.draw.Goals as goal
 use Rattle.sixel_encoder.proofs.segment_rows.SegmentRows.draw.Goals.{then-more-wider-eq0}
 use Rattle.sixel_encoder.proofs.segment_rows.SegmentRows.draw.Goals.{else-more-wider-eq0+in_ok-resize}
+use Rattle.std.proofs.lemmas.Bool.Decides.{nat_tests}
 
 pub loop-column-init : goal.loop-column-init
-loop-column-init c =
-    let segment = c.args.segment.now in
-    let entries = c.args.entries.now in
-    let blank : ℕ = segment.first - c.args.from in
-    let old : List ℕ = c.args.self.now.blocked.items in
-    let none : blank - 0 ≡ blank = omega arith in
-    let fill : List ℕ → ℕ → ℕ → List ℕ = λ r u n.
-    state (sixel_of (drawing_of entries.image.now) entries.band segment.entry) (slice_index old) r
-    0 u n segment.first segment.end in
-    record {
-      short = omega (arith, ap length c.clear.ensures.items, c.requires.from);
-      row =
-          ap (λ r. fill r c.union_of-ban.result (blank - length r)) c.clear.ensures.items
-          ∙ (ap (fill [] c.union_of-ban.result) none
-          ∙ ap (λ u. fill [] u blank)
-          (c.union_of-ban.ensures ∙ ap (λ b. union b c.args.from blank) c.deref.ensures.value));
-      blocked = record {
-        wide = refl;
-        inside = λ k low high. absurd (omega (arith, low, high));
-        before = λ k l. refl;
-        past = λ k l. refl;
-      };
-    }
+loop-column-init c = grind (arith)
 
 pub loop-column-preserved : goal.loop-column-preserved
 loop-column-preserved c =
@@ -52,9 +29,7 @@ loop-column-preserved c =
     omega (arith, high, c.requires.wide, c.requires.within.wide, is.blocked.wide) in
     let sixel : c.sixel-own.result ≡ own column = c.sixel-own.ensures in
     let ban : c.index-blocked.result.now ≡ slice_index old column =
-    c.index-blocked.ensures
-    ∙ (sym (get_or_default was column 0 c.index-blocked.result.now inside)
-    ∙ is.blocked.past column (omega arith)) in
+    grind (arith, nat_tests, get_or_default, c.index-blocked.ensures, is.blocked.past) in
     let value : bit_or c.index-blocked.result.now c.sixel-own.result
     ≡ bit_or (slice_index old column) (own column) =
     ap (λ b. bit_or b c.sixel-own.result) ban ∙ ap (bit_or (slice_index old column)) sixel in
@@ -78,11 +53,7 @@ loop-column-preserved c =
           c.loop-column.ban _ _ c.args.from column segment.end (column - c.args.from) (vec_len row)
           high is.short refl row.ok.0 w.in_ok-resize.ensures.items (w.bits-is ∙ sixel)
           (w.ban-is ∙ ban) (rw (sixel, ban) at w.if-more-wider-eq0.false) is.row in
-          rw w.self-is record {
-            short = omega (arith, cut.1);
-            row = cut.0;
-            blocked = blocking;
-          }
+          grind (arith, nat_tests, w.self-is)
     ]
 
 pub returns-clause-row : goal.returns-clause-row
@@ -105,15 +76,4 @@ returns-clause-row c =
     (rw all at is.row)
 
 pub returns-clause-blocked : goal.returns-clause-blocked
-returns-clause-blocked c =
-    let segment = c.args.segment.now in
-    let entries = c.args.entries.now in
-    let all : c.loop-column.column ≡ segment.end =
-    omega (
-      arith,
-      c.loop-column-test.false,
-      c.loop-column.auto.column-end,
-      c.requires.within.some,
-    ) in
-    blocked-after (drawing_of entries.image.now) entries.band c.args.self.now.blocked.items
-    c.loop-column.self.blocked.items segment (rw all at c.loop-column.invariant.blocked)
+returns-clause-blocked c = grind (arith, blocked-after)
