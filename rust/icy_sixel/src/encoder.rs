@@ -25,6 +25,8 @@ pub enum Dither {
     /// The color of the pixel.
     Off,
     /// Error diffusion by Floyd and Steinberg, in serpentine order.
+    ///
+    /// In a palette of grays it maps the brightness of the pixels.
     Diffusion {
         /// How many eighths of the error are diffused, clamped to 1 to 8.
         ///
