@@ -70,8 +70,8 @@ impl SixelReceiver {
     ///
     /// The rows are `first` up to before `first + rows`. The first of them begins at the first byte
     /// of `out`, and each other one a stride after the one before it. Columns on the right of the
-    /// image so far are background. The other bytes of `out` stay. A later error takes no row back.
-    /// The call does not allocate.
+    /// image so far are background. The other bytes of `out` stay. Rows that were copied stay valid
+    /// after a later error. The call does not allocate.
     ///
     /// # Errors
     ///
