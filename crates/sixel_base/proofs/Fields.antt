@@ -1,7 +1,7 @@
 -- How the fields of a text change as the text goes on by a digit or a semicolon.
 use Rattle.std.proofs.Common.{◌≡◌, ◌≢◌, ℕ, zero, suc, ◌+◌, ◌-◌, ◌*◌, ◌<◌, ◌≤◌, min, max, Bool, true}
 use Rattle.std.proofs.Common.{false, cond, ◌==◌, List, [], ◌∷◌, ◌++◌, map, length, get_or, refl}
-use Rattle.std.proofs.Common.{sym, ap, ◌∙◌, arith, rules, tests, length-append}
+use Rattle.std.proofs.Common.{ap, ◌∙◌, arith, rules, tests, length-append}
 use Rattle.std.proofs.lemmas.List.{map-append, length-map}
 use Rattle.std.specs.List.{slice_split, onto_first}
 use Rattle.std.specs.Char.{digit_value}
@@ -28,31 +28,18 @@ on_last f (n ∷ m ∷ ns) = n ∷ on_last f (m ∷ ns)
 abbrev pub raised : ℕ → ℕ → ℕ
 raised byte n = min (n * 10 + (byte - 48)) parameter_limit
 
--- the first and the last piece go on apart from each other
-onto_last-onto_first : (x y : ℕ) (ps : List (List ℕ))
-    → onto_last x (onto_first y ps) ≡ onto_first y (onto_last x ps)
-onto_last-onto_first x y ps = grind (arith, common_steps, nat_tests)
-
--- before another piece, the last piece is that of the rest
-onto_last-cons : (x : ℕ) (p : List ℕ) (ps : List (List ℕ)) → 0 < length ps
-    → onto_last x (p ∷ ps) ≡ p ∷ onto_last x ps
-onto_last-cons x p [] some = absurd (omega arith)
-onto_last-cons x p (q ∷ ps) some = refl
-
 -- one element in front of a text whose last piece goes on
 split_step : (b : Bool) (x y : ℕ) (ps : List (List ℕ)) → 0 < length ps
     → cond b ([] ∷ onto_last x ps) (onto_first y (onto_last x ps))
     ≡ onto_last x (cond b ([] ∷ ps) (onto_first y ps))
-split_step true x y ps some = sym (onto_last-cons x [] ps some)
-split_step false x y ps some = sym (onto_last-onto_first x y ps)
+split_step b x y ps some = grind (arith, nat_tests)
 
 -- an element that does not separate goes onto the last piece
 slice_split-push_no : (p : ℕ → Bool) (xs : List ℕ) (x : ℕ) → p x ≡ false
     → slice_split p (xs ++ x ∷ []) ≡ onto_last x (slice_split p xs)
 slice_split-push_no p [] x fails = rw fails refl
 slice_split-push_no p (y ∷ ys) x fails =
-    ap (λ ps. cond (p y) ([] ∷ ps) (onto_first y ps)) (slice_split-push_no p ys x fails)
-    ∙ split_step (p y) x y (slice_split p ys) (omega (arith, length-slice_split p ys))
+    grind (arith, nat_tests, split_step, length-slice_split, slice_split-push_no p ys x fails)
 
 -- one element in front of a text that ends in an empty piece
 split_next : (b : Bool) (y : ℕ) (ps : List (List ℕ)) → 0 < length ps
@@ -65,8 +52,7 @@ slice_split-push_yes : (p : ℕ → Bool) (xs : List ℕ) (x : ℕ) → p x ≡ 
     → slice_split p (xs ++ x ∷ []) ≡ slice_split p xs ++ [] ∷ []
 slice_split-push_yes p [] x passes = rw passes refl
 slice_split-push_yes p (y ∷ ys) x passes =
-    ap (λ ps. cond (p y) ([] ∷ ps) (onto_first y ps)) (slice_split-push_yes p ys x passes)
-    ∙ split_next (p y) y (slice_split p ys) (omega (arith, length-slice_split p ys))
+    grind (arith, nat_tests, split_next, length-slice_split, slice_split-push_yes p ys x passes)
 
 -- the value of a digit's byte
 digit_value-byte : (byte : ℕ) → 48 ≤ byte → byte ≤ 57 → digit_value byte ≡ byte - 48
@@ -117,8 +103,7 @@ digit-no_separator byte high = search (rules, tests)
 -- the fields of a text that goes on by a digit
 pub fields-push_digit : (text : List ℕ) (byte : ℕ) → 48 ≤ byte → byte ≤ 57
     → fields (text ++ byte ∷ []) ≡ on_last (raised byte) (fields text)
-fields-push_digit [] byte low high =
-    rw (digit-no_separator byte high) (ap (λ n. n ∷ []) (parameter-push [] byte low high))
+fields-push_digit [] byte low high = grind (arith, nat_tests)
 fields-push_digit (x ∷ xs) byte low high =
     let separates : ℕ → Bool = λ b. b == 59 in
     ap (map parameter) (slice_split-push_no separates (x ∷ xs) byte (digit-no_separator byte high))

@@ -1,6 +1,6 @@
 -- Each list of bytes that carry meaning has one history: reading gives one, and reading the
 -- spelling of any gives it back.
-use Rattle.std.proofs.Common.{◌≡◌, ℕ, ◌+◌, ◌<◌, Bool, true, false, not, cond, List, [], ◌∷◌, ◌++◌}
+use Rattle.std.proofs.Common.{◌≡◌, ℕ, Bool, true, false, not, cond, List, [], ◌∷◌, ◌++◌}
 use Rattle.std.proofs.Common.{refl, ap, sym, ◌∙◌, arith, append_assoc, fold}
 use Rattle.std.specs.Prelude.{IsTrue, ◌||◌}
 use Rattle.std.specs.List.{list_all}
@@ -8,9 +8,9 @@ use Rattle.std.proofs.lemmas.List.{append-nil}
 use Rattle.std.proofs.lemmas.List.Sums.{fold-append}
 use Rattle.std.proofs.lemmas.Bool.Decides.{nat_tests}
 use Rattle.std.proofs.lemmas.Grind.{common_steps}
-use Rattle.sixel_base.specs.Bytes.{is_ignored, is_terminator, is_digit, is_parameter, is_skipped}
+use Rattle.sixel_base.specs.Bytes.{is_ignored, is_terminator, is_digit, is_parameter}
 use Rattle.sixel_base.specs.Bytes.{front}
-use Rattle.sixel_base.specs.History.{Token, Sixel, Repeat, Raster, Color, Return, Newline, Skip}
+use Rattle.sixel_base.specs.History.{Token, Repeat, Raster, Color}
 use Rattle.sixel_base.specs.History.{History, start, text, spelling, spellings, IsToken, takes}
 use Rattle.sixel_base.specs.History.{goes_on, AreTokens, IsHistory, begun, with_byte, longer, read}
 use Rattle.sixel_base.specs.History.{history_of}
@@ -49,15 +49,11 @@ spellings-read h byte = grind (arith, nat_tests, spellings-longer, spellings-beg
 pub read_ends : (h : History) (byte : ℕ) → goes_on h byte ≡ false → read h byte ≡ begun byte ∷ h
 read_ends h byte is = ap (λ g. cond g (longer h byte) (begun byte ∷ h)) is
 
-pub read_goes_on : (h : History) (byte : ℕ) → goes_on h byte ≡ true → read h byte ≡ longer h byte
-read_goes_on h byte is = ap (λ g. cond g (longer h byte) (begun byte ∷ h)) is
-
 pub spellings-fold : (h : History) (bytes : List ℕ)
     → spellings (fold read h bytes) ≡ spellings h ++ bytes
 spellings-fold h [] = sym (append-nil (spellings h))
 spellings-fold h (byte ∷ bytes) =
-    spellings-fold (read h byte) bytes
-    ∙ (ap (λ w. w ++ bytes) (spellings-read h byte) ∙ append_assoc (spellings h) (byte ∷ []) bytes)
+    grind (arith, nat_tests, spellings-read, append_assoc, spellings-fold (read h byte) bytes)
 
 list_all-push : (p : ℕ → Bool) (xs : List ℕ) (x : ℕ) → IsTrue (list_all p xs) → p x ≡ true
     → IsTrue (list_all p (xs ++ x ∷ []))
@@ -103,12 +99,6 @@ some_history bytes = grind (arith, nat_tests, spellings-fold, AreTokens-fold, ca
 
 -- ---- the history that spells the bytes is the one that reading gives
 
-begun-sixel : (bits : ℕ) → bits < 64 → begun (63 + bits) ≡ Sixel bits
-begun-sixel bits lt = grind (arith, nat_tests)
-
-begun-skip : (byte : ℕ) → IsTrue (is_skipped byte) → begun byte ≡ Skip byte
-begun-skip byte is = grind (arith, nat_tests)
-
 -- a token before its parameters
 abbrev pub bare : Token → Token
 bare (Repeat _) = Repeat []
@@ -117,13 +107,7 @@ bare (Color _) = Color []
 bare token = token
 
 begun-start : (token : Token) → IsToken token → begun (start token) ≡ bare token
-begun-start (Sixel bits) is = begun-sixel bits is
-begun-start (Repeat t) is = refl
-begun-start (Raster t) is = refl
-begun-start (Color t) is = refl
-begun-start Return is = refl
-begun-start Newline is = refl
-begun-start (Skip byte) is = begun-skip byte is
+begun-start token is = grind (arith, nat_tests)
 
 fold-repeat : (older : History) (s t : List ℕ) → IsTrue (list_all is_digit t)
     → fold read (Repeat s ∷ older) t ≡ Repeat (s ++ t) ∷ older
@@ -160,15 +144,12 @@ fold-text older token is = grind (arith, nat_tests, fold-repeat, fold-raster, fo
 -- reading the spelling of a token adds it
 pub fold-spelling : (older : History) (token : Token) → IsToken token
     → goes_on older (start token) ≡ false → fold read older (spelling token) ≡ token ∷ older
-fold-spelling older token is ends =
-    grind (arith, nat_tests, fold, read_ends, begun-start, fold-text)
+fold-spelling older token is ends = grind (arith, nat_tests, read_ends, begun-start, fold-text)
 
 history_of-spellings : (h : History) → AreTokens h → history_of (spellings h) ≡ h
 history_of-spellings [] are = refl
 history_of-spellings (token ∷ older) are =
-    fold-append read [] (spellings older) (spelling token)
-    ∙ (ap (λ w. fold read w (spelling token)) (history_of-spellings older are.2)
-    ∙ fold-spelling older token are.0 are.1)
+    grind (arith, fold-append, are.2, fold-spelling, are.0, are.1, history_of-spellings older are.2)
 
 -- a history is the one that reading its bytes gives
 pub history_unique : (bytes : List ℕ) (h : History) → IsHistory bytes h → h ≡ history_of bytes

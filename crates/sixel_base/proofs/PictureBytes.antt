@@ -3,14 +3,13 @@ use Rattle.std.proofs.Common.{◌≡◌, ℕ, zero, suc, ◌+◌, ◌*◌, ◌<�
 use Rattle.std.proofs.Common.{◌∙◌, append_assoc, append-nil, length-append, add-zero, add-suc}
 use Rattle.std.proofs.Common.{arith}
 use Rattle.sixel_base.specs.Picture.{joined}
+use Rattle.std.proofs.lemmas.Bool.Decides.{nat_tests}
 
 -- one more piece at the front
 pub joined-front : (f : ℕ → List ℕ) (n : ℕ) → joined f (suc n) ≡ f 0 ++ joined (λ k. f (suc k)) n
 unfolding joined
 joined-front f zero = sym (append-nil (f 0))
-joined-front f (suc n) =
-    ap (λ xs. xs ++ f (suc n)) (joined-front f n)
-    ∙ append_assoc (f 0) (joined (λ k. f (suc k)) n) (f (suc n))
+joined-front f (suc n) = grind (arith, nat_tests, append_assoc, joined-front f n)
 
 -- pieces that are equal one by one
 pub joined-same : (f g : ℕ → List ℕ) (n : ℕ) → ((k : ℕ) → k < n → f k ≡ g k)
@@ -36,5 +35,4 @@ pub length-joined : (f : ℕ → List ℕ) (size n : ℕ) → ((k : ℕ) → len
     → length (joined f n) ≡ size * n
 unfolding joined
 length-joined f size zero long = omega arith
-length-joined f size (suc n) long =
-    omega (arith, length-append (joined f n) (f n), length-joined f size n long, long n)
+length-joined f size (suc n) long = grind (arith, length-append, length-joined f size n long)

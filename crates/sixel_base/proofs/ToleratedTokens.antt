@@ -2,8 +2,8 @@
 -- are all tolerated.
 use Rattle.std.proofs.Common.{◌≡◌, true, false, [], ◌∷◌, refl, ap, ◌∙◌, cond, Option, Some}
 use Rattle.std.proofs.Common.{None, ◌+◌, arith, ℕ, List}
-use Rattle.std.specs.Prelude.{is_none, min, slice_set}
-use Rattle.sixel_base.specs.Stroke.{definition, is_definition, named_by, registers}
+use Rattle.std.specs.Prelude.{is_none, min}
+use Rattle.sixel_base.specs.Stroke.{registers}
 use Rattle.std.specs.Option.{option_or}
 use Rattle.sixel_base.specs.Fault.{Fault}
 use Rattle.sixel_base.specs.History.{Token, Sixel, Repeat, Raster, Color, Return, Newline, Skip}
@@ -33,25 +33,21 @@ tolerated-faultless limit (token ∷ older) =
 
 -- the parts of an option that is none
 option_or-first : (a b : Option Fault) → option_or a b ≡ None → a ≡ None
-option_or-first None b none = refl
-option_or-first (Some fault) b none = absurd cc
+option_or-first a b none = grind (arith, nat_tests)
 
 option_or-second : (a b : Option Fault) → option_or a b ≡ None → b ≡ None
-option_or-second None b none = none
-option_or-second (Some fault) b none = absurd cc
+option_or-second a b none = grind (arith, nat_tests)
 
 -- a token without a fault stays
 pub with_tolerated-same : (limit : Limit) (token : Token) (older : History)
     → fault_of limit token older ≡ None → with_tolerated limit token older ≡ token ∷ older
-with_tolerated-same limit token older none =
-    ap (λ (f : Option Fault). cond (is_none f) (token ∷ older) (without token older)) none
+with_tolerated-same limit token older none = grind (arith, nat_tests)
 
 -- a token with a fault is ignored
 pub with_tolerated-without : (limit : Limit) (token : Token) (older : History) (fault : Fault)
     → fault_of limit token older ≡ Some fault
     → with_tolerated limit token older ≡ without token older
-with_tolerated-without limit token older fault is =
-    ap (λ (f : Option Fault). cond (is_none f) (token ∷ older) (without token older)) is
+with_tolerated-without limit token older fault is = grind (arith, nat_tests)
 
 -- without a fault all tokens are tolerated
 pub tolerated-same : (limit : Limit) (h : History) → first_fault limit h ≡ None
@@ -79,8 +75,7 @@ effective-more limit token h is = grind (arith, nat_tests, option_or-second, wit
 
 -- an option that is some after one that is none
 option_or-some : (a b : Option Fault) (f : Fault) → a ≡ None → option_or a b ≡ Some f → b ≡ Some f
-option_or-some None b f none some = some
-option_or-some (Some fault) b f none some = absurd cc
+option_or-some a b f none some = grind (arith, nat_tests)
 
 -- a token that has a fault after those is ignored, where faults are
 pub effective-without : (limit : Limit) (token : Token) (h : History) (f : Fault)
@@ -125,8 +120,7 @@ ignored-step limit token older before holds = grind (arith, nat_tests, tolerated
 pub ignored-none : (limit : Limit) (h : History) → ignored limit h ≡ 0
     → first_fault limit h ≡ None
 ignored-none limit [] zero = refl
-ignored-none limit (token ∷ older) zero =
-    ignored-step limit token older (ignored-none limit older) zero
+ignored-none limit (token ∷ older) zero = grind (arith, ignored-step, ignored-none limit older)
 
 -- and without a fault none is ignored
 pub none-ignored : (limit : Limit) (h : History) → first_fault limit h ≡ None
@@ -148,32 +142,17 @@ effective-same f limit token h other same = grind (arith, common_steps, nat_test
 
 -- ---- how many are ignored
 
--- of no tokens none
-pub count-none : (limit : Limit) → ignored_count limit [] ≡ 0
-count-none limit = grind (arith, common_steps, nat_tests)
-
 -- a token without a fault is not ignored
 pub count-more : (limit : Limit) (token : Token) (h : History)
     → first_fault limit (token ∷ effective limit h) ≡ None
     → ignored_count limit (token ∷ h) ≡ ignored_count limit h
-count-more limit token h =
-    elim limit.lenient as
-    (λ t. first_fault limit (token ∷ cond t (tolerated limit h) h) ≡ None
-    → cond t (ignored limit (token ∷ h)) 0 ≡ cond t (ignored limit h) 0) [
-      | true ↦ λ none.
-          ap (λ (f : Option Fault).
-          cond (is_none f) (ignored limit h) (min (ignored limit h + 1) count_limit))
-          (option_or-second (first_fault limit (tolerated limit h))
-          (fault_of limit token (tolerated limit h)) none)
-      | false ↦ λ none. refl
-    ]
+count-more limit token h = grind (arith, option_or-second)
 
 -- a token with one is, if the image is lenient
 pub count-without : (limit : Limit) (token : Token) (h : History) (f : Fault)
     → limit.lenient ≡ true → first_fault limit (token ∷ effective limit h) ≡ Some f
     → ignored_count limit (token ∷ h) ≡ min (ignored_count limit h + 1) count_limit
-count-without limit token h f is holds =
-    grind (arith, nat_tests, tolerated-faultless, option_or-some)
+count-without limit token h f is holds = grind (arith, tolerated-faultless, option_or-some)
 
 -- ---- the registers, which no command with a fault defines
 
@@ -181,38 +160,16 @@ registers-tolerated : (limit : Limit) (start : List (List ℕ)) (h : History)
     → registers start (tolerated limit h) ≡ registers start h
 registers-tolerated limit start [] = refl
 registers-tolerated limit start (Sixel bits ∷ h) =
-    let o : History = tolerated limit h in
-    elim (is_none (fault_of limit (Sixel bits) o)) as
-    (λ n. registers start (cond n (Sixel bits ∷ o) (Repeat [] ∷ o)) ≡ registers start h) [
-      | true ↦ registers-tolerated limit start h
-      | false ↦ registers-tolerated limit start h
-    ]
+    grind (arith, nat_tests, registers-tolerated limit start h)
 registers-tolerated limit start (Repeat text ∷ h) =
-    let o : History = tolerated limit h in
-    elim (is_none (fault_of limit (Repeat text) o)) as
-    (λ n. registers start (cond n (Repeat text ∷ o) o) ≡ registers start h) [
-      | true ↦ registers-tolerated limit start h
-      | false ↦ registers-tolerated limit start h
-    ]
+    grind (arith, nat_tests, registers-tolerated limit start h)
 registers-tolerated limit start (Raster text ∷ h) =
-    let o : History = tolerated limit h in
-    elim (is_none (fault_of limit (Raster text) o)) as
-    (λ n. registers start (cond n (Raster text ∷ o) o) ≡ registers start h) [
-      | true ↦ registers-tolerated limit start h
-      | false ↦ registers-tolerated limit start h
-    ]
+    grind (arith, nat_tests, registers-tolerated limit start h)
 registers-tolerated limit start (Color text ∷ h) =
-    ap (λ (r : List (List ℕ)).
-    cond (is_definition text) (slice_set r (named_by text) (definition text)) r)
-    (registers-tolerated limit start h)
+    grind (arith, nat_tests, registers-tolerated limit start h)
 registers-tolerated limit start (Return ∷ h) = registers-tolerated limit start h
 registers-tolerated limit start (Newline ∷ h) =
-    let o : History = tolerated limit h in
-    elim (is_none (fault_of limit Newline o)) as
-    (λ n. registers start (cond n (Newline ∷ o) o) ≡ registers start h) [
-      | true ↦ registers-tolerated limit start h
-      | false ↦ registers-tolerated limit start h
-    ]
+    grind (arith, nat_tests, registers-tolerated limit start h)
 registers-tolerated limit start (Skip byte ∷ h) = registers-tolerated limit start h
 
 -- so they are those of all tokens

@@ -1,6 +1,6 @@
 -- What a band with tags shows once the tags of a block were painted, row by row.
-use Rattle.std.proofs.Common.{◌≡◌, ℕ, ◌+◌, ◌/◌, ◌%◌, min, ◌<◌, ◌≤◌, Bool, true, false, List}
-use Rattle.std.proofs.Common.{refl, arith}
+use Rattle.std.proofs.Common.{◌≡◌, ℕ, ◌+◌, ◌/◌, ◌%◌, ◌-◌, ◌*◌, max, min, ◌<◌, ◌≤◌, Bool, true}
+use Rattle.std.proofs.Common.{false, List, refl, arith}
 use Rattle.std.specs.Prelude.{nat_le, nat_lt, ◌&&◌, if◌then◌else◌}
 use Rattle.sixel_base.specs.Picture.{covers, is_struck}
 use Rattle.sixel_canvas.specs.inside.Drawn.{covers_block}
@@ -71,3 +71,20 @@ pub three_parts : (from a b to bits column k : ℕ) (p0 p1 p2 p3 color : List �
     p3 ≡ (if covers b to 0 bits column k then color else p2) →
     p3 ≡ (if covers from to 0 bits column k then color else p0)
 three_parts from a b to bits column k = parts_struck (is_struck 0 bits k) from a b to column
+
+-- what is painted of a wide run before its first whole block
+pub first_part : (from first tagged : ℕ) → first ≡ from / 128 + min 1 (from % 128) →
+    first * 128 - from + 128 * (min ((first * 128 + 127) / 128) tagged - from / 128) ≤ 255
+first_part from first tagged is = omega arith
+
+-- and past its last one, beside the columns that were never drawn on
+pub last_part : (to reach last tagged : ℕ) → last ≡ min to reach / 128 → 128 * tagged ≤ reach →
+    to - last * 128 + 128 * (min ((to + 127) / 128) (max tagged last) - last * 128 / 128)
+    ≤ 255 + (max reach to - reach)
+last_part to reach last tagged is whole = omega arith
+
+-- all three parts
+pub parts_painted : (p0 p1 p2 p3 left right before after tags past most : ℕ) →
+    p1 ≤ p0 + left + before → left + before ≤ 255 → p2 ≤ p1 + tags → p3 ≤ p2 + right + after →
+    right + after ≤ 255 + past → tags ≤ most → p3 ≤ p0 + (most + 640) + past
+parts_painted p0 p1 p2 p3 left right before after tags past most = λ a b c d e f. omega arith

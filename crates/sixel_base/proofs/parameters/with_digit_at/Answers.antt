@@ -6,6 +6,7 @@ use Rattle.sixel_base.specs.Limits.{parameter_limit}
 use Rattle.sixel_base.specs.inside.Parameters.{Parameters, AreRead, IsDigit, Keeps}
 use Rattle.sixel_base.proofs.KeptFields.{Keeps-push_digit_kept}
 use Rattle.sixel_base.proofs.parameters.with_digit_at.Goals as goal
+use Rattle.std.proofs.lemmas.Bool.Decides.{nat_tests}
 
 pub returns-then-digit-lt10-clause-read : goal.returns-then-digit-lt10-clause-read
 returns-then-digit-lt10-clause-read c = λ read.
@@ -15,23 +16,12 @@ returns-then-digit-lt10-clause-read c = λ read.
     let byte = get_or bytes at 0 in
     let inside = c.requires.inside in
     let before : AreRead bytes value at = subst (AreRead bytes value) c.if-len-at.true read in
-    let is : IsDigit byte = (
-      omega (arith, c.from-digit.ensures, c.if-digit-lt10.true, c.type_inv.bytes at),
-      omega (arith, c.from-digit.ensures, c.if-digit-lt10.true, c.type_inv.bytes at),
-    ) in
+    let is : IsDigit byte = grind (arith, nat_tests) in
     let next = 10 * value + c.from-digit.result in
     let old : Parameters = record { values = value ∷ 0 ∷ 0 ∷ 0 ∷ 0 ∷ []; count = min at 1 } in
     let new : Parameters = record { values = next ∷ 0 ∷ 0 ∷ 0 ∷ 0 ∷ []; count = min (at + 1) 1 } in
     let worth : next ≡ min (value * 10 + (byte - 48)) parameter_limit =
-    omega (
-      arith,
-      c.from-digit.ensures,
-      c.if-digit-lt10.true,
-      c.type_inv.bytes at,
-      c.requires.room,
-      is.0,
-      is.1,
-    ) in (
+    grind (arith, nat_tests) in (
       omega (arith, inside),
       λ k lt. elim (cases_lt k at) [
         | inl below ↦ before.1 k below
