@@ -68,10 +68,9 @@ AreMarks-dot rows used width entry column weight marks inside le lc lw =
     let count : length (set used entry true) ≡ length used = length-set used entry true in
     let new : (e x : ℕ) → x < width
     → cell (set rows (entry * width + column) (cell rows width entry column + weight)) width e x
-    ≡ cell rows width e x + dot_at weight entry column e x = λ e x lx.
-    cell-dot rows width entry column weight e x inside lc lx in
+    ≡ cell rows width e x + dot_at weight entry column e x = λ e x lx. grind (arith, cell-dot) in
     grind (arith, nat_tests, get_or-set_other, get_or-set_same, dot_at-entry)
 
 pub AreMarks-same : {rows others : List ℕ} {used marks : List Bool} {width : ℕ} → rows ≡ others
     → used ≡ marks → AreMarks others marks width → AreMarks rows used width
-AreMarks-same h1 h2 h3 = grind (arith, nat_tests)
+AreMarks-same h e g = grind (arith, nat_tests)

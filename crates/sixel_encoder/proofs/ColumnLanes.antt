@@ -1,10 +1,9 @@
 -- The lanes of a column that are all equal, and those that equal the lanes of another column.
 use Rattle.std.specs.Prelude.{◌==◌}
 use Rattle.std.proofs.Common.{Bool, List, ap, arith, cond, eqb, false, get_or, length, map, not}
-use Rattle.std.proofs.Common.{refl, suc, sym, true, w16, zero, ℕ, ◌%◌, ◌*◌, ◌+◌, ◌<◌, ◌∙◌, ◌≡◌, ◌≤◌}
+use Rattle.std.proofs.Common.{refl, suc, sym, true, zero, ℕ, ◌%◌, ◌*◌, ◌+◌, ◌<◌, ◌∙◌, ◌≡◌, ◌≤◌}
 use Rattle.std.proofs.lemmas.Bool.Decides.{nat_tests}
 use Rattle.std.proofs.lemmas.Simd.{get_or-chunk, get_or-zip2, length-chunk, length-zip2}
-use Rattle.std.proofs.lemmas.Simd.{mask_l-mod, tops_compared}
 use lib.Lanes.{chunk, mask_l, top, zip2}
 use Rattle.sixel_base.specs.Picture.{is_set}
 use Rattle.sixel_encoder.specs.declared.band_entries.BandEntries.{BandEntries}
@@ -71,8 +70,7 @@ equal-lanes lanes one other k l1 l2 none lk =
     let lx = length-chunk one 8 lanes l1 in
     let ly = length-chunk other 8 lanes l2 in
     let size = length-zip2 t xs ys (lx ∙ sym ly) in
-    let zero_mask : mask_l (zip2 t xs ys) ≡ 0 =
-    grind (arith, nat_tests, mask_l-mod, tops_compared, w16) in
+    let zero_mask : mask_l (zip2 t xs ys) ≡ 0 = grind (arith, nat_tests) in
     let at = get_or-zip2 t xs ys k 0 0 false (omega (arith, lx, lk)) (omega (arith, ly, lk)) in
     let same : get_or xs k 0 ≡ get_or ys k 0 = grind (arith, nat_tests, equal-not) in
     sym (get_or-chunk one 8 lanes k 0 lk) ∙ (same ∙ get_or-chunk other 8 lanes k 0 lk)

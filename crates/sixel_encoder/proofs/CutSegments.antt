@@ -60,8 +60,7 @@ AreAfter-pixel gap column entry segment (other ∷ others) new after =
 pub AreCut-pixel : (gap entries bound column entry : ℕ) (segments : List Segment)
     → bound ≤ column + 1 → entry < entries → AreCut gap entries bound segments
     → AreCut gap entries (column + 1) (with_pixel gap column entry segments)
-AreCut-pixel gap entries bound column entry [] l known are =
-    (known, omega arith, omega arith, tt, tt)
+AreCut-pixel gap entries bound column entry [] l known are = grind (arith, nat_tests)
 AreCut-pixel gap entries bound column entry (segment ∷ segments) l known are =
     go (segment.entry == entry && nat_lt column (segment.end + gap)) refl
     (AreCut-pixel gap entries bound column entry segments l known are.4)
@@ -140,12 +139,7 @@ tally-pixel gap entries bound column entry x e (segment ∷ segments) l are =
 pub own-pixel : (gap entries bound column entry : ℕ) (segments : List Segment)
     → bound ≤ column + 1 → AreCut gap entries bound segments
     → 1 ≤ tally (is_of column (Some entry)) (with_pixel gap column entry segments)
-own-pixel gap entries bound column entry [] l are =
-    omega (
-      arith,
-      of-is column entry record { entry = entry; first = column; end = column + 1 } refl
-          (omega arith) (omega arith),
-    )
+own-pixel gap entries bound column entry [] l are = grind (arith, nat_tests)
 own-pixel gap entries bound column entry (segment ∷ segments) l are =
     grind (arith, nat_tests, own-pixel gap entries bound column entry segments l are.4)
   where

@@ -2,7 +2,7 @@
 use Rattle.std.specs.List.{list_all}
 use Rattle.std.specs.Prelude.{IsTrue, None, Option, Some, codes, decimal}
 use Rattle.std.proofs.Common.{List, ap, arith, cond, false, get_or, length, length-append, min}
-use Rattle.std.proofs.Common.{nat_lt, refl, subst, sym, true, ℕ, ◌*◌, ◌++◌, ◌∙◌, ◌∷◌, ◌≡◌, ◌≤◌, []}
+use Rattle.std.proofs.Common.{nat_lt, refl, subst, sym, true, ℕ, ◌*◌, ◌++◌, ◌∷◌, ◌≡◌, ◌≤◌, []}
 use Rattle.std.proofs.lemmas.Bool.Decides.{nat_tests}
 use Rattle.std.proofs.lemmas.Fmt.{decimal_digit}
 use Rattle.std.proofs.lemmas.Grind.{common_steps}
@@ -58,8 +58,7 @@ carrying-parameters (b ∷ t) all =
 -- the header's text is its parameters
 header_text-parameters : (t rest : List ℕ) → IsTrue (list_all is_parameter t)
     → header_text (t ++ 113 ∷ rest) ≡ t
-header_text-parameters t rest all =
-    ap carrying (header_front-parameters t rest all) ∙ carrying-parameters t all
+header_text-parameters t rest all = grind (arith, header_front-parameters, carrying-parameters)
 
 -- ---- the parameters of a text
 
@@ -124,8 +123,7 @@ introduced_by drawing payload = grind (arith, nat_tests, decimal_digit)
 -- the header is read as the drawing's settings
 settings-text : (drawing : Drawing) (rest : List ℕ)
     → settings_of (header_text (parameters drawing ++ 113 ∷ rest)) ≡ drawing_settings drawing
-settings-text drawing rest =
-    grind (arith, nat_tests, header_text-parameters, all_parameters, settings-numbers)
+settings-text drawing rest = grind (arith, header_text-parameters, all_parameters, settings-numbers)
 
 -- it has this payload, with the drawing's settings
 pub found-sequence : (drawing : Drawing) (payload : List ℕ)

@@ -1,10 +1,10 @@
 -- The errors of visits depend on the indices of earlier visits alone, and the line of a row has the
 -- latest errors.
-use Rattle.std.proofs.Common.{◌≡◌, ℕ, zero, suc, ◌+◌, ◌-◌, ◌*◌, ◌<◌, ◌≤◌, List, [], ◌∷◌}
-use Rattle.std.proofs.Common.{cond, length, get_or, set, refl, ap, sym, subst, ◌∙◌, arith, inl, inr}
+use Rattle.std.proofs.Common.{◌≡◌, ℕ, zero, suc, ◌+◌, ◌*◌, ◌<◌, ◌≤◌, List, [], ◌∷◌}
+use Rattle.std.proofs.Common.{cond, set, refl, ap, sym, subst, ◌∙◌, arith, inl, inr}
 use Rattle.std.proofs.Common.{nat_le, replicate}
 use Rattle.std.specs.Prelude.{slice_index, slice_index_or}
-use Rattle.std.proofs.lemmas.Bool.{cases_eq, cases_lt}
+use Rattle.std.proofs.lemmas.Bool.{cases_lt}
 use Rattle.std.proofs.lemmas.List.{get_or-replicate, get_or-set_other, get_or-set_same}
 use Rattle.std.proofs.lemmas.List.{length-replicate, length-set}
 use Rattle.sixel_encoder.specs.Dithering.{Mapped, HasTarget, column_of_step, error_back, errors_of}
@@ -15,6 +15,7 @@ use Rattle.sixel_encoder.specs.inside.Diffusion.{no_error_lanes}
 use Rattle.sixel_encoder.proofs.DitheredIndices.{HasTarget-same}
 use Rattle.sixel_encoder.proofs.Serpentine.{column-apart, column-lt, column-next_row}
 use Rattle.sixel_encoder.proofs.Serpentine.{serpentine-apart}
+use Rattle.std.proofs.lemmas.Bool.Decides.{nat_tests}
 
 -- the error of a visit whose pixel has this index
 abbrev error_with : Mapped → List (List ℕ) → ℕ → ℕ → List ℕ
@@ -39,10 +40,7 @@ errors_of-same m old new (suc n) same =
 -- so a visit leaves the errors of earlier ones
 pub errors_of-visit : (m : Mapped) (old new error : List ℕ) (n k : ℕ) → 0 < m.width → k ≤ n
     → IsVisit m (errors_of m old n) n old new error → errors_of m new k ≡ errors_of m old k
-errors_of-visit m old new error n k some most is =
-    errors_of-same m old new k
-    (λ j l.
-    is.others (serpentine m.width j) (serpentine-apart m.width j n some (omega arith)))
+errors_of-visit m old new error n k some most is = grind (arith, errors_of-same, serpentine-apart)
 
 -- and its own is the newest
 pub errors_of-more : (m : Mapped) (old new error : List ℕ) (n : ℕ) → 0 < m.width
@@ -88,65 +86,24 @@ pub IsLine-more : (m : Mapped) (errors line : List (List ℕ)) (row step : ℕ) 
     → IsLine m (channels error ∷ errors) row (step + 1)
     (set line (column_of_step m.width row step) error)
 IsLine-more m errors line row step error inside lanes is =
-    let place = column_of_step m.width row step in
-    let there : place < length line = omega (arith, is.whole, column-lt m.width row step inside) in
-    record {
-      whole = omega (arith, length-set line place error, is.whole);
-      this = λ j l.
-          elim (cases_lt j step) [
-            | inl before ↦
-                ap channels (get_or-set_other line place (column_of_step m.width row j) error []
-                (column-apart m.width row j step (omega arith) inside (omega arith)))
-                ∙ (is.this j before
-                ∙ sym (error_back-suc m (channels error) errors (step + 1 - 1 - j) (step - 1 - j)
-                (omega arith)))
-            | inr last ↦
-                let same : j ≡ step = omega arith in
-                let none : step + 1 - 1 - j ≡ 0 = omega arith in
-                ap
-                (λ i. channels (get_or (set line place error) (column_of_step m.width row i) []))
-                same
-                ∙ (ap channels (get_or-set_same line place error [] there)
-                ∙ ap (error_back m (channels error ∷ errors)) (sym none))
-          ];
-      above = λ j l lj.
-          ap channels (get_or-set_other line place (column_of_step m.width row j) error []
-          (column-apart m.width row j step lj inside (omega arith)))
-          ∙ (is.above j (omega arith) lj
-          ∙ sym (error_back-suc m (channels error) errors (step + 1 + j) (step + j)
-          (omega arith)));
-      lanes = λ k l.
-          elim (cases_eq k place) [
-            | inl here ↦ rw (here, get_or-set_same line place error [] there) lanes
-            | inr apart ↦ rw (get_or-set_other line place k error [] apart) (is.lanes k l)
-          ];
-    }
+    grind (
+      arith,
+      column-lt,
+      length-set,
+      get_or-set_other,
+      column-apart,
+      error_back-suc,
+      get_or-set_same,
+    )
 
 -- after its last step it is the line above the next row
 pub IsLine-next_row : (m : Mapped) (errors line : List (List ℕ)) (row : ℕ)
     → IsLine m errors row m.width line → IsLine m errors (row + 1) 0 line
-IsLine-next_row m errors line row is = record {
-  whole = is.whole;
-  this = λ j l. absurd (omega arith);
-  above = λ j l lj.
-      let back : m.width - 1 - (m.width - 1 - j) ≡ 0 + j = omega arith in
-      ap (λ column. channels (get_or line column [])) (column-next_row m.width row j lj)
-      ∙ (is.this (m.width - 1 - j) (omega arith) ∙ ap (error_back m errors) back);
-  lanes = is.lanes;
-}
+IsLine-next_row m errors line row is = grind (arith, nat_tests, column-next_row)
 
 -- before the first row there is no error
 pub IsLine-none : (m : Mapped) (indices : List ℕ) (line : List (List ℕ))
     → line ≡ replicate m.width (no_error_lanes m.strength)
     → AreErrors (no_error_lanes m.strength) → IsLine m (errors_of m indices 0) 0 0 line
 unfolding errors_of
-IsLine-none m indices line same lanes =
-    let none = no_error_lanes m.strength in
-    rw same (record {
-      whole = length-replicate m.width none;
-      this = λ j l. absurd (omega arith);
-      above = λ j l lj.
-          ap channels (get_or-replicate m.width (column_of_step m.width 0 j) none []
-          (column-lt m.width 0 j lj));
-      lanes = λ k l. rw (get_or-replicate m.width k none [] l) lanes;
-    })
+IsLine-none m indices line same lanes = grind (arith, length-replicate, get_or-replicate, column-lt)

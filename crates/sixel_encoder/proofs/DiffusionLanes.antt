@@ -1,5 +1,5 @@
 -- Four lanes of 16 bits as a function of the lane, after each operation, where none of them wraps.
-use Rattle.std.proofs.Common.{◌≡◌, ℕ, zero, suc, ◌+◌, ◌-◌, ◌*◌, ◌/◌, ◌^◌, ◌%◌, ◌<◌, ◌≤◌, max, cond}
+use Rattle.std.proofs.Common.{◌≡◌, ℕ, ◌+◌, ◌-◌, ◌*◌, ◌/◌, ◌^◌, ◌%◌, ◌<◌, ◌≤◌, max, cond}
 use Rattle.std.proofs.Common.{true, false, List, [], ◌∷◌, length, map, get_or, take, drop, nat_lt}
 use Rattle.std.proofs.Common.{refl, sym, ap, ◌∙◌, inl, inr, w16, arith}
 use Rattle.std.proofs.lemmas.Bool.{cases_lt}
@@ -22,12 +22,7 @@ lanes-splat x = record { four = refl; each = λ k l. get_or-replicate 4 k x 0 l 
 -- of an operation on two vectors
 lanes-zip2 : (h : ℕ → ℕ → ℕ) (xs ys : List ℕ) (f g r : ℕ → ℕ) → AreLanes xs f → AreLanes ys g
     → ((k : ℕ) → k < 4 → h (f k) (g k) ≡ r k) → AreLanes (zip2 h xs ys) r
-lanes-zip2 h xs ys f g r a b same = record {
-  four = length-zip2 h xs ys (a.four ∙ sym b.four) ∙ a.four;
-  each = λ k l.
-      get_or-zip2 h xs ys k 0 0 0 (omega (arith, l, a.four)) (omega (arith, l, b.four))
-      ∙ (ap (λ x. h x (get_or ys k 0)) (a.each k l) ∙ (ap (h (f k)) (b.each k l) ∙ same k l));
-}
+lanes-zip2 h xs ys f g r a b same = grind (arith, nat_tests, length-zip2, get_or-zip2)
 
 -- a sum, a difference, a product and a shift to the right
 pub lanes-plus : (xs ys : List ℕ) (f g : ℕ → ℕ) → AreLanes xs f → AreLanes ys g
@@ -56,20 +51,22 @@ lanes-shift xs ys f g a b = lanes-zip2 _ xs ys f g _ a b (λ k l. refl)
 abbrev less : ℕ → ℕ → ℕ
 less a b = cond (nat_lt a b) 65535 0
 
--- the greater of two lanes
-pub lanes-max : (xs ys : List ℕ) (f g : ℕ → ℕ) → AreLanes xs f → AreLanes ys g
-    → AreLanes (sel_l (map (top 15) (zip2 less xs ys)) ys xs) (λ k. max (f k) (g k))
-lanes-max xs ys f g a b =
+-- one lane or another, by which of two numbers is less
+lanes-choice : (xs ys us vs : List ℕ) (f g p q r : ℕ → ℕ) → AreLanes xs f → AreLanes ys g
+    → AreLanes us p → AreLanes vs q → ((k : ℕ) → k < 4 → f k < g k → p k ≡ r k)
+    → ((k : ℕ) → k < 4 → g k ≤ f k → q k ≡ r k)
+    → AreLanes (sel_l (map (top 15) (zip2 less xs ys)) us vs) r
+lanes-choice xs ys us vs f g p q r a b u v first second =
     let tests = zip2 less xs ys in
     let long : length (map (top 15) tests) ≡ 4 =
     length-map tests (top 15) ∙ (length-zip2 less xs ys (a.four ∙ sym b.four) ∙ a.four) in
     record {
       four =
-          length-sel_l (map (top 15) tests) ys xs (long ∙ sym b.four) (long ∙ sym a.four) ∙ long;
+          length-sel_l (map (top 15) tests) us vs (long ∙ sym u.four) (long ∙ sym v.four) ∙ long;
       each = λ k l.
-          get_or-sel_l (map (top 15) tests) ys xs k 0 (omega (arith, l, long))
-          (omega (arith, l, b.four)) (omega (arith, l, a.four))
-          ∙ (ap (λ t. cond t (get_or ys k 0) (get_or xs k 0))
+          get_or-sel_l (map (top 15) tests) us vs k 0 (omega (arith, l, long))
+          (omega (arith, l, u.four)) (omega (arith, l, v.four))
+          ∙ (ap (λ t. cond t (get_or us k 0) (get_or vs k 0))
           (ap (λ ms. get_or ms k false) (tops_compared w16 nat_lt xs ys)
           ∙ get_or-zip2 nat_lt xs ys k 0 0 false (omega (arith, l, a.four))
           (omega (arith, l, b.four)))
@@ -77,20 +74,43 @@ lanes-max xs ys f g a b =
             | inl below ↦
                 let is : nat_lt (get_or xs k 0) (get_or ys k 0) ≡ true =
                 grind (arith, nat_tests) in
-                rw is (omega (arith, below, a.each k l, b.each k l))
+                rw is (u.each k l ∙ first k l (omega (arith, below, a.each k l, b.each k l)))
             | inr above ↦
                 let is : nat_lt (get_or xs k 0) (get_or ys k 0) ≡ false =
                 grind (arith, nat_tests) in
-                rw is (omega (arith, above, a.each k l, b.each k l))
+                rw is (v.each k l ∙ second k l (omega (arith, above, a.each k l, b.each k l)))
           ]));
     }
 
+-- the greater of two lanes
+pub lanes-max : (xs ys : List ℕ) (f g : ℕ → ℕ) → AreLanes xs f → AreLanes ys g
+    → AreLanes (sel_l (map (top 15) (zip2 less xs ys)) ys xs) (λ k. max (f k) (g k))
+lanes-max xs ys f g a b =
+    lanes-choice xs ys ys xs f g g f _ a b b a (λ k l below. omega arith)
+    (λ k l above. omega arith)
+
+-- a sum that saturates
+pub lanes-saturating : (xs ys : List ℕ) (f g : ℕ → ℕ) → AreLanes xs f → AreLanes ys g
+    → ((k : ℕ) → k < 4 → f k + g k < 65536)
+    → let rest = map (λ a. 65535 - a) xs in
+    AreLanes (zip2 (λ a b. (a + b) % 65536) xs
+    (sel_l (map (top 15) (zip2 less ys rest)) ys rest)) (λ k. f k + g k)
+lanes-saturating xs ys f g a b fit =
+    let rest = map (λ a. 65535 - a) xs in
+    let spare : AreLanes rest (λ k. 65535 - f k) =
+    record {
+      four = length-map xs (λ a. 65535 - a) ∙ a.four;
+      each = λ k l.
+          get_or-map (λ a. 65535 - a) xs k 0 0 (omega (arith, l, a.four))
+          ∙ ap (λ x. 65535 - x) (a.each k l);
+    } in
+    lanes-plus xs _ f g a
+    (lanes-choice ys rest ys rest g (λ k. 65535 - f k) g (λ k. 65535 - f k) g b spare b spare
+    (λ k l below. refl) (λ k l above. omega (arith, fit k l))) fit
+
 -- lanes that get wider
 pub lanes-cast : (xs : List ℕ) (f : ℕ → ℕ) → AreLanes xs f → AreLanes (map (λ x. x) xs) f
-lanes-cast xs f a = record {
-  four = length-map xs (λ x. x) ∙ a.four;
-  each = λ k l. get_or-map (λ x. x) xs k 0 0 (omega (arith, l, a.four)) ∙ a.each k l;
-}
+lanes-cast xs f a = grind (arith, nat_tests, length-map, get_or-map)
 
 -- four numbers of a list
 pub lanes-chunk : (xs : List ℕ) (at : ℕ) → at + 4 ≤ length xs
@@ -103,25 +123,17 @@ lanes-chunk xs at within = record {
 -- so they have a common bound, as there is none past them
 pub small-lanes : (xs : List ℕ) (f : ℕ → ℕ) (most : ℕ) → AreLanes xs f
     → ((k : ℕ) → k < 4 → f k ≤ most) → (k : ℕ) → get_or xs k 0 ≤ most
-small-lanes xs f most are small k = elim (cases_lt k 4) [
-  | inl inside ↦ omega (arith, are.each k inside, small k inside)
-  | inr past ↦ omega (arith, get_or_past xs k 0 (omega (arith, past, are.four)))
-]
+small-lanes xs f most are small k = grind (arith, nat_tests, get_or_past)
 
 -- what holds of each of four
 pub each_of_four : (P : ℕ → Type 0) → P 0 → P 1 → P 2 → P 3 → (k : ℕ) → k < 4 → P k
-each_of_four P a b c d zero less = a
-each_of_four P a b c d (suc zero) less = b
-each_of_four P a b c d (suc (suc zero)) less = c
-each_of_four P a b c d (suc (suc (suc zero))) less = d
-each_of_four P a b c d (suc (suc (suc (suc k)))) less = absurd (omega (arith, less))
+each_of_four P a b c d k less = grind (arith, nat_tests)
 
 -- what is passed on in each
 pub lanes-passed_on : (xs : List ℕ) (f g : ℕ → ℕ) (wide strength : ℕ) → wide ≡ strength
     → AreLanes xs (λ k. (f k + 4096 - g k * 16) * wide / 2 ^ 3) → (k : ℕ) → k < 4
     → get_or xs k 0 ≡ passed_on strength (f k) (g k)
-lanes-passed_on xs f g wide strength same are k l =
-    let turned : g k * 16 ≡ 16 * g k = omega arith in are.each k l ∙ rw (same, turned) refl
+lanes-passed_on xs f g wide strength same are k l = grind (arith, nat_tests)
 
 -- the lanes of a color, rounded
 abbrev rounded : List ℕ → List ℕ

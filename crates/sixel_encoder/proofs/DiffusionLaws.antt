@@ -1,12 +1,10 @@
 -- The laws of error diffusion: errors are bounded, their shares add up to them, and there are none
 -- in an image whose colors the palette has.
-use Rattle.std.proofs.Common.{◌≡◌, ℕ, zero, suc, ◌+◌, ◌-◌, ◌*◌, ◌<◌, ◌≤◌, List, [], ◌∷◌, Bool, true}
-use Rattle.std.proofs.Common.{false, cond, length, refl, ap, sym, subst, ◌∙◌, arith, inl, inr}
-use Rattle.std.specs.Prelude.{◌/◌, ◌%◌, ◌==◌, All, Contains, slice_index, slice_index_or}
-use Rattle.std.proofs.lemmas.Bool.{cases_lt}
+use Rattle.std.proofs.Common.{◌≡◌, ℕ, zero, suc, ◌+◌, ◌-◌, ◌*◌, ◌<◌, ◌≤◌, List, [], ◌∷◌, Bool}
+use Rattle.std.proofs.Common.{cond, length, refl, ap, sym, subst, ◌∙◌, arith}
+use Rattle.std.specs.Prelude.{◌/◌, ◌==◌, All, Contains, slice_index, slice_index_or}
 use Rattle.std.proofs.lemmas.List.{get_or_default, get_or_past}
 use Rattle.std.proofs.lemmas.List.Elements.{All-cons, All-nil}
-use Rattle.std.proofs.lemmas.Nat.{mul-le}
 use Rattle.sixel_palette.specs.Palette.{AreIndices, IsNearest, IsOpaque, color_at, distance}
 use Rattle.sixel_palette.proofs.PaletteDistance.{below_three, distance_self, same_from_distance}
 use Rattle.sixel_encoder.specs.Dithering.{AreMapped, Mapped, before_share, below_share}
@@ -14,11 +12,11 @@ use Rattle.sixel_encoder.specs.Dithering.{channel_error, error_above, error_back
 use Rattle.sixel_encoder.specs.Dithering.{error_behind, error_beyond, errors_of, neighbor_of}
 use Rattle.sixel_encoder.specs.Dithering.{next_share, no_error, opaque_error, passed_on}
 use Rattle.sixel_encoder.specs.Dithering.{received, rest_share, rounded_sixteenths, serpentine}
-use Rattle.sixel_encoder.specs.Dithering.{sixteenths, target_of_visit, visit_error, with_received}
-use Rattle.sixel_encoder.proofs.DiffusionVisit.{visit_error-opaque, visit_error-transparent}
+use Rattle.sixel_encoder.specs.Dithering.{sixteenths, target_of_visit, visit_error}
 use Rattle.sixel_encoder.proofs.DitheredIndices.{AreEntries-mapped, AreIndices-mapped}
 use Rattle.sixel_encoder.proofs.DitheredIndices.{AreMapped-exact, AreRows, visit-inside}
 use Rattle.sixel_encoder.proofs.KeptEntries.{IsNearest-exact, neighbor-inside}
+use Rattle.std.proofs.lemmas.Bool.Decides.{nat_tests}
 
 -- the shares of an error add up to it
 pub shares-sum : (error : ℕ)
@@ -33,10 +31,8 @@ pub passed_on-bounds : (strength value entry : ℕ) → value ≤ 4080 → entry
     × (passed_on strength value entry ≤ 512 * strength + 510 * strength)
 passed_on-bounds strength value entry small byte =
     let gap = value + 4096 - 16 * entry in
-    let low : 16 * strength ≤ gap * strength =
-    mul-le 16 strength gap strength (omega arith) (omega arith) in
-    let high : gap * strength ≤ 8176 * strength =
-    mul-le gap strength 8176 strength (omega arith) (omega arith) in
+    let low : 16 * strength ≤ gap * strength = grind (arith, nat_tests) in
+    let high : gap * strength ≤ 8176 * strength = grind (arith, nat_tests) in
     (omega (arith, low), omega (arith, high))
 
 -- ---- no errors
@@ -44,17 +40,12 @@ passed_on-bounds strength value entry small byte =
 -- what holds of no error and of these errors holds of one that is some visits back
 error_back-all : (P : List ℕ → Type 0) (m : Mapped) (errors : List (List ℕ)) (back : ℕ)
     → P (no_error m.strength) → All P errors → P (error_back m errors back)
-error_back-all P m errors back none all =
-    elim (cases_lt back (length errors)) [
-      | inl inside ↦ all back (no_error m.strength) inside
-      | inr past ↦ subst P (sym (get_or_past errors back (no_error m.strength) past)) none
-    ]
+error_back-all h m errors back none all = grind (arith, nat_tests, get_or_past)
 
 -- and where a test chooses no error
 chosen-all : (P : List ℕ → Type 0) (test : Bool) (strength : ℕ) (error : List ℕ)
     → P (no_error strength) → P error → P (cond test (no_error strength) error)
-chosen-all P true strength error none is = none
-chosen-all P false strength error none is = is
+chosen-all P test strength error none is = grind (arith, nat_tests)
 
 -- so it holds of the errors of a pixel's neighbors
 pub record AreNeighbors (P : List ℕ → Type 0) (m : Mapped) (errors : List (List ℕ)) (step : ℕ)
@@ -90,13 +81,7 @@ errors-all P m indices zero none each = All-nil P
 errors-all P m indices (suc n) none each =
     let errors = errors_of m indices n in
     let before = errors-all P m indices n none (λ k l. each k (omega arith)) in
-    let own : P (visit_error m indices errors n) =
-    elim (cases_lt (slice_index m.pixels (4 * serpentine m.width n + 3)) 128) [
-      | inl dark ↦ subst P (sym (visit_error-transparent m indices errors n dark)) none
-      | inr light ↦
-          subst P (sym (visit_error-opaque m indices errors n light))
-          (each n (omega arith) before light)
-    ] in
+    let own : P (visit_error m indices errors n) = grind (arith, nat_tests) in
     All-cons P (visit_error m indices errors n) errors own before
 
 -- each of these errors is none
@@ -105,8 +90,7 @@ AreNone m errors = All (λ error. error ≡ no_error m.strength) errors
 
 -- no error is the same in each channel
 channel-none : (strength k : ℕ) → k < 3 → slice_index (no_error strength) k ≡ 512 * strength
-channel-none strength k l =
-    below_three (λ k. slice_index (no_error strength) k ≡ 512 * strength) refl refl refl k l
+channel-none strength k l = grind (arith, nat_tests)
 
 -- so a pixel receives nothing
 received-none : (m : Mapped) (errors : List (List ℕ)) (step k : ℕ) → AreNone m errors → k < 3
@@ -126,11 +110,7 @@ received-none m errors step k none l =
 sixteenths-none : (m : Mapped) (errors : List (List ℕ)) (n k : ℕ) → AreNone m errors → k < 3
     → ((j : ℕ) → slice_index m.pixels j < 256)
     → sixteenths m errors n k ≡ 16 * slice_index m.pixels (4 * serpentine m.width n + k)
-sixteenths-none m errors n k none l bytes =
-    let place = 4 * serpentine m.width n + k in
-    ap (with_received m.strength (slice_index m.pixels place))
-    (received-none m errors (n % m.width) k none l)
-    ∙ omega (arith, bytes place)
+sixteenths-none m errors n k none l bytes = grind (arith, nat_tests, received-none)
 
 -- the target is the pixel's color
 target-none : (m : Mapped) (errors : List (List ℕ)) (n : ℕ) → AreNone m errors

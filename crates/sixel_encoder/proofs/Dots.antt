@@ -43,9 +43,7 @@ grid_text-some rows width from entry h = grind (arith, nat_tests)
 -- a loop that appends what it joins: one list more
 pub appended-more : (f : ℕ → List ℕ) (n : ℕ) (start now new part : List ℕ)
     → now ≡ start ++ joined f n → new ≡ now ++ part → part ≡ f n → new ≡ start ++ joined f (n + 1)
-appended-more f n start now new part was is same =
-    is ∙ (ap (λ s. s ++ part) was ∙ (ap (λ p. (start ++ joined f n) ++ p) same
-    ∙ (append_assoc start (joined f n) (f n) ∙ ap (λ s. start ++ s) (sym (joined-more f n)))))
+appended-more f n start now new part was is same = grind (arith, append_assoc, joined-more)
 
 -- and an empty list more
 pub appended-none : (f : ℕ → List ℕ) (n : ℕ) (start now : List ℕ) → now ≡ start ++ joined f n

@@ -3,7 +3,7 @@ use Rattle.std.specs.Prelude.{None, Option, decimal, is_some, ◌/◌}
 use Rattle.std.proofs.Common.{Bool, List, ap, arith, cond, false, inl, inr, length, max, nat_lt}
 use Rattle.std.proofs.Common.{refl, subst, suc, sym, true, zero, ℕ, ◌*◌, ◌+◌, ◌<◌, ◌∙◌, ◌∷◌, ◌≡◌}
 use Rattle.std.proofs.Common.{◌≤◌, []}
-use Rattle.std.proofs.lemmas.Bool.{cases_Bool, cases_eq, cases_lt, cond-false, cond-true}
+use Rattle.std.proofs.lemmas.Bool.{cases_Bool, cases_eq, cond-false, cond-true}
 use Rattle.std.proofs.lemmas.Bool.Decides.{nat_tests}
 use Rattle.sixel_base.specs.History.{History, Repeat, Sixel}
 use Rattle.sixel_base.specs.Payload.{cropped_height}
@@ -93,14 +93,7 @@ height-row :
     × (height (with_run_tokens (row_tokens row) h) ≤ max (height h) (6 * pen.band + 6))
     × (0 < length row → 6 * pen.band + 6 ≤ height (with_run_tokens (row_tokens row) h))
 height-row drawing start palette pen row h may follows =
-    elim (cases_lt 0 (length row)) [
-      | inl some ↦
-          let high =
-          height-run_tokens (row_tokens row) h (AreSound-row row may.small) follows.single
-          (omega (arith, ap length (spells row).joined)) in
-          (omega (arith, high), omega (arith, high), λ l. omega (arith, high))
-      | inr none ↦ grind (arith, nat_tests, empty-row)
-    ]
+    grind (arith, nat_tests, height-run_tokens, AreSound-row, spells, empty-row)
 
 -- a row that sets a pixel has a sixel, and the pixel is in its band
 lit-row : (row : List ℕ) (from top column line : ℕ) → is_lit row from top column line ≡ true
@@ -221,7 +214,5 @@ pub cropped_height-tokens :
     (crop : Bool) (drawing : Drawing) (definitions : List Definition) (marks : List Mark)
     → IsWritable drawing → Draws drawing definitions marks
     → cropped_height crop (tokens drawing definitions marks) ≡ trip_height crop drawing
-cropped_height-tokens true drawing definitions marks is draws =
-    grind (arith, nat_tests, raster_height-palette, raster_height-marks, height-cropped)
-cropped_height-tokens false drawing definitions marks is draws =
-    height-tokens drawing definitions marks is draws
+cropped_height-tokens crop drawing definitions marks is draws =
+    grind (arith, raster_height-palette, raster_height-marks, height-cropped, height-tokens)

@@ -7,7 +7,6 @@ use Rattle.sixel_base.specs.declared.error.SixelError.{SixelError}
 use Rattle.sixel_base.specs.declared.error.SixelError.TheVariants.{OutOfMemory}
 use Rattle.sixel_base.specs.declared.settings.BackgroundMode.TheVariants.{Transparent}
 use Rattle.sixel_base.specs.Size.{banded}
-use Rattle.sixel_base.specs.Decoder.{new_decoder}
 use Rattle.sixel_base.specs.declared.state.DecoderState.{DecoderState}
 use Rattle.sixel_base.specs.Payload.{Image}
 use Rattle.sixel_encoder.specs.declared.form.TextForm.{TextForm}
@@ -67,12 +66,6 @@ short-written form bytes (Ok text) image k plain one fits is also =
     let same : is.0 ≡ also.0 = one is.0 also.0 fits is.1 also.1 in
     grind (arith, nat_tests, length-form)
 short-written form bytes (Err e) image k plain one fits is also = tt
-
--- so a new decoder can read it
-pub readable-written : {S : Type 0} (result : Result S SixelError) (image : Image)
-    → MatchOption (image_fault image) (IfErr result (λ e. e ≡ OutOfMemory)) (λ f. result ≡ Err f)
-    → OnOk result (CanRead new_decoder image.width image.height)
-readable-written result image refused = grind (arith, nat_tests, accepted)
 
 pub one_string-written : {S : Type 0} (form : TextForm) (bytes : S → List ℕ)
     (result : Result S SixelError) (limit : Limit) (image : Image) (k : ℕ)

@@ -96,14 +96,12 @@ transparent-lane entries column bit lane are lc is none = grind (arith, nat_test
 -- whether a lane has an entry
 lane-entry : (entry : ℕ) (place : Option ℕ) → entry < 256
     → (lane_of place == entry) ≡ is_entry entry place
-lane-entry entry None l = grind (arith, nat_tests)
-lane-entry entry (Some other) l = refl
+lane-entry entry place l = grind (arith, nat_tests)
 
 -- whether a lane of a pixel is transparent
 lane-none : (place : Option ℕ) → ((e : ℕ) → place ≡ Some e → e < 256)
     → (lane_of place == 256) ≡ not (is_some place)
-lane-none None known = refl
-lane-none (Some other) known = let l = known other refl in grind (arith, nat_tests)
+lane-none place known = grind (arith, nat_tests)
 
 -- the lanes with an entry are the sixel of the entry
 pub sixel-lanes : (entries : BandEntries) (column entry : ℕ) → AreLanes entries
@@ -135,8 +133,7 @@ pub same-lane : (entries : BandEntries) (column bit other : ℕ) → AreLanes en
     ≡ lane_of (entry_at (drawing_of entries.image.now) column (6 * entries.band + other))
     → entry_at (drawing_of entries.image.now) column (6 * entries.band + bit)
     ≡ entry_at (drawing_of entries.image.now) column (6 * entries.band + other)
-same-lane entries column bit other are lc same =
-    grind (arith, nat_tests, transparent-lane, opaque-lane)
+same-lane entries column bit other are lc same = grind (arith, transparent-lane, opaque-lane)
 
 -- the transparent lanes are the sixel of the transparent pixels and two more bits
 pub transparent-lanes : (entries : BandEntries) (column : ℕ) → AreLanes entries

@@ -2,7 +2,7 @@
 use Rattle.std.specs.List.{range_with_len}
 use Rattle.std.specs.Prelude.{All, Some, slice_index, slice_index_or, ◌==◌}
 use Rattle.std.proofs.Common.{List, ap, arith, false, length}
-use Rattle.std.proofs.Common.{true, ℕ, ◌*◌, ◌+◌, ◌-◌, ◌<◌, ◌∙◌, ◌≡◌, ◌≤◌}
+use Rattle.std.proofs.Common.{true, ℕ, ◌*◌, ◌+◌, ◌<◌, ◌∙◌, ◌≡◌, ◌≤◌}
 use Rattle.std.proofs.lemmas.Bool.{both_ways}
 use Rattle.std.proofs.lemmas.Bool.Decides.{nat_tests}
 use Rattle.std.proofs.lemmas.List.Elements.{All-map}
@@ -65,8 +65,7 @@ lit-own drawing band entry column line lit =
 pub own-lit : (drawing : Drawing) (band entry column line : ℕ) → column < drawing.width
     → IsInBand band line → entry_at drawing column line ≡ Some entry
     → is_lit (row_of drawing band entry) 0 (6 * band) column line ≡ true
-own-lit drawing band entry column line lc at e =
-    grind (arith, nat_tests, lit-struck, struck-inside, itself)
+own-lit drawing band entry column line lc at e = grind (arith, lit-struck, struck-inside, itself)
 
 -- a row with no dot has no bit anywhere
 has_dot-none : (row : List ℕ) (column : ℕ) → has_dot row ≡ false → slice_index row column ≡ 0

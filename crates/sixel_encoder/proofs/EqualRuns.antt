@@ -1,9 +1,8 @@
 -- What a row's tokens are where equal sixels follow, and runs of equal sixels that are joined.
-use Rattle.std.proofs.Common.{◌≡◌, ℕ, zero, suc, ◌+◌, ◌-◌, ◌<◌, ◌≤◌, List, ◌∷◌, length, get_or}
+use Rattle.std.proofs.Common.{◌≡◌, ℕ, zero, suc, ◌+◌, ◌<◌, ◌≤◌, List, ◌∷◌, length, get_or}
 use Rattle.std.proofs.Common.{drop, ap, ◌∙◌, arith}
 use Rattle.std.proofs.Math.Seq.{drop-cons}
 use Rattle.sixel_encoder.specs.RunTokens.{tokens_after}
-use Rattle.sixel_encoder.specs.inside.Runs.{IsRun}
 use Rattle.sixel_encoder.proofs.ShortestRows.{tokens_after-same}
 use Rattle.std.proofs.lemmas.Bool.Decides.{nat_tests}
 
@@ -16,16 +15,9 @@ tokens_skip (suc n) row at count bits l same =
     let a : at + suc n ≡ at + 1 + n = omega arith in
     let c : count + suc n ≡ count + 1 + n = omega arith in
     let one : at + 1 ≡ suc at = omega arith in
-    let cut : drop at row ≡ get_or row at 0 ∷ drop (at + 1) row =
-    rw one (drop-cons row at 0 (omega arith)) in
+    let cut : drop at row ≡ get_or row at 0 ∷ drop (at + 1) row = grind (arith, one, drop-cons) in
     ap (tokens_after count bits) cut
     ∙ tokens_after-same count bits (get_or row at 0) (drop (at + 1) row)
     (same at (omega arith) (omega arith))
     ∙ rw (a, c) (tokens_skip n row (at + 1) (count + 1) bits (omega arith)
     (λ k f t. same k (omega arith) (omega arith)))
-
--- a run and the one right after it are one run
-pub run_join : (row : List ℕ) (at middle end bits : ℕ) → at ≤ middle → middle ≤ end
-    → IsRun row at bits (middle - at) → IsRun row middle bits (end - middle)
-    → IsRun row at bits (end - at)
-run_join row at middle end bits first second run more = grind (arith, nat_tests)

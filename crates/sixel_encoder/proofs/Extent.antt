@@ -116,5 +116,4 @@ pub height-run_tokens : (tokens : List RunToken) (h : History) → AreSound toke
     → 0 < length (flat_map sixels tokens)
     → height (with_run_tokens tokens h) ≡ max (height h) (down h + 6)
 height-run_tokens [] h are one some = absurd (omega arith)
-height-run_tokens (token ∷ tokens) h are one some =
-    grind (arith, nat_tests, height-kept, height-run_token)
+height-run_tokens (token ∷ tokens) h are one some = grind (arith, height-kept, height-run_token)

@@ -1,21 +1,19 @@
 -- Error diffusion in a palette of grays: its errors are gray, and bounded by the palette's levels.
 use Rattle.std.proofs.Common.{◌≡◌, ℕ, ◌+◌, ◌-◌, ◌*◌, ◌<◌, ◌≤◌, List, [], true}
-use Rattle.std.proofs.Common.{cond, length, refl, ap, sym, ◌∙◌, arith, inl, inr}
-use Rattle.std.specs.Prelude.{◌/◌, ◌%◌, All, slice_index, slice_index_or}
+use Rattle.std.proofs.Common.{length, refl, ap, ◌∙◌, arith}
+use Rattle.std.specs.Prelude.{◌%◌, All, slice_index, slice_index_or}
 use Rattle.std.specs.Int.{abs_diff}
-use Rattle.std.proofs.lemmas.Bool.{cases_lt}
 use Rattle.std.proofs.lemmas.Bool.Decides.{nat_tests}
 use Rattle.std.proofs.lemmas.List.{get_or_past}
 use Rattle.std.proofs.lemmas.Nat.{mul-le}
 use Rattle.sixel_palette.specs.Palette.{IsOpaque, color_at, distance, square_gap}
-use Rattle.sixel_palette.proofs.PaletteDistance.{below_three}
 use Rattle.sixel_encoder.specs.declared.mapping.Mapping.{Mapping}
 use Rattle.sixel_encoder.specs.Dithering.{HasTarget, Mapped}
 use Rattle.sixel_encoder.specs.Dithering.{errors_of, mapped_of, neighbor_of, no_error}
 use Rattle.sixel_encoder.specs.Dithering.{opaque_error, passed_on, received, rounded_sixteenths}
 use Rattle.sixel_encoder.specs.Dithering.{serpentine, sixteenths, target_of_visit}
 use Rattle.sixel_encoder.specs.Dithering.{with_received}
-use Rattle.sixel_encoder.specs.Gray.{gray_color, gray_pixels, is_gray, maps_grays}
+use Rattle.sixel_encoder.specs.Gray.{gray_pixels, is_gray, maps_grays}
 use Rattle.sixel_encoder.specs.Gray.{source_pixels}
 use Rattle.sixel_encoder.specs.GrayDiffusion.{AreGrays, level_gap}
 use Rattle.sixel_encoder.specs.Dithering.{error_above, error_before, error_behind, error_beyond}
@@ -33,18 +31,12 @@ is-gray c green blue = grind (arith, nat_tests)
 -- each channel is the first one
 channel-gray : (c : List ℕ) (k : ℕ) → is_gray c ≡ true → k < 3
     → slice_index c k ≡ slice_index c 0
-channel-gray c k is l =
-    let both = gray-channels c is in
-    below_three (λ k. slice_index c k ≡ slice_index c 0) refl both.0 both.1 k l
+channel-gray c k is l = grind (arith, nat_tests)
 
 -- each entry, and what is past them, is gray
 entry-gray : (m : Mapped) (entry : ℕ) → AreGrays m
     → is_gray (slice_index_or m.colors entry []) ≡ true
-entry-gray m entry grays =
-    elim (cases_lt entry (length m.colors)) [
-      | inl inside ↦ are_gray-each m.colors (length m.colors) entry grays.colors inside
-      | inr past ↦ ap is_gray (get_or_past m.colors entry [] past)
-    ]
+entry-gray m entry grays = grind (arith, nat_tests, are_gray-each, get_or_past)
 
 -- ---- errors
 
@@ -77,8 +69,7 @@ sixteenths-gray m errors n k grays gray l =
     let first : at ≡ at + 0 = omega arith in
     let start = ap (slice_index m.pixels) first in
     let value : slice_index m.pixels (at + k) ≡ slice_index m.pixels (at + 0) =
-    below_three (λ k. slice_index m.pixels (at + k) ≡ slice_index m.pixels (at + 0)) refl
-    (both.0 ∙ start) (both.1 ∙ start) k l in
+    grind (arith, nat_tests) in
     ap (λ v. with_received m.strength v (received m errors (n % m.width) k)) value
     ∙ ap (with_received m.strength (slice_index m.pixels (at + 0)))
     (received-gray m errors (n % m.width) k gray l)
@@ -86,10 +77,7 @@ sixteenths-gray m errors n k grays gray l =
 -- the target of a visit, and its error
 target-gray : (m : Mapped) (errors : List (List ℕ)) (n : ℕ) → AreGrays m → AreGrayErrors errors
     → is_gray (target_of_visit m errors n) ≡ true
-target-gray m errors n grays gray =
-    is-gray (target_of_visit m errors n)
-    (ap rounded_sixteenths (sixteenths-gray m errors n 1 grays gray (omega arith)))
-    (ap rounded_sixteenths (sixteenths-gray m errors n 2 grays gray (omega arith)))
+target-gray m errors n grays gray = grind (arith, nat_tests, is-gray, sixteenths-gray)
 
 opaque-gray : (m : Mapped) (errors : List (List ℕ)) (n : ℕ) (entry : List ℕ) → AreGrays m
     → AreGrayErrors errors → is_gray entry ≡ true → is_gray (opaque_error m errors n entry) ≡ true
@@ -121,10 +109,7 @@ distance-gray : (a b : List ℕ) → is_gray a ≡ true → is_gray b ≡ true
     ≡ 3 * (abs_diff (slice_index a 0) (slice_index b 0)
     * abs_diff (slice_index a 0) (slice_index b 0))
 unfolding distance square_gap
-distance-gray a b first second =
-    let a-both = gray-channels a first in
-    let b-both = gray-channels b second in
-    rw (a-both.0, a-both.1, b-both.0, b-both.1) (omega arith)
+distance-gray a b first second = grind (arith, nat_tests)
 
 -- so the own level is the nearest one
 pub gap-near : (m : Mapped) (indices : List ℕ) (n entry : ℕ) → AreGrays m
@@ -167,26 +152,9 @@ passed_on-gap strength value entry small byte =
 
 -- the grays of an image are gray
 pixel-gray : (p : List ℕ) (pixel : ℕ) → is_gray (color_at (gray_pixels p) pixel) ≡ true
-pixel-gray p pixel =
-    elim (cases_lt pixel (length p / 4)) [
-      | inl inside ↦
-          ap is_gray (gray-color p pixel inside)
-          ∙ is-gray (gray_color (color_at p pixel)) refl refl
-      | inr past ↦
-          let none : (k : ℕ) → k < 3 → slice_index (gray_pixels p) (4 * pixel + k) ≡ 0 = λ k l.
-          get_or_past (gray_pixels p) (4 * pixel + k) 0 (omega (arith, gray-length p)) in
-          let first : 4 * pixel ≡ 4 * pixel + 0 = omega arith in
-          let red = ap (slice_index (gray_pixels p)) first ∙ none 0 (omega arith) in
-          is-gray (color_at (gray_pixels p) pixel)
-          (none 1 (omega arith) ∙ sym red) (none 2 (omega arith) ∙ sym red)
-    ]
+pixel-gray p pixel = grind (arith, nat_tests, gray-color, is-gray, get_or_past, gray-length)
 
 pub AreGrays-source : (mapping : Mapping) (width : ℕ) (p : List ℕ) (colors : List (List ℕ))
     → maps_grays mapping.dither colors ≡ true
     → AreGrays (mapped_of mapping width (source_pixels mapping.dither colors p) colors)
-AreGrays-source mapping width p colors is = record {
-  pixels = λ pixel.
-      ap (λ grays. is_gray (color_at (cond grays (gray_pixels p) p) pixel)) is
-      ∙ pixel-gray p pixel;
-  colors = maps-gray mapping.dither colors is;
-}
+AreGrays-source mapping width p colors is = grind (arith, nat_tests, pixel-gray, maps-gray)

@@ -1,29 +1,28 @@
 -- The pixels that are mapped: those of an image, or its grays. Their opaque pixels are the same.
 use Rattle.std.proofs.Common.{◌≡◌, ℕ, zero, suc, ◌+◌, ◌*◌, ◌<◌, List, [], ◌∷◌, Bool, true, cond}
-use Rattle.std.proofs.Common.{length, get_or, nat_le, refl, ap, sym, subst, ◌∙◌, arith, inl, inr}
-use Rattle.std.proofs.Common.{false, true≢false}
-use Rattle.std.specs.Prelude.{◌/◌, ◌%◌, ◌==◌, ◌&&◌, Contains, None, Some, slice_index}
+use Rattle.std.proofs.Common.{length, get_or, refl, ap, sym, subst, ◌∙◌, arith, inl, inr}
+use Rattle.std.proofs.Common.{false}
+use Rattle.std.specs.Prelude.{◌/◌, ◌%◌, ◌&&◌, Contains, slice_index}
 use Rattle.std.specs.Prelude.{slice_index_or}
-use Rattle.std.proofs.lemmas.Bool.{and_parts, cases_lt, eqb-true}
+use Rattle.std.proofs.lemmas.Bool.{and_parts, cases_lt}
 use Rattle.std.proofs.lemmas.List.{get_or_default, get_or_past}
-use Rattle.sixel_palette.specs.Palette.{AreIndices, IsNearest, IsOpaque, color_at}
+use Rattle.sixel_palette.specs.Palette.{AreIndices, IsOpaque, color_at}
 use Rattle.sixel_encoder.specs.declared.dither.Dither.{Dither}
-use Rattle.sixel_encoder.specs.declared.dither.Dither.TheVariants.{Diffusion, Off, Ordered}
 use Rattle.sixel_encoder.specs.declared.mapping.Mapping.{Mapping}
-use Rattle.sixel_encoder.specs.Dithering.{AreDithered, HaveTargets, entry_of, mapped_of, target_of}
+use Rattle.sixel_encoder.specs.Dithering.{AreDithered, entry_of, mapped_of, target_of}
 use Rattle.sixel_encoder.specs.Gray.{are_gray, brightness, gray_color, gray_pixel, gray_pixels}
 use Rattle.sixel_encoder.specs.Gray.{is_gray, maps_grays, source_pixels}
 use Rattle.sixel_encoder.proofs.DitheredIndices.{AreRowsOf, mapped-entry}
 use Rattle.sixel_encoder.proofs.PictureBytes.{get_or-joined, length-joined_below}
 use Rattle.sixel_encoder.proofs.SameVisits.{AreAlike}
+use Rattle.std.proofs.lemmas.Bool.Decides.{nat_tests}
 
 -- ---- grays
 
 pub are_gray-more : (colors : List (List ℕ)) (n : ℕ)
     → are_gray colors (n + 1) ≡ are_gray colors n && is_gray (slice_index_or colors n [])
 unfolding are_gray
-are_gray-more colors n =
-    let e : n + 1 ≡ suc n = omega arith in ap (λ x. are_gray colors x) e
+are_gray-more colors n = grind (arith, nat_tests)
 
 -- a byte of an image in gray
 gray-byte : (p : List ℕ) (pixel i : ℕ) → pixel < length p / 4 → i < 4
@@ -54,11 +53,7 @@ pub record IsSource (p s : List ℕ) : Type 0 where
       → slice_index s (4 * pixel + 3) ≡ slice_index p (4 * pixel + 3)
 
 chosen : (p : List ℕ) (grays : Bool) → IsSource p (cond grays (gray_pixels p) p)
-chosen p true = record {
-  count = omega (arith, gray-length p);
-  alpha = λ pixel l. gray-byte p pixel 3 l (omega arith);
-}
-chosen p false = record { count = refl; alpha = λ pixel l. refl }
+chosen p grays = grind (arith, nat_tests, gray-length, gray-byte)
 
 pub IsSource-pixels : (dither : Dither) (colors : List (List ℕ)) (p : List ℕ)
     → IsSource p (source_pixels dither colors p)
@@ -67,23 +62,16 @@ IsSource-pixels dither colors p = chosen p (maps_grays dither colors)
 -- it is whole rows too, and pixels have the same entries
 pub AreRowsOf-source : (p s : List ℕ) (width : ℕ) → IsSource p s → AreRowsOf p width
     → AreRowsOf s width
-AreRowsOf-source p s width is rows =
-    record { some = rows.some; count = rows.count; whole = is.count ∙ rows.whole }
+AreRowsOf-source p s width is rows = grind (arith, nat_tests)
 
 pub entry-source : (p s indices : List ℕ) (pixel : ℕ) → IsSource p s → pixel < length p / 4
     → entry_of p indices pixel ≡ entry_of s indices pixel
-entry-source p s indices pixel is l =
-    ap (λ alpha. cond (nat_le 128 alpha) (Some (slice_index indices pixel)) None)
-    (sym (is.alpha pixel l))
+entry-source p s indices pixel is l = grind (arith, nat_tests)
 
 -- a byte of a pixel of a small gray
 small_byte : (p : List ℕ) (pixel k : ℕ) → brightness (color_at p pixel) < 256
     → slice_index p (4 * pixel + 3) < 256 → get_or (gray_pixel p pixel) k 0 < 256
-small_byte p pixel zero level alpha = level
-small_byte p pixel (suc zero) level alpha = level
-small_byte p pixel (suc (suc zero)) level alpha = level
-small_byte p pixel (suc (suc (suc zero))) level alpha = alpha
-small_byte p pixel (suc (suc (suc (suc k)))) level alpha = omega arith
+small_byte p pixel k level alpha = grind (arith, nat_tests)
 
 -- bytes stay bytes
 bytes-chosen : (p : List ℕ) (grays : Bool) → ((j : ℕ) → slice_index p j < 256) → (j : ℕ)
@@ -125,11 +113,7 @@ gray-alike p q alike =
             omega (arith, same.0, second.alpha pixel there),
             gray-color q pixel there ∙ (ap gray_color same.1 ∙ sym (gray-color p pixel inside)),
           );
-      dark = λ pixel l dark.
-          let inside : pixel < length p / 4 = omega (arith, l, first.count) in
-          let there : pixel < length q / 4 = omega (arith, inside, alike.count) in
-          let same = alike.dark pixel inside (omega (arith, dark, first.alpha pixel inside)) in
-          omega (arith, same, second.alpha pixel there);
+      dark = λ pixel l dark. grind (arith, nat_tests);
     }
 
 chosen-alike : (p q : List ℕ) (grays : Bool) → AreAlike p q
@@ -152,29 +136,18 @@ are_gray-each colors (suc n) k are l =
     let parts = and_parts (are_gray colors n) (is_gray (slice_index_or colors n [])) are in
     elim (cases_lt k n) [
       | inl before ↦ are_gray-each colors n k parts.0 before
-      | inr last ↦
-          let same : n ≡ k = omega arith in
-          subst (λ (i : ℕ). is_gray (slice_index_or colors i []) ≡ true) same parts.1
+      | inr last ↦ grind (arith, nat_tests)
     ]
 
 -- the channels of a gray color
 pub gray-channels : (c : List ℕ) → is_gray c ≡ true
     → (slice_index c 1 ≡ slice_index c 0) × (slice_index c 2 ≡ slice_index c 0)
-gray-channels c is =
-    let parts =
-    and_parts (slice_index c 0 == slice_index c 1) (slice_index c 1 == slice_index c 2) is in
-    let first = eqb-true (slice_index c 0) (slice_index c 1) parts.0 in
-    let second = eqb-true (slice_index c 1) (slice_index c 2) parts.1 in
-    (sym first, sym second ∙ sym first)
+gray-channels c is = grind (arith, nat_tests)
 
 -- a gray is its own
 gray-own : (p : List ℕ) (pixel : ℕ) → is_gray (color_at p pixel) ≡ true
     → gray_color (color_at p pixel) ≡ color_at p pixel
-gray-own p pixel is =
-    let c = color_at p pixel in
-    let both = gray-channels c is in
-    let red : brightness c ≡ slice_index c 0 = omega (arith, both.0, both.1) in
-    λ i. red i ∷ (red ∙ sym both.0) i ∷ (red ∙ sym both.1) i ∷ []
+gray-own p pixel is = grind (arith, nat_tests)
 
 -- an opaque pixel whose color is an entry keeps it
 chosen-own : (p : List ℕ) (colors : List (List ℕ)) (pixel : ℕ) (grays : Bool)
@@ -192,46 +165,24 @@ chosen-own p colors pixel true all l held =
 
 pub maps-gray : (dither : Dither) (colors : List (List ℕ)) → maps_grays dither colors ≡ true
     → are_gray colors (length colors) ≡ true
-maps-gray Off colors is = absurd (true≢false (sym is))
-maps-gray (Ordered amplitude) colors is = absurd (true≢false (sym is))
-maps-gray (Diffusion strength) colors is = is
+maps-gray dither colors is = grind (arith, nat_tests)
 
 pub own-source : (dither : Dither) (colors : List (List ℕ)) (p : List ℕ) (pixel : ℕ)
     → pixel < length p / 4 → Contains colors (color_at p pixel)
     → color_at (source_pixels dither colors p) pixel ≡ color_at p pixel
-own-source dither colors p pixel l held =
-    chosen-own p colors pixel (maps_grays dither colors) (maps-gray dither colors) l held
+own-source dither colors p pixel l held = grind (arith, nat_tests, chosen-own, maps-gray)
 
 -- then the nearest entries of the source are those of the pixels
 pub AreIndices-source : (p s : List ℕ) (colors : List (List ℕ)) (indices : List ℕ) → IsSource p s
     → ((pixel : ℕ) → pixel < length p / 4 → IsOpaque p pixel
     → color_at s pixel ≡ color_at p pixel)
     → AreIndices s colors indices → AreIndices p colors indices
-AreIndices-source p s colors indices is own are = record {
-  one_each = are.one_each ∙ is.count;
-  opaque = λ pixel l light.
-      subst (λ (c : List ℕ). IsNearest colors c (slice_index indices pixel)) (own pixel l light)
-      (are.opaque pixel (omega (arith, l, is.count)) (omega (arith, light, is.alpha pixel l)));
-  hidden = λ pixel l dark.
-      are.hidden pixel (omega (arith, l, is.count)) (omega (arith, dark, is.alpha pixel l));
-}
+AreIndices-source p s colors indices is own are = grind (arith, nat_tests)
 
 -- without an entry there is nothing to map
 pub AreIndices-none : (p s : List ℕ) (colors : List (List ℕ)) (indices : List ℕ) → IsSource p s
     → length colors ≡ 0 → AreIndices p colors indices → AreIndices s colors indices
-AreIndices-none p s colors indices is none are = record {
-  one_each = are.one_each ∙ sym is.count;
-  opaque = λ pixel l light.
-      let inside : pixel < length p / 4 = omega (arith, l, is.count) in
-      absurd (omega (
-        arith,
-        none,
-        (are.opaque pixel inside (omega (arith, light, is.alpha pixel inside))).entry,
-      ));
-  hidden = λ pixel l dark.
-      let inside : pixel < length p / 4 = omega (arith, l, is.count) in
-      are.hidden pixel inside (omega (arith, dark, is.alpha pixel inside));
-}
+AreIndices-none p s colors indices is none are = grind (arith, nat_tests)
 
 -- ---- indices
 
@@ -239,8 +190,7 @@ AreIndices-none p s colors indices is none are = record {
 pub dithered-count : (mapping : Mapping) (width : ℕ) (p : List ℕ) (colors : List (List ℕ))
     (indices : List ℕ) → AreDithered mapping width p colors indices
     → length indices ≡ length p / 4
-dithered-count mapping width p colors indices are =
-    are.one_each ∙ (IsSource-pixels mapping.dither colors p).count
+dithered-count mapping width p colors indices are = grind (arith, nat_tests, IsSource-pixels)
 
 -- that of an opaque pixel is the index of an entry
 pub dithered-entry : (mapping : Mapping) (width : ℕ) (p : List ℕ) (colors : List (List ℕ))
@@ -254,11 +204,3 @@ dithered-entry mapping width p colors indices pixel rows are l light =
     mapped-entry m (target_of mapping.dither m indices) indices pixel
     (AreRowsOf-source p s width is rows) are (omega (arith, l, is.count))
     (omega (arith, light, is.alpha pixel l))
-
--- colors that are mapped as they are
-pub dithered-colors : (mapping : Mapping) (width : ℕ) (p : List ℕ) (colors : List (List ℕ))
-    (indices : List ℕ) → maps_grays mapping.dither colors ≡ false
-    → HaveTargets mapping width p colors indices → AreDithered mapping width p colors indices
-dithered-colors mapping width p colors indices none are =
-    subst (λ (s : List ℕ). HaveTargets mapping width s colors indices)
-    (sym (ap (λ grays. cond grays (gray_pixels p) p) none)) are

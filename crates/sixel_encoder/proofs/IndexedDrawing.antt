@@ -1,14 +1,13 @@
 -- The drawing of an image whose colors are chosen, and that an image has one drawing.
-use Rattle.std.proofs.Common.{◌≡◌, ℕ, ◌+◌, ◌*◌, ◌<◌, ◌≤◌, nat_le, true, false, cond, List, length}
-use Rattle.std.proofs.Common.{get_or, ap, arith, Some, None}
+use Rattle.std.proofs.Common.{◌≡◌, ℕ, ◌+◌, ◌*◌, ◌<◌, ◌≤◌, List, length}
+use Rattle.std.proofs.Common.{get_or, arith, Some, None}
 use Rattle.std.proofs.lemmas.Bool.Decides.{nat_tests}
 use Rattle.std.proofs.lemmas.List.FromFn.{length-map-range_with_len, get_or-map-range_with_len}
 use Rattle.sixel_palette.specs.Palette.{IsPalette, AreIndices}
 use Rattle.sixel_base.specs.Payload.{Image}
 use Rattle.sixel_encoder.specs.declared.text.IndexedImage.{IndexedImage}
-use Rattle.sixel_encoder.specs.inside.Indexed.{entry_of, entries_of, drawing_of, IsIndexed}
-use Rattle.sixel_encoder.specs.Encoding.{IsDrawing, image_fault}
-use Rattle.sixel_encoder.proofs.Sizes.{within-sound}
+use Rattle.sixel_encoder.specs.inside.Indexed.{entry_of, entries_of, drawing_of}
+use Rattle.sixel_encoder.specs.Encoding.{IsDrawing}
 
 -- an image apart from its palette
 abbrev pub image_of : IndexedImage → Image
@@ -22,25 +21,15 @@ image_of image = record {
 
 pub entry_of-opaque : (pixels indices : List ℕ) (pixel : ℕ) → 128 ≤ get_or pixels (4 * pixel + 3) 0
     → entry_of pixels indices pixel ≡ Some (get_or indices pixel 0)
-entry_of-opaque pixels indices pixel h =
-    let is : nat_le 128 (get_or pixels (4 * pixel + 3) 0) ≡ true = grind (arith, nat_tests) in
-    ap (λ b. cond b (Some (get_or indices pixel 0)) None) is
+entry_of-opaque pixels indices pixel h = grind (arith, nat_tests)
 
 pub entry_of-transparent : (pixels indices : List ℕ) (pixel : ℕ)
     → get_or pixels (4 * pixel + 3) 0 < 128 → entry_of pixels indices pixel ≡ None
-entry_of-transparent pixels indices pixel h =
-    let is : nat_le 128 (get_or pixels (4 * pixel + 3) 0) ≡ false = grind (arith, nat_tests) in
-    ap (λ b. cond b (Some (get_or indices pixel 0)) None) is
+entry_of-transparent pixels indices pixel h = grind (arith, nat_tests)
 
 pub get_or-entries : (pixels indices : List ℕ) (pixel : ℕ) → pixel < length indices
     → get_or (entries_of pixels indices) pixel None ≡ entry_of pixels indices pixel
 get_or-entries pixels indices pixel h = grind (arith, nat_tests, get_or-map-range_with_len)
-
--- an image with no fault, few colors and an index a pixel
-pub IsIndexed-chosen : (image : IndexedImage) → image_fault (image_of image) ≡ None
-    → length image.colors.now ≤ 256
-    → AreIndices image.pixels.now image.colors.now image.indices.now → IsIndexed image
-IsIndexed-chosen image sound few are = grind (arith, nat_tests, within-sound)
 
 -- a chosen palette and its indices make the drawing
 pub IsDrawing-chosen : (image : IndexedImage) (max_colors : ℕ)

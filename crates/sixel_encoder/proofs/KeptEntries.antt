@@ -1,12 +1,11 @@
 -- Entries of neighbors: the nearer one of two, and the index of a pixel that may keep it.
-use Rattle.std.proofs.Common.{◌≡◌, ℕ, ◌+◌, ◌-◌, ◌*◌, ◌<◌, ◌≤◌, Bool, List, [], true, false, cond}
+use Rattle.std.proofs.Common.{◌≡◌, ℕ, ◌+◌, ◌-◌, ◌*◌, ◌<◌, ◌≤◌, List, [], true, false, cond}
 use Rattle.std.proofs.Common.{length, refl, ap, sym, subst, ◌∙◌, arith, inl, inr, nat_le, nat_lt}
 use Rattle.std.specs.Prelude.{◌/◌, ◌%◌, ◌==◌, Option, Some, None, slice_index}
 use Rattle.std.proofs.lemmas.Bool.{cases_eq, cases_lt}
 use Rattle.std.proofs.lemmas.Bool.Decides.{nat_tests}
 use Rattle.std.proofs.lemmas.Nat.{div-add-mod', div-mul-add, mod-mul-add, mod_below, mul-le}
 use Rattle.sixel_palette.specs.Palette.{IsNearest, nearest, no_entry}
-use Rattle.sixel_palette.proofs.PaletteLaw.{index_same}
 use Rattle.sixel_palette.proofs.PaletteNearest.{nearest-le, nearest-reached}
 use Rattle.sixel_encoder.specs.declared.indices.mapped.Kept.{Kept}
 use Rattle.sixel_encoder.specs.Dithering.{IsIndex, Mapped, column_of_step, entry_above}
@@ -41,16 +40,6 @@ nearer-first colors c (Some a) (Some b) inside l =
     grind (arith, nat_tests) in
     ap (λ t. cond t (Some b) (Some a)) test
 
--- and where none can be nearer
-nearer-zero : (colors : List (List ℕ)) (c : List ℕ) (a b : Option ℕ)
-    → (kept_value colors c a).squared ≡ 0 → nearer_entry colors c a b ≡ a
-nearer-zero colors c None b zero = absurd (omega (arith, zero))
-nearer-zero colors c (Some a) None zero = refl
-nearer-zero colors c (Some a) (Some b) zero =
-    let test : nat_lt (entry_distance colors c b) (entry_distance colors c a) ≡ false =
-    grind (arith, nat_tests) in
-    ap (λ t. cond t (Some b) (Some a)) test
-
 -- an entry with its distance may be kept
 IsKept-value : (m : Mapped) (c : List ℕ) (neighbor : Option ℕ) → IsInside m.colors c neighbor
     → IsKept m c neighbor (kept_value m.colors c neighbor)
@@ -81,61 +70,22 @@ IsKept-first m c a b x y first second here there l =
     rw (sym first, sym second) l in
     rw (nearer-first m.colors c a b there nearer, first) (IsKept-value m c a here)
 
-pub IsKept-zero : (m : Mapped) (c : List ℕ) (a b : Option ℕ) (x : Kept)
-    → x ≡ kept_value m.colors c a → IsInside m.colors c a → x.squared ≡ 0
-    → IsKept m c (nearer_entry m.colors c a b) x
-IsKept-zero m c a b x first here zero =
-    let none : (kept_value m.colors c a).squared ≡ 0 = rw (sym first) zero in
-    rw (nearer-zero m.colors c a b none, first) (IsKept-value m c a here)
+-- so the nearer one may be kept
+pub IsKept-nearer : (m : Mapped) (c : List ℕ) (neighbor : Option ℕ) (x y kept : Kept)
+    → (y.squared < x.squared → IsKept m c neighbor y)
+    → (x.squared ≤ y.squared → IsKept m c neighbor x) → (y.squared < x.squared → kept ≡ y)
+    → (x.squared ≤ y.squared → kept ≡ x) → IsKept m c neighbor kept
+IsKept-nearer m c neighbor x y kept above before second first =
+    elim (cases_lt y.squared x.squared) [
+      | inl l ↦ rw (second l) (above l)
+      | inr l ↦ rw (first l) (before l)
+    ]
 
 -- ---- entries of the palette
 
--- of two entries of the palette the nearer one is one
-inside-nearer : (colors : List (List ℕ)) (c : List ℕ) (a b : Option ℕ)
-    → ((entry : ℕ) → a ≡ Some entry → entry < length colors)
-    → ((entry : ℕ) → b ≡ Some entry → entry < length colors)
-    → (entry : ℕ) → nearer_entry colors c a b ≡ Some entry → entry < length colors
-inside-nearer colors c None b first second entry is = second entry is
-inside-nearer colors c (Some a) None first second entry is = first entry is
-inside-nearer colors c (Some a) (Some b) first second entry is =
-    go (nat_lt (entry_distance colors c b) (entry_distance colors c a)) is
-  where
-    go : (t : Bool) → cond t (Some b) (Some a) ≡ Some entry → entry < length colors
-    go true same = second entry same
-    go false same = first entry same
-
--- the entry of a pixel is its index
-pub entry_of-some : (pixels indices : List ℕ) (pixel entry : ℕ)
-    → entry_of pixels indices pixel ≡ Some entry → slice_index indices pixel ≡ entry
-entry_of-some pixels indices pixel entry =
-    go (nat_le 128 (slice_index pixels (4 * pixel + 3)))
-  where
-    go : (t : Bool) → cond t (Some (slice_index indices pixel)) None ≡ Some entry
-        → slice_index indices pixel ≡ entry
-    go true same = cc
-    go false same = absurd cc
-
--- so the entry of a neighbor is one
-chosen-inside : (m : Mapped) (indices : List ℕ) (t : Bool) (pixel entry : ℕ)
-    → AreEntries m.colors indices → cond t None (entry_of m.pixels indices pixel) ≡ Some entry
-    → entry < length m.colors
-chosen-inside m indices true pixel entry are same = absurd cc
-chosen-inside m indices false pixel entry are same =
-    subst (λ (k : ℕ). k < length m.colors) (entry_of-some m.pixels indices pixel entry same)
-    (are pixel)
-
-pub above-inside : (m : Mapped) (indices : List ℕ) (n : ℕ) → AreEntries m.colors indices
-    → (entry : ℕ) → entry_above m indices n ≡ Some entry → entry < length m.colors
-above-inside m indices n are entry same =
-    chosen-inside m indices (n / m.width % 6 == 0) (serpentine m.width n - m.width) entry are same
-
 pub neighbor-inside : (m : Mapped) (c indices : List ℕ) (n : ℕ) → AreEntries m.colors indices
     → (entry : ℕ) → neighbor_of m c indices n ≡ Some entry → entry < length m.colors
-neighbor-inside m c indices n are =
-    inside-nearer m.colors c (entry_before m indices n) (entry_above m indices n)
-    (λ entry same.
-    chosen-inside m indices (n % m.width == 0) (serpentine m.width (n - 1)) entry are same)
-    (above-inside m indices n are)
+neighbor-inside m c indices n are = grind (arith, nat_tests)
 
 -- ---- the index
 
@@ -165,103 +115,47 @@ pub IsIndex-nearest : (m : Mapped) (c : List ℕ) (neighbor : Option ℕ) (index
     → ((entry : ℕ) → neighbor ≡ Some entry
     → nearest m.colors c + m.tolerance ≤ entry_distance m.colors c entry)
     → IsIndex m c neighbor index
-IsIndex-nearest m c neighbor index near beyond = record {
-  entry = near.entry;
-  kept = λ entry is l. absurd (omega (arith, beyond entry is, l));
-  nearest = λ _. near;
-}
+IsIndex-nearest m c neighbor index near beyond = grind (arith, nat_tests)
 
 -- as it is where the entry that may be kept is too far
 pub IsIndex-far : (m : Mapped) (c : List ℕ) (neighbor : Option ℕ) (kept : Kept) (index : ℕ)
     → IsKept m c neighbor kept → IsNearest m.colors c index
     → (kept.squared < no_distance → nearest m.colors c + m.tolerance ≤ kept.squared)
     → IsIndex m c neighbor index
-IsIndex-far m c neighbor kept index is near far =
-    IsIndex-nearest m c neighbor index near
-    (λ entry same.
-    elim (cases_lt kept.squared no_distance) [
-      | inl some ↦
-          let (own, inside, at) = is.some some in
-          let one : kept.index ≡ entry = cc in
-          omega (arith, far some, at, ap (entry_distance m.colors c) one)
-      | inr none ↦ is.none none entry same
-    ])
+IsIndex-far m c neighbor kept index is near far = grind (arith, nat_tests)
 
 -- and where no entry may be farther
 pub IsIndex-exact : (m : Mapped) (c : List ℕ) (neighbor : Option ℕ) (index : ℕ)
     → m.tolerance ≡ 0
     → ((entry : ℕ) → neighbor ≡ Some entry → entry < length m.colors)
     → IsNearest m.colors c index → IsIndex m c neighbor index
-IsIndex-exact m c neighbor index none inside near =
-    IsIndex-nearest m c neighbor index near
-    (λ entry same. omega (arith, none, nearest-le m.colors c entry [] (inside entry same)))
+IsIndex-exact m c neighbor index none inside near = grind (arith, IsIndex-nearest, nearest-le)
 
 -- so without a tolerance the index is that of the nearest entry
 pub IsNearest-exact : (m : Mapped) (c : List ℕ) (neighbor : Option ℕ) (index : ℕ)
     → m.tolerance ≡ 0
     → ((entry : ℕ) → neighbor ≡ Some entry → entry < length m.colors)
     → IsIndex m c neighbor index → IsNearest m.colors c index
-IsNearest-exact m c neighbor index none inside is =
-    is.nearest
-    (λ entry same. omega (arith, none, nearest-le m.colors c entry [] (inside entry same)))
-
--- so it is, if the pixel before has that entry
-pub IsIndex-before : (m : Mapped) (c : List ℕ) (above : Option ℕ) (index : ℕ)
-    → IsNearest m.colors c index
-    → ((entry : ℕ) → above ≡ Some entry → entry < length m.colors)
-    → IsIndex m c (nearer_entry m.colors c (Some index) above) index
-IsIndex-before m c above index near inside =
-    subst (λ (neighbor : Option ℕ). IsIndex m c neighbor index) (sym (go above inside)) (record {
-      entry = near.entry;
-      kept = λ entry same l. cc;
-      nearest = λ _. near;
-    })
-  where
-    go : (above : Option ℕ) → ((entry : ℕ) → above ≡ Some entry → entry < length m.colors)
-        → nearer_entry m.colors c (Some index) above ≡ Some index
-    go None inside = refl
-    go (Some above) inside =
-        let least = near.least above (inside above refl) in
-        let test : nat_lt (entry_distance m.colors c above) (entry_distance m.colors c index)
-        ≡ false = grind (arith, nat_tests) in
-        ap (λ t. cond t (Some above) (Some index)) test
+IsNearest-exact m c neighbor index none inside is = grind (arith, nat_tests, nearest-le)
 
 -- the index is the only one
 pub IsIndex-same : (m : Mapped) (c : List ℕ) (neighbor : Option ℕ) (i j : ℕ)
     → IsIndex m c neighbor i → IsIndex m c neighbor j → i ≡ j
-IsIndex-same m c None i j first second =
-    index_same m.colors c i j (first.nearest (λ entry is. absurd cc))
-    (second.nearest (λ entry is. absurd cc))
-IsIndex-same m c (Some entry) i j first second =
-    elim (cases_lt (entry_distance m.colors c entry) (nearest m.colors c + m.tolerance)) [
-      | inl near ↦ first.kept entry refl near ∙ sym (second.kept entry refl near)
-      | inr far ↦
-          let beyond : (other : ℕ) → Some entry ≡ Some other
-          → nearest m.colors c + m.tolerance ≤ entry_distance m.colors c other =
-          λ other same.
-          let one : entry ≡ other = cc in
-          omega (arith, far, ap (entry_distance m.colors c) one) in
-          index_same m.colors c i j (first.nearest beyond) (second.nearest beyond)
-    ]
+IsIndex-same m c neighbor i j first second = grind (arith, nat_tests)
 
 -- ---- the neighbors of a step
 
 -- the first step of a row has none before it
 pub before-none : (m : Mapped) (indices : List ℕ) (row step : ℕ) → step < m.width → step ≡ 0
     → entry_before m indices (row * m.width + step) ≡ None
-before-none m indices row step l first =
-    ap
-    (λ s. cond (s == 0) None
-    (entry_of m.pixels indices (serpentine m.width (row * m.width + step - 1))))
-    (mod-mul-add row m.width step l ∙ first)
+before-none m indices row step l first = grind (arith, nat_tests, mod-mul-add)
 
 -- another one has that of the step before
 pub before-some : (m : Mapped) (indices : List ℕ) (row step : ℕ) → step < m.width → 0 < step
     → entry_before m indices (row * m.width + step)
     ≡ entry_of m.pixels indices (row * m.width + column_of_step m.width row (step - 1))
 before-some m indices row step l later =
-    let test : (row * m.width + step) % m.width == 0 ≡ false =
-    ap (λ s. s == 0) (mod-mul-add row m.width step l) ∙ grind (arith, nat_tests) in
+    let test : (row * m.width + step) % m.width == 0 ≡ false = grind (arith, nat_tests) in
     let back : row * m.width + step - 1 ≡ row * m.width + (step - 1) = omega arith in
     ap
     (λ t. cond t None
@@ -273,23 +167,13 @@ before-some m indices row step l later =
 -- the first row of a band has none above it
 pub above-none : (m : Mapped) (indices : List ℕ) (row step : ℕ) → step < m.width → row % 6 ≡ 0
     → entry_above m indices (row * m.width + step) ≡ None
-above-none m indices row step l first =
-    ap
-    (λ r. cond (r == 0) None
-    (entry_of m.pixels indices (serpentine m.width (row * m.width + step) - m.width)))
-    (ap (λ r. r % 6) (div-mul-add row m.width step l) ∙ first)
+above-none m indices row step l first = grind (arith, nat_tests, div-mul-add)
 
 -- another one has that of the row above
 pub above-some : (m : Mapped) (indices : List ℕ) (row step : ℕ) → step < m.width → 0 < row % 6
     → entry_above m indices (row * m.width + step)
     ≡ entry_of m.pixels indices (serpentine m.width (row * m.width + step) - m.width)
-above-some m indices row step l later =
-    let test : (row * m.width + step) / m.width % 6 == 0 ≡ false =
-    ap (λ r. r % 6 == 0) (div-mul-add row m.width step l) ∙ grind (arith, nat_tests) in
-    ap
-    (λ t. cond t None
-    (entry_of m.pixels indices (serpentine m.width (row * m.width + step) - m.width)))
-    test
+above-some m indices row step l later = grind (arith, nat_tests)
 
 -- ---- earlier visits
 
@@ -303,14 +187,7 @@ AreSame width a b n =
 pub above-lt : (width n : ℕ) → 0 < width → 0 < n / width
     → serpentine width (serpentine width n - width) < n
 above-lt width n some below =
-    let row = n / width in
-    let inside = column-lt width row (n % width) (mod_below n width some) in
-    let high = mul-le 1 width row width below (omega arith) in
-    omega (
-      arith,
-      serpentine-lt width row (serpentine width n - width) some (omega (arith, inside, high)),
-      div-add-mod' n width,
-    )
+    grind (arith, nat_tests, column-lt, mod_below, mul-le, serpentine-lt, div-add-mod')
 
 -- the entry of a pixel that is visited before is the same
 entry_of-same : (pixels a b : List ℕ) (width n pixel : ℕ) → 0 < width → AreSame width a b n
@@ -358,21 +235,10 @@ neighbor-same m c a b n some same =
 -- where there is no neighbor, there is no entry
 pub IsInside-none : (colors : List (List ℕ)) (c : List ℕ) (neighbor : Option ℕ)
     → neighbor ≡ None → IsInside colors c neighbor
-IsInside-none colors c neighbor none = rw none (record {
-  entry = λ entry is. absurd cc;
-  near = λ entry is. absurd cc;
-})
+IsInside-none colors c neighbor none = grind (arith, nat_tests)
 
 -- where no entry may be farther, none needs to be looked up
 pub IsKept-exact : (m : Mapped) (c indices : List ℕ) (n : ℕ) → m.tolerance ≡ 0
     → AreEntries m.colors indices
     → IsKept m c (neighbor_of m c indices n) (record { squared = no_distance; index = 0 })
-IsKept-exact m c indices n none are = record {
-  some = λ l. absurd (omega arith);
-  none = λ _ entry same.
-      omega (
-        arith,
-        none,
-        nearest-le m.colors c entry [] (neighbor-inside m c indices n are entry same),
-      );
-}
+IsKept-exact m c indices n none are = grind (arith, nat_tests, nearest-le, neighbor-inside)

@@ -1,5 +1,5 @@
 -- Lanes that differ from those of the column before: the rows of their entries change there.
-use Rattle.std.specs.Prelude.{None, Option, Some, ◌≢◌}
+use Rattle.std.specs.Prelude.{Option, Some, ◌≢◌}
 use Rattle.std.proofs.Common.{Bool, ap, arith, false, length, refl, sym, true, ℕ, ◌*◌, ◌+◌, ◌-◌}
 use Rattle.std.proofs.Common.{◌<◌, ◌∙◌, ◌≡◌, ◌≤◌}
 use Rattle.std.proofs.lemmas.Bool.{both_ways}
@@ -22,8 +22,7 @@ itself entry = grind (arith, nat_tests)
 -- a pixel of another lane has not the entry
 off : (lane next : ℕ) (place : Option ℕ) → next ≡ lane_of place → lane ≢ next
     → is_entry lane place ≡ false
-off lane next None is other = refl
-off lane next (Some entry) is other = grind (arith, nat_tests)
+off lane next place is other = grind (arith, nat_tests)
 
 -- what a pixel shows of the row of its entry, if the pixel in another column has another lane
 record IsOther (entries : BandEntries) (here there lane : ℕ) : Type 0 where

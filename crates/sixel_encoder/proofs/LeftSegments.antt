@@ -87,8 +87,7 @@ other-is column entry segment out = grind (arith, nat_tests)
 -- a pixel that is one of a segment's
 pub is_of-entry : (column entry : ℕ) (segment : Segment) → is_of column (Some entry) segment ≡ true
     → (entry ≡ segment.entry) × (segment.first ≤ column) × (column < segment.end)
-is_of-entry column entry segment is =
-    (grind (arith, nat_tests), grind (arith, nat_tests), grind (arith, nat_tests))
+is_of-entry column entry segment is = grind (arith, nat_tests)
 
 -- the bit of a pixel in the sixel of an entry
 pub own-bit : (drawing : Drawing) (band own column bit entry : ℕ) → bit < 6
@@ -103,8 +102,7 @@ blocked-at : (drawing : Drawing) (band : ℕ) (blocked : List ℕ) (segment : Se
     → column < length blocked
     → slice_index (blocked_after drawing band blocked segment) column
     ≡ blocked_sixel drawing band blocked segment column
-blocked-at drawing band blocked segment column l =
-    grind (arith, nat_tests, get_or-map-range_with_len)
+blocked-at drawing band blocked segment column l = grind (arith, get_or-map-range_with_len)
 
 -- the pixels of a segment that is drawn may not be covered
 pub AreLeft-after : (drawing : Drawing) (band : ℕ) (blocked : List ℕ) (segment : Segment)
@@ -256,9 +254,4 @@ IsSegmentRow-left drawing band blocked segment segments from are left = record {
 -- it has six bits in each column
 pub row-small : (drawing : Drawing) (band : ℕ) (blocked : List ℕ) (segment : Segment) (from : ℕ)
     → All (λ b. b < 64) (segment_row drawing band blocked segment from)
-row-small drawing band blocked segment from =
-    All-fill (sixel_of drawing band segment.entry) (slice_index blocked)
-    (λ column.
-    mask-small (λ bit. is_entry segment.entry (entry_at drawing column (6 * band + bit))))
-    0 (union blocked from (segment.first - from)) (segment.first - from)
-    (range_with_len segment.first (segment.end - segment.first)) (omega arith)
+row-small drawing band blocked segment from = grind (arith, nat_tests, All-fill, mask-small)

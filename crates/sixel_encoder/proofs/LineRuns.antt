@@ -19,12 +19,6 @@ between-none from amount place = grind (arith, nat_tests)
 pub between-past : (from to amount place : ℕ) → to ≤ place → between from to amount place ≡ 0
 between-past from to amount place past = grind (arith, nat_tests)
 
--- one part after another
-pub between-join : (start was now from middle to amount place : ℕ) → from ≤ middle → middle ≤ to
-    → was ≡ start + between from middle amount place
-    → now ≡ was + between middle to amount place → now ≡ start + between from to amount place
-between-join start was now from middle to amount place l m first second = grind (arith, nat_tests)
-
 -- sixteen sixels that get the weight in lanes
 pub lanes-more : (rows : List ℕ) (from weight : ℕ) → from + 16 ≤ length rows
     → ((k : ℕ) → from ≤ k → k < from + 16 → get_or rows k 0 + weight < 256) → (k : ℕ)

@@ -42,14 +42,12 @@ pub entry_at-inside : (image : IndexedImage) (x row : ℕ) → IsIndexed image �
     → row < image.height
     → entry_at (drawing_of image) x row
     ≡ entry_of image.pixels.now image.indices.now (row * image.width + x)
-entry_at-inside image x row is lx lr =
-    grind (arith, nat_tests, mul-add-lt, get_or-map-range_with_len)
+entry_at-inside image x row is lx lr = grind (arith, mul-add-lt, get_or-map-range_with_len)
 
 -- there is none below the last row
 pub entry_at-below : (image : IndexedImage) (x row : ℕ) → IsIndexed image → image.height ≤ row
     → entry_at (drawing_of image) x row ≡ None
-entry_at-below image x row is h =
-    grind (arith, nat_tests, get_or_past, mul-le, mul_comm, length-entries)
+entry_at-below image x row is h = grind (arith, get_or_past, mul-le, mul_comm, length-entries)
 
 -- whether the pixels of a band's column have the entry
 abbrev pub hits : IndexedImage → ℕ → ℕ → ℕ → ℕ → Bool
@@ -76,8 +74,7 @@ mask-below image band bit e x old is h was = grind (arith, nat_tests, entry_at-b
 mask-false : (test : ℕ → Bool) (n : ℕ) → ((k : ℕ) → test k ≡ false) → mask test n ≡ 0
 unfolding mask
 mask-false test zero none = refl
-mask-false test (suc n) none =
-    omega (arith, mask-false test n none, ap (λ b. cond b (2 ^ n) 0) (none n))
+mask-false test (suc n) none = grind (arith, nat_tests, mask-false test n none)
 
 -- nor does a pixel of a band
 pub hits-past : (image : IndexedImage) (band e x bit : ℕ) → IsIndexed image → x < image.width

@@ -1,7 +1,7 @@
 -- The error of a palette: sums over the opaque pixels, and what follows where it is none.
 use Rattle.std.proofs.Common.{◌≡◌, ℕ, zero, suc, ◌+◌, ◌*◌, ◌<◌, ◌≤◌, List, [], true, false, cond}
-use Rattle.std.proofs.Common.{length, nat_le, nat_lt, refl, ap, sym, subst, ◌∙◌, arith, inl, inr}
-use Rattle.std.specs.Prelude.{◌/◌, ◌==◌, ◌≢◌, ◌⊎◌, max, Contains, All, None, Option, Some}
+use Rattle.std.proofs.Common.{length, nat_lt, refl, ap, sym, subst, ◌∙◌, arith, inl, inr}
+use Rattle.std.specs.Prelude.{◌/◌, ◌==◌, ◌≢◌, ◌⊎◌, max, Contains, All, Option}
 use Rattle.std.specs.Prelude.{slice_index, slice_index_or}
 use Rattle.std.proofs.lemmas.Bool.{cases_eq, cases_lt}
 use Rattle.std.proofs.lemmas.Bool.Decides.{nat_tests}
@@ -22,16 +22,12 @@ use Rattle.sixel_encoder.proofs.Serpentine.{serpentine-serpentine}
 -- the number of a transparent pixel is 0
 pub number-dark : (number : List ℕ → ℕ) (pixels : List ℕ) (pixel : ℕ)
     → slice_index pixels (4 * pixel + 3) < 128 → opaque_number number pixels pixel ≡ 0
-number-dark number pixels pixel dark =
-    let test : nat_lt (slice_index pixels (4 * pixel + 3)) 128 ≡ true = grind (arith, nat_tests) in
-    ap (λ t. cond t 0 (number (color_at pixels pixel))) test
+number-dark number pixels pixel dark = grind (arith, nat_tests)
 
 -- that of an opaque one is its color's
 pub number-light : (number : List ℕ → ℕ) (pixels : List ℕ) (pixel : ℕ) → IsOpaque pixels pixel
     → opaque_number number pixels pixel ≡ number (color_at pixels pixel)
-number-light number pixels pixel light =
-    let test : nat_lt (slice_index pixels (4 * pixel + 3)) 128 ≡ false = grind (arith, nat_tests) in
-    ap (λ t. cond t 0 (number (color_at pixels pixel))) test
+number-light number pixels pixel light = grind (arith, nat_tests)
 
 -- equal numbers have equal sums
 pub sum_to-same : (f g : ℕ → ℕ) (n : ℕ) → ((k : ℕ) → k < n → f k ≡ g k) → sum_to f n ≡ sum_to g n
@@ -56,45 +52,25 @@ sum_to-part f zero i l = absurd (omega arith)
 sum_to-part f (suc n) i l =
     elim (cases_lt i n) [
       | inl before ↦ omega (arith, sum_to-part f n i before)
-      | inr last ↦
-          let same : n ≡ i = omega arith in
-          omega (arith, ap f same)
+      | inr last ↦ grind (arith, nat_tests)
     ]
 
 -- each opaque pixel has a small error
 pub error-small : (colors : List (List ℕ)) (pixels : List ℕ)
     → summed_error colors pixels ≤ no_entry * opaque_pixels pixels (λ _. 1)
-error-small colors pixels =
-    sum_to-le (opaque_number (nearest colors) pixels) (opaque_number (λ _. 1) pixels) no_entry
-    (length pixels / 4)
-    (λ pixel l.
-    elim (cases_lt (slice_index pixels (4 * pixel + 3)) 128) [
-      | inl dark ↦ omega (arith, number-dark (nearest colors) pixels pixel dark)
-      | inr light ↦
-          omega (
-            arith,
-            number-light (nearest colors) pixels pixel light,
-            number-light (λ _. 1) pixels pixel light,
-            nearest-cap colors (color_at pixels pixel),
-          )
-    ])
+error-small colors pixels = grind (arith, sum_to-le, number-dark, number-light, nearest-cap)
 
 -- ---- the square root
 
 -- a number whose square is too great is left out
 pub root-less : (number n : ℕ) → number < suc n * suc n → root number (suc n) ≡ root number n
 unfolding root
-root-less number n less =
-    let test : nat_le (suc n * suc n) number ≡ false = grind (arith, nat_tests) in
-    ap (λ t. cond t (suc n) (root number n)) test
+root-less number n less = grind (arith, nat_tests)
 
 -- another one is the root
 pub root-found : (number n : ℕ) → n * n ≤ number → root number n ≡ n
 unfolding root
-root-found number zero most = refl
-root-found number (suc n) most =
-    let test : nat_le (suc n * suc n) number ≡ true = grind (arith, nat_tests) in
-    ap (λ t. cond t (suc n) (root number n)) test
+root-found number n most = grind (arith, nat_tests)
 
 -- ---- no error
 
@@ -167,25 +143,7 @@ sum_to-more_le f g h k (suc n) le =
 pub any-near : (m : Mapped) (c : List ℕ) (neighbor : Option ℕ) (index i : ℕ)
     → IsIndex m c neighbor index → i < length m.colors
     → entry_distance m.colors c index ≤ entry_distance m.colors c i + m.tolerance
-any-near m c None index i is l =
-    let near = is.nearest (λ entry same. absurd cc) in omega (arith, near.least i l)
-any-near m c (Some entry) index i is l =
-    elim (cases_lt (entry_distance m.colors c entry) (nearest m.colors c + m.tolerance)) [
-      | inl below ↦
-          omega (
-            arith,
-            below,
-            ap (entry_distance m.colors c) (is.kept entry refl below),
-            nearest-le m.colors c i [] l,
-          )
-      | inr beyond ↦
-          let near =
-          is.nearest
-          (λ other same.
-          let one : entry ≡ other = cc in
-          omega (arith, beyond, ap (entry_distance m.colors c) one)) in
-          omega (arith, near.least i l)
-    ]
+any-near m c neighbor index i is l = grind (arith, nat_tests, nearest-le)
 
 index-near : (m : Mapped) (c : List ℕ) (neighbor : Option ℕ) (index : ℕ)
     → ((i : ℕ) → i < length m.colors → entry_distance m.colors c i < no_entry)

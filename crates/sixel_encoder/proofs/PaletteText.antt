@@ -1,19 +1,16 @@
 -- What is known of the text of an image in a given palette once it is returned: the image has no
 -- fault, a new decoder can read the text, and colors of transparent pixels do not affect it.
-use Rattle.std.proofs.Common.{◌≡◌, ℕ, List, ap, sym, ◌∙◌, arith}
-use Rattle.std.specs.Prelude.{Option, None, Result, Ok, Err, IfOk, OnOk}
+use Rattle.std.proofs.Common.{◌≡◌, ℕ, List, arith}
+use Rattle.std.specs.Prelude.{Option, None, Result, Ok, IfOk}
 use Rattle.std.specs.Option.{option_or}
 use Rattle.std.proofs.Math.Nat.{mul_comm}
 use Rattle.sixel_base.specs.CallFault.{CallFault, FailsBy, size_call_fault}
-use Rattle.sixel_base.specs.Decoder.{new_decoder}
 use Rattle.sixel_base.specs.Payload.{Image}
 use Rattle.sixel_base.specs.declared.error.SixelError.{SixelError}
 use Rattle.sixel_encoder.specs.declared.mapping.Mapping.{Mapping}
 use Rattle.sixel_encoder.specs.declared.form.TextForm.{TextForm}
 use Rattle.sixel_encoder.specs.Encoding.{image_fault, shown_image}
-use Rattle.sixel_encoder.specs.Form.{form_text}
-use Rattle.sixel_encoder.specs.IndexedDrawing.{IsPaletteText, indexed_fault}
-use Rattle.sixel_encoder.specs.Trip.{CanRead}
+use Rattle.sixel_encoder.specs.IndexedDrawing.{IsPaletteText}
 use Rattle.sixel_encoder.proofs.DitheredIndices.{AreRowsOf}
 use Rattle.sixel_encoder.proofs.SameDithering.{drawing-alike}
 use Rattle.sixel_encoder.proofs.Sizes.{within-sound}
@@ -29,13 +26,6 @@ sound-first : (fault : Option SixelError) (rest : Option CallFault)
     → option_or (size_call_fault fault) rest ≡ None → fault ≡ None
 sound-first fault rest e = grind (arith, nat_tests)
 
--- a new decoder can read what is returned
-pub readable-returned : {S : Type 0} (result : Result S SixelError) (image : Image)
-    (rest : Option CallFault)
-    → FailsBy (option_or (size_call_fault (image_fault image)) rest) result
-    → OnOk result (CanRead new_decoder image.width image.height)
-readable-returned result image rest fails = grind (arith, nat_tests, sound-first, none-from_ok)
-
 -- the rows of an image without a fault
 pub rows-sound : (image : Image) → image_fault image ≡ None → AreRowsOf image.pixels image.width
 rows-sound image sound = grind (arith, nat_tests, within-sound, mul_comm)
@@ -48,20 +38,5 @@ pub hidden-returned : {S : Type 0} (bytes : S → List ℕ) (result : Result S S
     → IfOk result (λ text. IsPaletteText image colors mapping form (bytes text))
     → shown_image image ≡ shown_image other → IsPaletteText other colors mapping form others
     → IfOk result (λ text. bytes text ≡ others)
-hidden-returned bytes (Ok text) image other colors mapping form others rest fails is same also =
-    let sound =
-    sound-first (image_fault image) rest
-    (none-from_ok (option_or (size_call_fault (image_fault image)) rest) text fails) in
-    is.text.text
-    ∙ (ap (form_text form)
-    (drawing-alike mapping image other colors is.indices also.indices same
-    (rows-sound image sound) is.dithered also.dithered)
-    ∙ sym also.text.text)
-hidden-returned bytes (Err e) image other colors mapping form others rest fails is same also = tt
-
--- as well as what is returned for given indices
-pub readable-indexed : {S : Type 0} (result : Result S SixelError) (image : Image) (colors : ℕ)
-    (indices : List ℕ) → FailsBy (indexed_fault image colors indices) result
-    → OnOk result (CanRead new_decoder image.width image.height)
-readable-indexed result image colors indices fails =
-    grind (arith, nat_tests, sound-first, none-from_ok)
+hidden-returned bytes result image other colors mapping form others rest fails is same also =
+    grind (arith, nat_tests, sound-first, none-from_ok, drawing-alike, rows-sound)

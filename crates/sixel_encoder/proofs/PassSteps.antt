@@ -8,7 +8,7 @@ use Rattle.sixel_encoder.specs.declared.segments.Segment.{Segment}
 use Rattle.sixel_encoder.specs.Segments.{after_pass, gap_of, in_pass, passes, segments_up_to}
 use Rattle.sixel_encoder.specs.Segments.{with_pixel, with_place}
 use Rattle.sixel_encoder.specs.Text.{Drawing, entry_at}
-use Rattle.sixel_encoder.proofs.SegmentSteps.{grown, is_near, near-own, new_segment}
+use Rattle.sixel_encoder.proofs.SegmentSteps.{grown, is_near, near-own}
 
 -- ---- the segments of a band
 
@@ -42,10 +42,7 @@ passes-more n segments = let e : n + 1 ≡ suc n = omega arith in ap (λ m. pass
 pub with_pixel-twice : (gap column entry : ℕ) (segments : List Segment)
     → with_pixel gap column entry (with_pixel gap column entry segments)
     ≡ with_pixel gap column entry segments
-with_pixel-twice gap column entry [] =
-    ap (λ t. cond t (new_segment column entry ∷ [])
-    (new_segment column entry ∷ new_segment column entry ∷ []))
-    (near-own gap column entry (new_segment column entry) refl (omega arith))
+with_pixel-twice gap column entry [] = grind (arith, nat_tests)
 with_pixel-twice gap column entry (segment ∷ segments) =
     go (is_near gap column entry segment) refl (with_pixel-twice gap column entry segments)
   where

@@ -14,7 +14,7 @@ use Rattle.sixel_encoder.specs.RunTokens.{row_tokens}
 use Rattle.sixel_encoder.specs.Text.{Drawing, bands}
 use Rattle.sixel_encoder.specs.Trip.{IsWritable}
 use Rattle.sixel_encoder.proofs.Digits.{fields-numbers, numbers}
-use Rattle.sixel_encoder.proofs.Extent.{Fits, Fits-run_tokens, IsWithinLimits, first_fault-more}
+use Rattle.sixel_encoder.proofs.Extent.{Fits, Fits-run_tokens, IsWithinLimits}
 use Rattle.sixel_encoder.proofs.RowSteps.{Moved-row}
 use Rattle.sixel_encoder.proofs.ShortestRows.{spells}
 use Rattle.sixel_encoder.proofs.TextHistory.{AreSound-row}
@@ -86,8 +86,7 @@ Follows-mark drawing start palette pen (Draw row) h is may follows =
           (omega (arith, follows.place, ap length (spells row).joined, may.inside))
           (omega (arith, follows.level, lower)) follows.fits;
     }
-Follows-mark drawing start palette pen Back h is may follows =
-    grind (arith, nat_tests, first_fault-more)
+Follows-mark drawing start palette pen Back h is may follows = grind (arith, nat_tests)
 Follows-mark drawing start palette pen Next h is may follows = grind (arith, nat_tests)
 
 -- and over all marks

@@ -71,8 +71,7 @@ left-some drawing band column entry starts some = grind (arith, nat_tests)
 pub bound-start : (drawing : Drawing) (band column : ℕ) (runs : RowRuns)
     → ((entry : ℕ) → slice_index runs.starts entry ≡ 0) → runs.bytes ≡ 1
     → IsBound drawing band column runs
-bound-start drawing band column runs none one =
-    grind (arith, nat_tests, total-same, left-none, total-zero)
+bound-start drawing band column runs none one = grind (arith, nat_tests)
 
 -- one more column keeps it
 pub bound-step : (drawing : Drawing) (band column : ℕ) (runs : RowRuns) → 0 < column

@@ -8,7 +8,6 @@ use Rattle.sixel_encoder.specs.Marks.{Back, Definition, Draw, Mark, Next, Pick, 
 use Rattle.sixel_encoder.specs.Text.{Drawing, bands, has_dot, row_of}
 use Rattle.sixel_encoder.specs.Trip.{payload_text}
 use Rattle.sixel_encoder.proofs.JoinedLists.{flat_map-joined}
-use Rattle.std.proofs.lemmas.Bool.Decides.{nat_tests}
 
 -- ---- the marks
 
@@ -44,5 +43,4 @@ row-joined d w = simp append_assoc
 -- together they have the data of the plain text
 pub payload-plain : (drawing : Drawing)
     → marks_payload drawing (plain_definitions drawing) (plain_marks drawing) ≡ payload_text drawing
-payload-plain drawing =
-    grind (arith, nat_tests, flat_map-joined, append-nil, flat_map-append, row-joined)
+payload-plain drawing = grind (arith, flat_map-joined, append-nil, flat_map-append, row-joined)

@@ -40,9 +40,7 @@ progress-used start now new first rows after marks used width from n was are siz
           appended-more (grid_text first width from) n start now new
           (row_text (from + n) (grid_row rows width n)) was.text text part;
       clear = grind (arith, nat_tests, get_or-set_same, get_or-set_other);
-      rest = λ e x le lt lx.
-          let apart : e ≢ n = λ same. absurd (omega arith) in
-          others e x apart lx ∙ was.rest e x (omega arith) (omega (arith, count)) lx;
+      rest = λ e x le lt lx. grind (arith, nat_tests);
       unread = λ e le.
           let apart : e ≢ n = λ same. absurd (omega arith) in
           get_or-set_other used n e false false apart ∙ was.unread e (omega arith);
@@ -61,5 +59,4 @@ pub progress-same :
     (start now new first rows after : List ℕ) (marks used left : List Bool) (width from n : ℕ)
     → new ≡ now → after ≡ rows → left ≡ used → Progress start now first rows marks used width from n
     → Progress start new first after marks left width from n
-progress-same start now new first rows after marks used left width from n et er eu was =
-    grind (arith, nat_tests)
+progress-same start now new first rows after marks used left width from n et er eu was = grind arith

@@ -3,7 +3,7 @@ use Rattle.std.proofs.Common.{ap, arith, get_or, ℕ, ◌*◌, ◌∷◌, ◌≡
 use Rattle.std.proofs.lemmas.Nat.{mul-le}
 use Rattle.sixel_base.specs.Fields.{field, fields}
 use Rattle.sixel_base.specs.Limits.{whole_limit}
-use Rattle.sixel_base.specs.Place.{height, width}
+use Rattle.sixel_base.specs.Place.{height}
 use Rattle.sixel_base.specs.Settings.{pad_of}
 use Rattle.sixel_base.specs.Stroke.{ratio}
 use Rattle.sixel_base.specs.declared.settings.PixelAspectRatio.{PixelAspectRatio}

@@ -2,7 +2,7 @@
 -- without a fault.
 use Rattle.std.specs.Prelude.{None, Option, slice_index_or}
 use Rattle.std.proofs.Common.{List, ap, arith, length, refl, ℕ, ◌*◌, ◌++◌}
-use Rattle.std.proofs.Common.{false, ◌+◌, ◌<◌, ◌∙◌, ◌∷◌, ◌≡◌, ◌≤◌, []}
+use Rattle.std.proofs.Common.{false, ◌<◌, ◌∙◌, ◌∷◌, ◌≡◌, ◌≤◌, []}
 use Rattle.std.proofs.lemmas.List.{get_or_past}
 use Rattle.std.proofs.lemmas.List.FromFn.{get_or-map-range_with_len, length-map-range_with_len}
 use Rattle.std.proofs.lemmas.Nat.{mul-le}
@@ -14,7 +14,6 @@ use Rattle.sixel_base.proofs.ToleratedTokens.{effective-off, fault-sound}
 use Rattle.sixel_base.specs.Limits.{Limit}
 use Rattle.sixel_base.specs.Payload.{Image, image_of, payload_fault, payload_image}
 use Rattle.sixel_base.specs.Picture.{picture}
-use Rattle.sixel_base.specs.Place.{height, width}
 use Rattle.sixel_base.specs.Settings.{mode_of}
 use Rattle.sixel_base.specs.Size.{banded}
 use Rattle.sixel_base.specs.Stroke.{Origin, background, pixel, registers}
@@ -123,8 +122,7 @@ length-default_registers = length-map-range_with_len default_color 0 256
 IsOrigin-new : (decoder : DecoderState) (drawing : Drawing)
     → decoder.registers ≡ default_registers → decoder.pixel_limit.transparent ≡ false
     → IsOrigin drawing (origin_of decoder (drawing_settings drawing))
-IsOrigin-new decoder drawing new painted =
-    grind (arith, nat_tests, length-default_registers, first_register)
+IsOrigin-new decoder drawing new painted = grind (arith, length-default_registers, first_register)
 
 -- the payload is read as the trip
 pub payload-trip : (decoder : DecoderState) (drawing : Drawing) (definitions : List Definition)

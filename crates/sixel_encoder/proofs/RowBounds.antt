@@ -3,8 +3,8 @@ use Rattle.std.proofs.Common.{◌≡◌, ◌≢◌, ℕ, zero, suc, ◌+◌, ◌
 use Rattle.std.proofs.lemmas.Bool.{cases_eq}
 use Rattle.sixel_encoder.specs.Text.{Drawing, sixel_of}
 use Rattle.sixel_encoder.specs.inside.Bound.{bytes_from, row_bytes, row_from}
-use Rattle.sixel_encoder.proofs.RunCost.{run_cost, run_cost0, run_low}
-use Rattle.sixel_encoder.proofs.ShortestRows.{left, left-nil, left-other, left-same, left_cut}
+use Rattle.sixel_encoder.proofs.RunCost.{run_cost, run_cost0}
+use Rattle.sixel_encoder.proofs.ShortestRows.{left, left-other, left-same, left_cut}
 use Rattle.std.proofs.lemmas.Bool.Decides.{nat_tests}
 
 -- the sixels of a row from a column on: one, and the others
@@ -27,8 +27,7 @@ pub bytes_from-end : (drawing : Drawing) (band entry column start : ℕ) → col
     → sixel_of drawing band entry column ≢ sixel_of drawing band entry (column - 1)
     → run_cost (column - start) + bytes_from drawing band entry column column
     ≤ bytes_from drawing band entry column start
-bytes_from-end drawing band entry column start l order other =
-    grind (arith, nat_tests, left-other, run_cost0)
+bytes_from-end drawing band entry column start l order other = grind (arith, left-other, run_cost0)
 
 -- a row takes at least what it takes from its first run on
 pub bytes_from-start : (drawing : Drawing) (band entry k : ℕ) → k < drawing.width
@@ -49,5 +48,4 @@ bytes_from-start drawing band entry (suc k) l =
 -- the last run takes a byte
 pub bytes_from-last : (drawing : Drawing) (band entry column start : ℕ) → drawing.width ≤ column
     → start < column → 1 ≤ bytes_from drawing band entry column start
-bytes_from-last drawing band entry column start l order =
-    grind (arith, nat_tests, left-nil, run_low)
+bytes_from-last drawing band entry column start l order = grind (arith, nat_tests)

@@ -1,5 +1,5 @@
 -- How many bytes a run of equal sixels takes, and that cutting it in two saves none.
-use Rattle.std.proofs.Common.{◌≡◌, ℕ, ◌+◌, ◌-◌, ◌*◌, ◌/◌, ◌%◌, ◌^◌, ◌<◌, ◌≤◌, nat_lt}
+use Rattle.std.proofs.Common.{◌≡◌, ℕ, ◌+◌, ◌*◌, ◌/◌, ◌%◌, ◌^◌, ◌<◌, ◌≤◌, nat_lt}
 use Rattle.std.proofs.Common.{List, ◌∷◌, ◌++◌, length, replicate, refl, ap, ◌∙◌}
 use Rattle.std.proofs.Common.{arith, length-append, zero, suc, inl, inr, []}
 use Rattle.std.specs.Prelude.{if◌then◌else◌, decimal}

@@ -9,7 +9,7 @@ use Rattle.sixel_encoder.specs.Segments.{gap_of, segments_up_to, with_pixel}
 use Rattle.sixel_encoder.specs.Text.{Drawing, entry_at}
 use Rattle.sixel_encoder.proofs.PassSteps.{segment-pixel, segment-skip, segment-uniform}
 use Rattle.sixel_encoder.proofs.SegmentSteps.{AreLast-later, AreLast-near, AreLast-new, grown}
-use Rattle.sixel_encoder.proofs.SegmentSteps.{is_near, near-own, new_segment}
+use Rattle.sixel_encoder.proofs.SegmentSteps.{is_near, near-own}
 
 -- a run of pixels of an entry
 abbrev pub run_of : ℕ → ℕ → ℕ → Segment
@@ -39,10 +39,7 @@ far-later gap first end entry segment l far = grind (arith, nat_tests)
 run-more : (gap first end entry : ℕ) (segments : List Segment) → 0 < gap → first ≤ end
     → with_pixel gap end entry (with_run gap (run_of entry first end) segments)
     ≡ with_run gap (run_of entry first (end + 1)) segments
-run-more gap first end entry [] some l =
-    ap (λ t. cond t (run_of entry first (end + 1) ∷ [])
-    (run_of entry first end ∷ new_segment end entry ∷ []))
-    (near-own gap end entry (run_of entry first end) refl (omega arith))
+run-more gap first end entry [] some l = grind (arith, nat_tests)
 run-more gap first end entry (segment ∷ segments) some l =
     go (is_near gap first entry segment) refl (run-more gap first end entry segments some l)
   where
@@ -89,11 +86,7 @@ pub AreLast-longer : (segments : List Segment) (last : List (Option ℕ)) (gap k
     → slice_index_or last run.entry None ≡ Some k → nth segments k ≡ near
     → AreLast (set segments k (longer run near)) last gap (run.end - 1)
 AreLast-longer segments last gap k run near some are is at =
-    let e : run.end - 1 + 1 ≡ run.end = omega arith in
-    let same : grown (run.end - 1) near ≡ longer run near =
-    ap (λ n. run_of near.entry near.first n) e in
-    rw same at (AreLast-near segments last gap (run.end - 1) run.entry k near
-    (AreLast-later segments last gap run.first (run.end - 1) (omega arith) are) is at)
+    grind (arith, nat_tests, grown, AreLast-near, AreLast-later)
 
 -- an entry begins a segment with a run
 pub AreLast-run : (segments : List Segment) (last : List (Option ℕ)) (gap : ℕ) (run : Segment)
@@ -103,10 +96,7 @@ pub AreLast-run : (segments : List Segment) (last : List (Option ℕ)) (gap : �
     → AreLast (segments ++ run ∷ []) (set last run.entry (Some (length segments))) gap
     (run.end - 1)
 AreLast-run segments last gap run some are inside none =
-    AreLast-new segments last gap (run.end - 1) run.entry run refl (omega arith)
-    (AreLast-later segments last gap run.first (run.end - 1) (omega arith) are) inside
-    (λ j l. far-later gap run.first (run.end - 1) run.entry (nth segments j) (omega arith)
-    (none j l))
+    grind (arith, nat_tests, AreLast-new, AreLast-later, far-later)
 
 -- ---- the columns of a band
 

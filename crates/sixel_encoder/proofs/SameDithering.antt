@@ -5,21 +5,19 @@ use Rattle.std.specs.Prelude.{◌/◌, ◌%◌, None, Option, slice_index}
 use Rattle.std.proofs.lemmas.Bool.{cases_lt}
 use Rattle.std.proofs.lemmas.List.{ext_get_or}
 use Rattle.std.proofs.lemmas.List.FromFn.{length-map-range_with_len}
-use Rattle.sixel_palette.specs.Palette.{IsOpaque, nearest}
+use Rattle.sixel_palette.specs.Palette.{IsOpaque}
 use Rattle.sixel_palette.specs.Refined.{opaque_number, opaque_pixels, sum_to}
 use Rattle.sixel_base.specs.Payload.{Image}
 use Rattle.sixel_encoder.specs.declared.dither.Amplitude.{Amplitude}
-use Rattle.sixel_encoder.specs.declared.dither.Amplitude.TheVariants.{Auto as AutoAmplitude, Levels}
 use Rattle.sixel_encoder.specs.declared.dither.Dither.{Dither}
 use Rattle.sixel_encoder.specs.declared.dither.Dither.TheVariants.{Diffusion, Off, Ordered}
 use Rattle.sixel_encoder.specs.declared.mapping.Mapping.{Mapping}
 use Rattle.sixel_encoder.specs.declared.mapping.Tolerance.{Tolerance}
-use Rattle.sixel_encoder.specs.declared.mapping.Tolerance.TheVariants.{Auto, Squared}
 use Rattle.sixel_encoder.specs.Dithering.{AreDithered, AreMapped, HasTarget, HaveTargets}
 use Rattle.sixel_encoder.specs.Dithering.{IsIndex, Mapped}
-use Rattle.sixel_encoder.specs.Dithering.{amplitude_of, entry_of, errors_of, mapped_of}
+use Rattle.sixel_encoder.specs.Dithering.{amplitude_of, entry_of, mapped_of}
 use Rattle.sixel_encoder.specs.Dithering.{moved_channel, neighbor_of, pattern_of, serpentine}
-use Rattle.sixel_encoder.specs.Dithering.{target_of, target_of_visit, threshold, tolerance_of}
+use Rattle.sixel_encoder.specs.Dithering.{target_of, threshold, tolerance_of}
 use Rattle.sixel_encoder.specs.Encoding.{shown_image}
 use Rattle.sixel_encoder.specs.Gray.{source_pixels}
 use Rattle.sixel_encoder.specs.IndexedDrawing.{entries_of, indexed_drawing}
@@ -33,6 +31,7 @@ use Rattle.sixel_encoder.proofs.SameDrawing.{drawing-fields}
 use Rattle.sixel_encoder.proofs.SameVisits.{AreAlike, AreAlike-images, AreSameOpaque, channel-alike}
 use Rattle.sixel_encoder.proofs.SameVisits.{entry-before, errors-alike, neighbor-alike}
 use Rattle.sixel_encoder.proofs.SameVisits.{target-alike, with_pixels}
+use Rattle.std.proofs.lemmas.Bool.Decides.{nat_tests}
 
 -- ---- all kinds
 
@@ -41,8 +40,7 @@ target_of-alike : (dither : Dither) (m : Mapped) (q a b : List ℕ) (n : ℕ) �
     → AreRowsOf m.pixels m.width → n < length m.pixels / 4 → AreSameOpaque m a b n
     → IsOpaque m.pixels (serpentine m.width n)
     → target_of dither m a n ≡ target_of dither (with_pixels m q) b n
-target_of-alike Off m q a b n alike rows l same light =
-    sym (alike.opaque (serpentine m.width n) (visit-inside m n rows l) light).1
+target_of-alike Off m q a b n alike rows l same light = grind (arith, nat_tests, visit-inside)
 target_of-alike (Ordered amplitude) m q a b n alike rows l same light =
     λ i. moved 0 (omega arith) i ∷ moved 1 (omega arith) i ∷ moved 2 (omega arith) i ∷ []
   where
@@ -59,21 +57,16 @@ target_of-alike (Ordered amplitude) m q a b n alike rows l same light =
         (channel-alike m.pixels q pixel k
         (alike.opaque pixel (visit-inside m n rows l) light).1 lk)
 target_of-alike (Diffusion strength) m q a b n alike rows l same light =
-    target-alike m q (errors_of m a n) n
-    (alike.opaque (serpentine m.width n) (visit-inside m n rows l) light).1
-    ∙ ap (λ errors. target_of_visit (with_pixels m q) errors n)
-    (errors-alike m q a b n alike rows (omega (arith, l)) same)
+    grind (arith, nat_tests, target-alike, visit-inside, with_pixels, errors-alike)
 
 -- an index does not depend on the pixels
 IsIndex-pixels : (m : Mapped) (q c : List ℕ) (neighbor : Option ℕ) (index : ℕ)
     → IsIndex (with_pixels m q) c neighbor index → IsIndex m c neighbor index
-IsIndex-pixels m q c neighbor index is =
-    record { entry = is.entry; kept = is.kept; nearest = is.nearest }
+IsIndex-pixels m q c neighbor index is = grind (arith, nat_tests)
 
 IsIndex-other : (m : Mapped) (q c : List ℕ) (neighbor : Option ℕ) (index : ℕ)
     → IsIndex m c neighbor index → IsIndex (with_pixels m q) c neighbor index
-IsIndex-other m q c neighbor index is =
-    record { entry = is.entry; kept = is.kept; nearest = is.nearest }
+IsIndex-other m q c neighbor index is = grind (arith, nat_tests)
 
 -- the indices of a visit's pixel are the same, if both have their targets
 index-alike : (dither : Dither) (m : Mapped) (q a b : List ℕ) (n : ℕ) → AreAlike m.pixels q
@@ -144,31 +137,21 @@ pixels-same p q alike number =
 -- so are the tolerance and the amplitude
 tolerance-alike : (tolerance : Tolerance) (colors : List (List ℕ)) (p q : List ℕ) → AreAlike p q
     → tolerance_of tolerance colors p ≡ tolerance_of tolerance colors q
-tolerance-alike (Squared tolerance) colors p q alike = refl
-tolerance-alike Auto colors p q alike =
-    rw (pixels-same p q alike (nearest colors), pixels-same p q alike (λ _. 1)) refl
+tolerance-alike tolerance colors p q alike = grind (arith, nat_tests, pixels-same)
 
 amplitude-alike : (amplitude : Amplitude) (colors : List (List ℕ)) (p q : List ℕ) → AreAlike p q
     → amplitude_of amplitude colors p ≡ amplitude_of amplitude colors q
-amplitude-alike (Levels amplitude) colors p q alike = refl
-amplitude-alike AutoAmplitude colors p q alike =
-    rw (pixels-same p q alike (nearest colors), pixels-same p q alike (λ _. 1)) refl
+amplitude-alike amplitude colors p q alike = grind (arith, nat_tests, pixels-same)
 
 pattern-alike : (dither : Dither) (colors : List (List ℕ)) (p q : List ℕ) → AreAlike p q
     → pattern_of dither colors p ≡ pattern_of dither colors q
-pattern-alike Off colors p q alike = refl
-pattern-alike (Ordered amplitude) colors p q alike = amplitude-alike amplitude colors p q alike
-pattern-alike (Diffusion strength) colors p q alike = refl
+pattern-alike dither colors p q alike = grind (arith, nat_tests, amplitude-alike)
 
 -- so the images are mapped alike
 mapped-alike : (mapping : Mapping) (width : ℕ) (p q : List ℕ) (colors : List (List ℕ))
     → AreAlike p q
     → with_pixels (mapped_of mapping width p colors) q ≡ mapped_of mapping width q colors
-mapped-alike mapping width p q colors alike =
-    rw (
-      tolerance-alike mapping.tolerance colors p q alike,
-      pattern-alike mapping.dither colors p q alike,
-    ) refl
+mapped-alike mapping width p q colors alike = grind (arith, tolerance-alike, pattern-alike)
 
 -- indices that are mapped are mapped for the other pixels
 other-mapped : (dither : Dither) (m : Mapped) (q a : List ℕ) → AreAlike m.pixels q
@@ -279,8 +262,7 @@ drawing-alike mapping image other colors a b e rows first second =
     (length-map-range_with_len (entry_of image.pixels a) 0 (length a)
     ∙ (size ∙ sym (length-map-range_with_len (entry_of other.pixels b) 0 (length b))))
     (λ pixel l.
-    let inside : pixel < length a =
-    omega (arith, length-map-range_with_len (entry_of image.pixels a) 0 (length a), l) in
+    let inside : pixel < length a = grind (arith, nat_tests, length-map-range_with_len) in
     get_or-entries image.pixels a pixel inside
     ∙ (entry-alike mapping image.width image.pixels other.pixels colors a b pixel alike rows first
     also (omega (arith, count))

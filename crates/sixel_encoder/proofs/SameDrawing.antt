@@ -1,5 +1,5 @@
 -- Images that show the same have one drawing.
-use Rattle.std.proofs.Common.{◌≡◌, ℕ, ◌+◌, ◌*◌, ◌/◌, ◌<◌, nat_le, true, false, cond, List, length}
+use Rattle.std.proofs.Common.{◌≡◌, ℕ, ◌+◌, ◌*◌, ◌/◌, ◌<◌, List, length}
 use Rattle.std.proofs.Common.{get_or, ap, sym, ◌∙◌, arith, Some, None}
 use Rattle.std.proofs.lemmas.Bool.Decides.{nat_tests}
 use Rattle.std.proofs.lemmas.List.{ext_get_or}
@@ -30,15 +30,11 @@ color-same image other pixel e l =
 
 shown_color-opaque : (pixels : List ℕ) (pixel : ℕ) → IsOpaque pixels pixel
     → shown_color pixels pixel ≡ Some (color_at pixels pixel)
-shown_color-opaque pixels pixel h =
-    let is : nat_le 128 (get_or pixels (4 * pixel + 3) 0) ≡ true = grind (arith, nat_tests) in
-    ap (λ b. cond b (Some (color_at pixels pixel)) None) is
+shown_color-opaque pixels pixel h = grind (arith, nat_tests)
 
 shown_color-transparent : (pixels : List ℕ) (pixel : ℕ) → get_or pixels (4 * pixel + 3) 0 < 128
     → shown_color pixels pixel ≡ None
-shown_color-transparent pixels pixel h =
-    let is : nat_le 128 (get_or pixels (4 * pixel + 3) 0) ≡ false = grind (arith, nat_tests) in
-    ap (λ b. cond b (Some (color_at pixels pixel)) None) is
+shown_color-transparent pixels pixel h = grind (arith, nat_tests)
 
 -- a pixel that is shown in one is shown in the other, in its color
 pub opaque-other : (image other : Image) (pixel : ℕ) → shown_image image ≡ shown_image other

@@ -5,12 +5,11 @@ use Rattle.std.specs.Prelude.{◌/◌, ◌%◌, ◌==◌, None, Some, slice_inde
 use Rattle.std.proofs.lemmas.Bool.{cases_eq, cases_lt}
 use Rattle.std.proofs.lemmas.Bool.Decides.{nat_tests}
 use Rattle.sixel_palette.specs.Palette.{IsOpaque, color_at}
-use Rattle.sixel_palette.proofs.PaletteDistance.{below_three}
 use Rattle.sixel_base.specs.Payload.{Image}
 use Rattle.sixel_encoder.specs.Dithering.{Mapped, entry_above, entry_before, entry_of, errors_of}
 use Rattle.sixel_encoder.specs.Dithering.{nearer_entry, neighbor_of, opaque_error, passed_on}
-use Rattle.sixel_encoder.specs.Dithering.{received, rounded_sixteenths, serpentine, sixteenths}
-use Rattle.sixel_encoder.specs.Dithering.{target_of_visit, visit_error, with_received}
+use Rattle.sixel_encoder.specs.Dithering.{rounded_sixteenths, serpentine, sixteenths}
+use Rattle.sixel_encoder.specs.Dithering.{target_of_visit, visit_error}
 use Rattle.sixel_encoder.specs.Encoding.{shown_image}
 use Rattle.sixel_encoder.proofs.DiffusionVisit.{visit_error-opaque, visit_error-transparent}
 use Rattle.sixel_encoder.proofs.DitheredIndices.{AreRowsOf, visit-inside}
@@ -30,21 +29,13 @@ pub record AreAlike (p q : List ℕ) : Type 0 where
 -- as those of images that show the same
 pub AreAlike-images : (image other : Image) → shown_image image ≡ shown_image other
     → AreAlike image.pixels other.pixels
-AreAlike-images image other e = record {
-  count = count-same image other e;
-  opaque = λ pixel l light. opaque-other image other pixel e l light;
-  dark = λ pixel l dark. transparent-other image other pixel e l dark;
-}
+AreAlike-images image other e =
+    grind (arith, nat_tests, count-same, opaque-other, transparent-other)
 
 -- a channel of an opaque pixel
 pub channel-alike : (p q : List ℕ) (pixel k : ℕ) → color_at q pixel ≡ color_at p pixel → k < 3
     → slice_index p (4 * pixel + k) ≡ slice_index q (4 * pixel + k)
-channel-alike p q pixel k same l =
-    let first : 4 * pixel + 0 ≡ 4 * pixel = omega arith in
-    below_three (λ k. slice_index p (4 * pixel + k) ≡ slice_index q (4 * pixel + k))
-    (ap (slice_index p) first
-    ∙ (ap (λ c. slice_index c 0) (sym same) ∙ ap (slice_index q) (sym first)))
-    (ap (λ c. slice_index c 1) (sym same)) (ap (λ c. slice_index c 2) (sym same)) k l
+channel-alike p q pixel k same l = grind (arith, nat_tests)
 
 -- ---- earlier visits
 
@@ -127,9 +118,7 @@ neighbor-alike m q c a b n alike rows l same =
 sixteenths-alike : (m : Mapped) (q : List ℕ) (errors : List (List ℕ)) (n k : ℕ)
     → color_at q (serpentine m.width n) ≡ color_at m.pixels (serpentine m.width n) → k < 3
     → sixteenths m errors n k ≡ sixteenths (with_pixels m q) errors n k
-sixteenths-alike m q errors n k same l =
-    ap (λ value. with_received m.strength value (received m errors (n % m.width) k))
-    (channel-alike m.pixels q (serpentine m.width n) k same l)
+sixteenths-alike m q errors n k same l = grind (arith, nat_tests)
 
 -- so are its target and its error
 pub target-alike : (m : Mapped) (q : List ℕ) (errors : List (List ℕ)) (n : ℕ)

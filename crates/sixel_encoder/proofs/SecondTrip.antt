@@ -288,8 +288,7 @@ text-again decoder image max_colors text was mode reads is =
     let first = IsWritable-drawn was.0 max_colors was.1 was.4 was.2 was.3 in
     let sound : image_fault image ≡ None =
     ap image_fault was.5 ∙ image_fault-trip crop was.1 first in
-    let bytes : All (λ byte. byte < 256) image.pixels =
-    grind (arith, nat_tests, bytes-trip) in
+    let bytes : All (λ byte. byte < 256) image.pixels = grind (arith, nat_tests, bytes-trip) in
     let read = image-read_back decoder image max_colors text sound bytes reads is in
     subst (λ (i : Image). IsReadAs decoder text i)
     (trip-again crop image max_colors read.0 was mode read.1) read.2

@@ -47,8 +47,7 @@ IsDrawn-moved : (drawing : Drawing) (band : ℕ) (drawn next : Drawn) (pen other
     (place : Places) → other.column ≡ next.column → other.register ≡ next.register
     → other.band ≡ pen.band → next.blocked ≡ drawn.blocked
     → IsDrawn drawing band drawn pen place → IsDrawn drawing band next other place
-IsDrawn-moved drawing band drawn next pen other place column register same kept at =
-    grind (arith, nat_tests)
+IsDrawn-moved drawing band drawn next pen other place column register same kept at = grind arith
 
 -- what is drawn when the row of a segment begins
 abbrev at_start : Drawn → Segment → Drawn
@@ -272,8 +271,7 @@ pub Leads-segments : (drawing : Drawing) (band : ℕ) (drawn : Drawn) (segments 
     → (0 < length segments → is_used drawing band ≡ true) → IsDrawn drawing band drawn pen place
     → Leads drawing (IsDrawn drawing band (drawn_by drawing band drawn segments)) pen place
     (segments_marks drawing band drawn segments)
-Leads-segments drawing band drawn [] pen place numbers are lower used at =
-    record { allowed = tt; state = at }
+Leads-segments drawing band drawn [] pen place numbers are lower used at = grind (arith, nat_tests)
 Leads-segments drawing band drawn (segment ∷ segments) pen place numbers are lower used at =
     let next : Drawn = drawn_after drawing band drawn segment in
     let marks : List Mark = segment_marks drawing band drawn segment in

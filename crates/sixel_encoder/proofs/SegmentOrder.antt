@@ -37,9 +37,7 @@ AreOf-place : (drawing : Drawing) (band n : ℕ) (place : Option ℕ) (segments 
     → AreOf drawing band n segments
     → AreOf drawing band (suc n) (with_place (gap_of drawing) (n / 6) place segments)
 AreOf-place drawing band n None segments is known was = record {
-  cut =
-      AreCut-wider (gap_of drawing) (length drawing.colors) ((n + 5) / 6) ((suc n + 5) / 6)
-      segments (omega arith) was.cut;
+  cut = grind (arith, nat_tests, AreCut-wider);
   whole = λ k e l at. grind (arith, nat_tests);
 }
 AreOf-place drawing band n (Some entry) segments is known was =
@@ -76,8 +74,7 @@ AreKnown drawing =
 AreOf-band : (drawing : Drawing) (band n : ℕ) → AreKnown drawing
     → AreOf drawing band n (segments_up_to drawing band n)
 unfolding segments_up_to
-AreOf-band drawing band zero known =
-    record { cut = tt; whole = λ k e l at. absurd (omega arith) }
+AreOf-band drawing band zero known = grind (arith, nat_tests)
 AreOf-band drawing band (suc n) known =
     AreOf-place drawing band n (entry_at drawing (n / 6) (6 * band + n % 6))
     (segments_up_to drawing band n) refl

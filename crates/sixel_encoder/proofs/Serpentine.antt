@@ -1,12 +1,10 @@
 -- The serpentine order of visits: it is its own inverse, and stays within whole rows.
 use Rattle.std.proofs.Common.{◌≡◌, ◌≢◌, ℕ, ◌+◌, ◌-◌, ◌*◌, ◌<◌, Bool, true, false, cond, not, refl}
-use Rattle.std.proofs.Common.{ap, sym, ◌∙◌, arith, inl, inr}
-use Rattle.std.specs.Prelude.{◌/◌, ◌%◌, ◌==◌}
-use Rattle.std.proofs.Math.Nat.{mul_comm}
+use Rattle.std.proofs.Common.{ap, ◌∙◌, arith, inl, inr}
+use Rattle.std.specs.Prelude.{◌%◌, ◌==◌}
 use Rattle.std.proofs.lemmas.Bool.{cases_Bool}
 use Rattle.std.proofs.lemmas.Bool.Decides.{nat_tests}
-use Rattle.std.proofs.lemmas.Nat.{div-add-mod', div-mul-add, div_below, mod-mul-add, mod_below}
-use Rattle.std.proofs.lemmas.Nat.{mul-add-lt}
+use Rattle.std.proofs.lemmas.Nat.{div-add-mod', div-mul-add, mod-mul-add, mod_below}
 use Rattle.sixel_encoder.specs.Dithering.{column_of_step, serpentine}
 
 -- a step's column lies in the row
@@ -31,10 +29,7 @@ column-column width row step l = go (row % 2 == 0)
 -- different steps have different columns
 pub column-apart : (width row j step : ℕ) → j < width → step < width → j ≢ step
     → column_of_step width row j ≢ column_of_step width row step
-column-apart width row j step lj ls apart = λ same.
-    apart
-    (sym (column-column width row j lj)
-    ∙ (ap (column_of_step width row) same ∙ column-column width row step ls))
+column-apart width row j step lj ls apart = grind (arith, nat_tests)
 
 -- the next row goes the other way
 pub column-next_row : (width row step : ℕ) → step < width
@@ -58,34 +53,18 @@ column-next_row width row step l =
 -- the pixel of a step of a row
 pub serpentine-step : (width row step : ℕ) → step < width
     → serpentine width (row * width + step) ≡ row * width + column_of_step width row step
-serpentine-step width row step l =
-    ap (λ q. q * width + column_of_step width q ((row * width + step) % width))
-    (div-mul-add row width step l)
-    ∙ ap (λ s. row * width + column_of_step width row s) (mod-mul-add row width step l)
+serpentine-step width row step l = grind (arith, nat_tests, div-mul-add, mod-mul-add)
 
 -- the visit of a visit's pixel is the visit
 pub serpentine-serpentine : (width n : ℕ) → 0 < width → serpentine width (serpentine width n) ≡ n
 serpentine-serpentine width n some =
-    let row = n / width in
-    let step = n % width in
-    let inside : step < width = mod_below n width some in
-    serpentine-step width row (column_of_step width row step) (column-lt width row step inside)
-    ∙ (ap (λ s. row * width + s) (column-column width row step inside) ∙ div-add-mod' n width)
+    grind (arith, nat_tests, mod_below, serpentine-step, column-lt, column-column, div-add-mod')
 
 -- different visits have different pixels
 pub serpentine-apart : (width k n : ℕ) → 0 < width → k ≢ n → serpentine width k ≢ serpentine width n
-serpentine-apart width k n some apart = λ same.
-    apart
-    (sym (serpentine-serpentine width k some)
-    ∙ (ap (serpentine width) same ∙ serpentine-serpentine width n some))
+serpentine-apart width k n some apart = grind (arith, nat_tests, serpentine-serpentine)
 
 -- the order stays within whole rows
 pub serpentine-lt : (width count n : ℕ) → 0 < width → n < count * width
     → serpentine width n < count * width
-serpentine-lt width count n some l =
-    let row = n / width in
-    let step = n % width in
-    let column = column_of_step width row step in
-    let below : row < count = div_below n width count some l in
-    let inside : column < width = column-lt width row step (mod_below n width some) in
-    omega (arith, mul-add-lt row width column count below inside, mul_comm width count)
+serpentine-lt width count n some l = grind (arith, nat_tests)

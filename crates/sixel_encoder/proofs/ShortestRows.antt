@@ -3,7 +3,6 @@ use Rattle.std.proofs.Common.{◌≡◌, ◌≢◌, ℕ, zero, suc, ◌+◌, ◌
 use Rattle.std.proofs.Common.{◌∷◌, ◌++◌, length, replicate, refl, ap, sym, ◌∙◌, arith, inl, inr}
 use Rattle.std.proofs.Common.{length-append, append_assoc, ◌/◌, ◌%◌, []}
 use Rattle.std.specs.Prelude.{flat_map, All}
-use Rattle.std.proofs.Math.Nat.{div-add-mod, mul_comm}
 use Rattle.std.proofs.lemmas.Bool.{cases_eq}
 use Rattle.std.proofs.lemmas.Bool.Decides.{nat_tests}
 use Rattle.std.proofs.lemmas.List.{append-nil, replicate-append-replicate, replicate_more}
@@ -43,11 +42,7 @@ left-same n b c row e = ap cost (tokens_after-same n b c row e)
 -- writing a run in two parts saves no byte
 pub left_cut : (m n b : ℕ) (row : List ℕ) → left (m + n) b row ≤ run_cost m + left n b row
 left_cut m n b [] = omega (arith, left-nil (m + n) b, left-nil n b, run_cut m n)
-left_cut m n b (c ∷ row) =
-    elim (cases_eq c b) [
-      | inl e ↦ grind (arith, nat_tests, left-same, left_cut m (n + 1) b row)
-      | inr e ↦ omega (arith, left-other (m + n) b c row e, left-other n b c row e, run_cut m n)
-    ]
+left_cut m n b (c ∷ row) = grind (arith, left-same, left-other, run_cut, left_cut m (n + 1) b row)
 
 -- with no sixel before it a row takes the same bytes, whatever that sixel is
 left_any : (b c : ℕ) (row : List ℕ) → left 0 b row ≡ left 0 c row
@@ -102,8 +97,7 @@ shortest row = grind (arith, nat_tests, left_tokens)
 sixels-replicate : (n k b : ℕ) → flat_map sixels (replicate n (Many k b)) ≡ replicate (n * k) b
 unfolding sixels
 sixels-replicate zero k b = let product : 0 ≡ 0 * k = omega arith in ap (λ x. replicate x b) product
-sixels-replicate (suc n) k b =
-    grind (arith, nat_tests, replicate-append-replicate, sixels-replicate n k b)
+sixels-replicate (suc n) k b = grind (arith, replicate-append-replicate, sixels-replicate n k b)
 
 sixels-singly : (n b : ℕ) → flat_map sixels (replicate n (One b)) ≡ replicate n b
 unfolding sixels
@@ -118,8 +112,7 @@ sixels-rest n b = grind (arith, nat_tests, append-nil, sixels-singly)
 sixels-cut : (n k b : ℕ) → 0 < k
     → flat_map sixels (replicate (n / k) (Many k b) ++ rest_tokens (n % k) b) ≡ replicate n b
 sixels-cut n k b h =
-    let whole : (n / k) * k + n % k ≡ n =
-    ap (λ x. x + n % k) (mul_comm (n / k) k) ∙ div-add-mod n k in
+    let whole : (n / k) * k + n % k ≡ n = grind (arith, nat_tests) in
     flat_map-append sixels (replicate (n / k) (Many k b)) (rest_tokens (n % k) b)
     ∙ (ap (λ r. r ++ flat_map sixels (rest_tokens (n % k) b)) (sixels-replicate (n / k) k b)
     ∙ (ap (λ r. replicate ((n / k) * k) b ++ r) (sixels-rest (n % k) b)

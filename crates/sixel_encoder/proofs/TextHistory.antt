@@ -92,8 +92,7 @@ AreTokens-mark : (drawing : Drawing) (pen : Pen) (mark : Mark) (h : History)
 AreTokens-mark drawing pen (Pick register) h is are =
     token-more (Color (numbers register [])) h (all_parameters-numbers register [] (omega arith) tt)
     refl are
-AreTokens-mark drawing pen (Draw row) h is are =
-    AreTokens-run_tokens (row_tokens row) h (AreSound-row row is.small) are
+AreTokens-mark drawing pen (Draw row) h is are = grind (arith, AreTokens-run_tokens, AreSound-row)
 AreTokens-mark drawing pen Back h is are = token-more Return h tt refl are
 AreTokens-mark drawing pen Next h is are = token-more Newline h tt refl are
 

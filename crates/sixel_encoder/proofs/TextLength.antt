@@ -56,5 +56,4 @@ length-bands drawing band low =
 pub length-band : (drawing : Drawing) (band old least new : ℕ)
     → old ≤ length (joined (band_text drawing) band) → least ≤ length (band_text drawing band)
     → new ≤ old + least → new ≤ length (joined (band_text drawing) (band + 1))
-length-band drawing band old least new low more le =
-    grind (arith, nat_tests, joined-more, length-append)
+length-band drawing band old least new low more le = grind (arith, joined-more, length-append)

@@ -3,7 +3,7 @@ use Rattle.std.specs.Prelude.{None, Option, Some, is_some, slice_index_or}
 use Rattle.std.proofs.Common.{Bool, List, ap, cond, true, ℕ, ◌*◌, ◌++◌, ◌∙◌, ◌∷◌, ◌≡◌, arith, []}
 use Rattle.sixel_base.specs.History.{History}
 use Rattle.sixel_base.specs.Place.{down}
-use Rattle.sixel_base.specs.Stroke.{Origin, color, pixel, selected}
+use Rattle.sixel_base.specs.Stroke.{Origin, color, pixel}
 use Rattle.sixel_encoder.specs.Marks.{AreAllowed, Back, Draw, IsAllowed, Mark, Next, Pen, Pick}
 use Rattle.sixel_encoder.specs.Marks.{covered, is_lit, moved, painted}
 use Rattle.sixel_encoder.specs.Text.{Drawing}

@@ -1,6 +1,6 @@
 -- The tokens of definitions and marks, newest first, and that they spell the text.
 use Rattle.std.specs.Prelude.{decimal, slice_index, slice_index_or}
-use Rattle.std.proofs.Common.{List, ap, append_assoc, arith, false, refl, sym, ℕ, ◌++◌, ◌+◌}
+use Rattle.std.proofs.Common.{List, ap, append_assoc, arith, false, sym, ℕ, ◌++◌}
 use Rattle.std.proofs.Common.{◌∙◌, ◌∷◌, ◌≡◌, []}
 use Rattle.std.proofs.lemmas.Bool.Decides.{nat_tests}
 use Rattle.std.proofs.lemmas.Fmt.{decimal_digit}
@@ -90,9 +90,7 @@ tokens drawing definitions marks = with_marks marks (with_palette drawing defini
 -- a run-length token appends its bytes
 spellings-run_token : (token : RunToken) (h : History)
     → spellings (with_run_token token h) ≡ spellings h ++ run_token_spelling token
-spellings-run_token (One bits) h = refl
-spellings-run_token (Many count bits) h =
-    append_assoc (spellings h) (33 ∷ decimal count) ((63 + bits) ∷ [])
+spellings-run_token token h = grind (arith, nat_tests, append_assoc)
 
 -- run-length tokens append theirs
 spellings-run_tokens : (tokens : List RunToken) (h : History)

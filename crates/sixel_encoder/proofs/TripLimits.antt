@@ -1,7 +1,7 @@
 -- What is drawn of an image within the limits can be written, and a trip leads to an image within
 -- the limits.
 use Rattle.std.proofs.Common.{◌≡◌, ℕ, Bool, zero, suc, ◌+◌, ◌*◌, ◌<◌, List}
-use Rattle.std.proofs.Common.{◌∷◌, ◌++◌, map, length, get_or, ap, arith, []}
+use Rattle.std.proofs.Common.{◌∷◌, ◌++◌, map, length, get_or, arith, []}
 use Rattle.std.specs.Prelude.{◌/◌, ◌%◌, Option, None, IfSome, All}
 use Rattle.std.proofs.lemmas.List.{get_or_default}
 use Rattle.std.proofs.lemmas.List.Elements.{All-from_get_or}
@@ -39,8 +39,7 @@ pub IsWritable-drawn : (image : Image) (max_colors : ℕ) (drawing : Drawing)
     → All (λ b. b < 256) image.pixels → IsWritable drawing
 IsWritable-drawn image max_colors drawing drawn sound bytes =
     let is = within-sound image sound in
-    let rows : 6 * bands drawing.height ≡ 6 * bands image.height =
-    ap (λ h. 6 * bands h) drawn.height in
+    let rows : 6 * bands drawing.height ≡ 6 * bands image.height = grind (arith, nat_tests) in
     record {
       some_width = omega (arith, drawn.width, is.some_width);
       some_height = omega (arith, drawn.height, is.some_height);

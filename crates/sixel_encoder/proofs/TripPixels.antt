@@ -1,6 +1,6 @@
 -- What the trip of a drawing shows: each pixel with an entry in its rounded color, and no other.
 use Rattle.std.proofs.Common.{◌≡◌, ℕ, Bool, ◌+◌, ◌*◌, ◌<◌, List, ◌∷◌, ◌++◌, map, length, get_or}
-use Rattle.std.proofs.Common.{refl, ap, sym, ◌∙◌, arith, length-append, []}
+use Rattle.std.proofs.Common.{refl, sym, ◌∙◌, arith, length-append, []}
 use Rattle.std.specs.Prelude.{Option, Some, None, slice_index, slice_index_or, Contains}
 use Rattle.std.proofs.lemmas.Nat.{div-add-mod'}
 use Rattle.std.proofs.lemmas.List.{get_or_past, length-map, get_or-map}
@@ -72,8 +72,7 @@ color-some crop drawing place entry is l e =
     let pixels : List ℕ = (trip crop drawing).pixels in
     let byte : (i : ℕ) → i < 4
     → slice_index pixels (4 * place + i) ≡ get_or (rounded_entry drawing entry ++ 255 ∷ []) i 0 =
-    λ i li.
-    byte-trip crop drawing place i is l li ∙ ap (λ v. get_or (trip_pixel drawing v) i 0) e in
+    λ i li. grind (arith, nat_tests, byte-trip) in
     grind (arith, nat_tests, read-three, length-rounded_entry, known_in)
 
 -- a transparent pixel with no entry is hidden

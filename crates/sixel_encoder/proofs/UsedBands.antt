@@ -7,7 +7,7 @@ use Rattle.std.proofs.lemmas.List.{get_or-drop, get_or-take, get_or_default, get
 use Rattle.std.proofs.lemmas.List.{length-drop, length-take}
 use Rattle.std.proofs.lemmas.List.Folds.{Any-from_list_any, list_any_at, list_any_none}
 use Rattle.std.proofs.lemmas.List.FromFn.{get_or-map-range_with_len}
-use Rattle.std.proofs.lemmas.Nat.{div-add-mod', div_below, mod_below, mul-add-lt, mul-le}
+use Rattle.std.proofs.lemmas.Nat.{div_below, mod_below, mul-add-lt, mul-le}
 use Rattle.sixel_encoder.specs.Text.{Drawing, entry_at, has_dot, mask, row_of}
 use Rattle.sixel_encoder.specs.Trip.{IsWritable, is_used}
 use Rattle.sixel_encoder.proofs.EntryRows.{length-row_of}
@@ -92,8 +92,7 @@ used-pixel drawing band is used =
     let w : 0 < drawing.width = omega (arith, is.some_width) in
     let bit : i / drawing.width < 6 = div_below i drawing.width 6 w found.1 in
     let place : (6 * band + i / drawing.width) * drawing.width + i % drawing.width
-    ≡ 6 * band * drawing.width + i =
-    grind (arith, nat_tests, div-add-mod', place-in_band) in (
+    ≡ 6 * band * drawing.width + i = grind (arith, nat_tests) in (
       i % drawing.width,
       6 * band + i / drawing.width,
       found.3.0,

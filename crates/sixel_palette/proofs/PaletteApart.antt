@@ -1,33 +1,28 @@
 -- What colors that lie apart prove of all lists of fewer colors.
 use Rattle.std.proofs.Common.{◌≡◌, ℕ, suc, ◌+◌, ◌*◌, ◌<◌, ◌≤◌, Bool, true, false, leb, List, []}
-use Rattle.std.proofs.Common.{◌∷◌, length, get_or, take, refl, ap, ⊎_elim, arith}
+use Rattle.std.proofs.Common.{◌∷◌, length, get_or, take, refl, arith}
 use Rattle.std.specs.List.{All, AllPairs, Contains, filter}
-use Rattle.std.proofs.lemmas.Bool.{cases_Bool, leb-false, leb-true, le-leb, cond-true, cond-false}
+use Rattle.std.proofs.lemmas.Bool.{cases_Bool, leb-false, leb-true}
 use Rattle.std.proofs.lemmas.List.{get_or-take, get_or_default, length-take, take_more}
 use Rattle.std.proofs.lemmas.List.Quantifiers.{all_pairs_push}
-use Rattle.std.proofs.lemmas.List.Elements.{All-contains_itself, All-nil, All-cons, All-head}
-use Rattle.std.proofs.lemmas.List.Elements.{All-tail, All-filter, All-weaker, filter_passes}
+use Rattle.std.proofs.lemmas.List.Elements.{All-contains_itself, All-nil, All-cons}
+use Rattle.std.proofs.lemmas.List.Elements.{All-filter, filter_passes}
 use Rattle.std.proofs.lemmas.List.Kept.{AllPairs-filter}
 use Rattle.sixel_palette.specs.Palette.{distance}
 use Rattle.sixel_palette.specs.PaletteBound.{AreApart, NoListIsBetter}
 use Rattle.sixel_palette.proofs.PaletteDistance.{distance_comm, distance_through}
+use Rattle.std.proofs.lemmas.Bool.Decides.{nat_tests}
 
 -- pairs of a list without its first element
-AllPairs-tail : {X : Type 0} (R : X → X → Type 0) (x : X) (xs : List X) → AllPairs R (x ∷ xs)
+pub AllPairs-tail : {X : Type 0} (R : X → X → Type 0) (x : X) (xs : List X) → AllPairs R (x ∷ xs)
     → AllPairs R xs
 AllPairs-tail R x xs h = λ i j d l m. h (suc i) (suc j) d (omega arith) (omega arith)
-
--- the pairs of the first element
-AllPairs-head : {X : Type 0} (R : X → X → Type 0) (x : X) (xs : List X) → AllPairs R (x ∷ xs)
-    → All (R x) xs
-AllPairs-head R x xs h = λ k d l. h 0 (suc k) d (omega arith) (omega arith)
 
 -- a test that all elements pass leaves them all
 filter_all : {X : Type 0} (p : X → Bool) (xs : List X) → All (λ x. p x ≡ true) xs → filter p xs ≡ xs
 filter_all p [] h = refl
 filter_all p (x ∷ xs) h =
-    rw (cond-true (p x) (x ∷ filter p xs) (filter p xs) (All-head (λ y. p y ≡ true) x xs h))
-    (ap (λ ys. x ∷ ys) (filter_all p xs (All-tail (λ y. p y ≡ true) x xs h)))
+    rw (h 0 x (omega arith), filter_all p xs (λ k d l. h (suc k) d (omega arith))) refl
 
 -- the color is not near to p
 abbrev is_far : ℕ → List ℕ → List ℕ → Bool
@@ -36,26 +31,18 @@ is_far least p c = leb least (4 * distance c p)
 -- where one color is near to p, a color apart from it is not
 far_from_near : (least : ℕ) (p x y : List ℕ) → least ≤ distance x y → is_far least p x ≡ false
     → is_far least p y ≡ true
-far_from_near least p x y h n =
-    le-leb _ _ (omega (arith, leb-false _ _ n, distance_through x p y, distance_comm p y))
+far_from_near least p x y h n = grind (arith, nat_tests, leb-false, distance_through, distance_comm)
 
 -- of colors that lie apart at most one is near to p
 length-far : (least : ℕ) (p : List ℕ) (colors : List (List ℕ)) → AreApart colors least
     → length colors ≤ length (filter (is_far least p) colors) + 1
 length-far least p [] h = omega arith
 length-far least p (x ∷ xs) h =
-    ⊎_elim (λ t.
-    rw
-    (cond-true (is_far least p x) (x ∷ filter (is_far least p) xs) (filter (is_far least p) xs) t)
-    (omega (arith, length-far least p xs (AllPairs-tail (λ a b. least ≤ distance a b) x xs h))))
-    (λ f.
-    rw
-    (cond-false (is_far least p x) (x ∷ filter (is_far least p) xs) (filter (is_far least p) xs) f)
-    (rw (filter_all (is_far least p) xs (All-weaker (λ y. least ≤ distance x y)
-    (λ y. is_far least p y ≡ true)
-    (λ y l. far_from_near least p x y l f)
-    xs (AllPairs-head (λ a b. least ≤ distance a b) x xs h))) (omega arith)))
-    (cases_Bool (is_far least p x))
+    let tail = length-far least p xs (AllPairs-tail (λ a b. least ≤ distance a b) x xs h) in
+    let far : is_far least p x ≡ false → filter (is_far least p) xs ≡ xs = λ f.
+    filter_all (is_far least p) xs (λ k d l.
+    far_from_near least p x (get_or xs k d) (h 0 (suc k) d (omega arith) (omega arith)) f) in
+    grind (arith, nat_tests, cases_Bool (is_far least p x))
 
 -- the members that are not near to p are members and far from it
 members_far : (Member : List ℕ → Type 0) (least : ℕ) (p : List ℕ) (colors : List (List ℕ))
@@ -70,11 +57,8 @@ members_far Member least p colors members = λ k d l. (
 pub far_from_others : (Member : List ℕ → Type 0) (least : ℕ) (others colors : List (List ℕ))
     → AreApart colors least → All Member colors → length others < length colors
     → (c : List ℕ) × Member c × All (λ p. least ≤ 4 * distance c p) others
-far_from_others Member least [] colors apart members more = (
-  get_or colors 0 [],
-  members 0 [] (omega arith),
-  All-nil (λ p. least ≤ 4 * distance (get_or colors 0 []) p),
-)
+far_from_others Member least [] colors apart members more =
+    (get_or colors 0 [], members 0 [] (omega arith), All-nil _)
 far_from_others Member least (p ∷ others) colors apart members more =
     let IsFar : List ℕ → Type 0 = λ c. least ≤ 4 * distance c p in
     let rest =
@@ -95,9 +79,7 @@ apart_more colors least i l before here =
 -- a color among others that lie apart is at that distance from those before it
 pub apart_before : (colors : List (List ℕ)) (least i : ℕ) → i < length colors
     → AreApart colors least → All (λ p. least ≤ distance p (get_or colors i [])) (take i colors)
-apart_before colors least i l apart = λ k d m.
-    let in_front : k < i = omega (arith, length-take i colors) in
-    rw (get_or-take i colors k d in_front, get_or_default colors i [] d l) (apart k i d in_front l)
+apart_before colors least i l apart = grind (arith, length-take, get_or-take, get_or_default)
 
 -- no list of fewer colors is near to each of those that lie apart
 pub bound_from_apart : (colors : List (List ℕ)) (least : ℕ) → AreApart colors least → (n : ℕ)

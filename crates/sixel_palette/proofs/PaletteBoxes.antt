@@ -25,9 +25,5 @@ weighed-sum codes counts h = omega (arith, dot-ones counts codes h.same, h.few)
 pub binned-part : (bins : List Bin) (start count : ℕ) → binned_pixels bins ≤ area_limit
     → binned_pixels (take count (drop start bins)) ≤ area_limit
 binned-part bins start count few =
-    omega (
-      arith,
-      sum_by-take-le (λ bin. bin.sums.count) (drop start bins) count,
-      sum_by-take-drop (λ bin. bin.sums.count) bins start,
-      few,
-    )
+    let n : Bin → ℕ = λ bin. bin.sums.count in
+    omega (arith, sum_by-take-le n (drop start bins) count, sum_by-take-drop n bins start, few)

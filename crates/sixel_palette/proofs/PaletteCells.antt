@@ -1,6 +1,6 @@
 -- Cells: their bounding boxes, and the farthest color of all.
 use Rattle.sixel_palette.specs.Palette.{no_entry}
-use Rattle.std.proofs.Common.{◌≡◌, ◌⊎◌, inr, ℕ, ◌+◌, ◌-◌, ◌*◌, ◌/◌, ◌<◌, ◌≤◌, min, max, List, []}
+use Rattle.std.proofs.Common.{◌≡◌, ◌⊎◌, inr, ℕ, ◌+◌, ◌*◌, ◌/◌, ◌<◌, ◌≤◌, min, max, List, []}
 use Rattle.std.proofs.Common.{◌∷◌, ◌++◌, length, get_or, take, drop, ⊎_elim, arith}
 use Rattle.std.proofs.lemmas.Bool.{cases_lt}
 use Rattle.std.proofs.lemmas.List.{get_or_append_left, get_or_push}
@@ -11,6 +11,7 @@ use Rattle.sixel_palette.specs.inside.PaletteCells.{channel, IsInInterval, IsInB
 use Rattle.sixel_palette.specs.inside.PaletteCells.{IsGreatestIn, IsCell, AreCells}
 use Rattle.sixel_palette.specs.inside.PaletteCells.{AreAll, IsFirstGreatest}
 use Rattle.sixel_palette.proofs.PaletteLists.{part_at, length-part}
+use Rattle.std.proofs.lemmas.Bool.Decides.{nat_tests}
 
 -- an empty cell
 abbrev pub none : Cell
@@ -33,9 +34,7 @@ pub cells_more : (codes squares : List ℕ) (cells : List Cell) (n : ℕ) (cell 
     → IsCell codes squares n cell → (j : ℕ) (d : Cell) → j < n + 1
     → IsCell codes squares j (get_or (cells ++ cell ∷ []) j d)
 cells_more codes squares cells n cell same before here = λ j d l.
-    ⊎_elim (λ b. rw (get_or_append_left cells (cell ∷ []) d j (omega arith)) (before j d b))
-    (λ b. let e : j ≡ n = omega arith in rw (e, get_or_push cells cell d n same) here)
-    (cases_lt j n)
+    grind (arith, nat_tests, get_or_append_left, get_or_push, before j d)
 
 -- a code of a part is one of the whole
 interval_of_part : (codes : List ℕ) (start n unit : ℕ) (interval : Interval)
@@ -44,9 +43,7 @@ interval_of_part : (codes : List ℕ) (start n unit : ℕ) (interval : Interval)
     → IsInInterval interval (channel unit (get_or (take n (drop start codes)) k 0))) → (k : ℕ)
     → start ≤ k
     → k < start + n → IsInInterval interval (channel unit (get_or codes k 0))
-interval_of_part codes start n unit interval within all k l m =
-    rw (part_at codes start n k l m) at
-    (all (k - start) (omega (arith, length-part codes start n within)))
+interval_of_part codes start n unit interval within all k l m = grind (arith, part_at, length-part)
 
 -- the intervals of its codes make a box round the colors of a cell
 pub box_from_intervals : (codes : List ℕ) (cell n : ℕ) (red green blue : Interval) (greatest : ℕ)
@@ -63,35 +60,17 @@ pub box_from_intervals : (codes : List ℕ) (cell n : ℕ) (red green blue : Int
 unfolding color_of
 box_from_intervals codes cell n red green blue greatest small end r g b k i =
     let code = small k 0 i.within in
-    let in_red =
-    interval_of_part codes (64 * cell) n 65536 red (omega arith) r k i.from
-    (omega (arith, i.to, i.within)) in
-    let in_green =
-    interval_of_part codes (64 * cell) n 256 green (omega arith) g k i.from
-    (omega (arith, i.to, i.within)) in
-    let in_blue =
-    interval_of_part codes (64 * cell) n 1 blue (omega arith) b k i.from
-    (omega (arith, i.to, i.within)) in
-    record {
-      red = record {
-        low = omega (arith, in_red.low, code);
-        high = omega (arith, in_red.high, code);
-      };
-      green = record { low = omega (arith, in_green.low); high = omega (arith, in_green.high) };
-      blue = record { low = omega (arith, in_blue.low); high = omega (arith, in_blue.high) };
-    }
+    let within : k < 64 * cell + n = omega (arith, i.to, i.within) in
+    let few : 64 * cell + n ≤ length codes = omega arith in
+    let in_red = interval_of_part codes (64 * cell) n 65536 red few r k i.from within in
+    let in_green = interval_of_part codes (64 * cell) n 256 green few g k i.from within in
+    let in_blue = interval_of_part codes (64 * cell) n 1 blue few b k i.from within in
+    grind (arith, nat_tests)
 
 -- with no entry each color has the same distance
 pub greatest_none : (codes squares : List ℕ) (cell : ℕ) → 64 * cell < length codes
     → AreAll no_entry (length codes) squares → IsGreatestIn codes squares cell no_entry
-greatest_none codes squares cell some far = record {
-  upper = λ k i. omega (arith, far k i.within);
-  reached = (
-    64 * cell,
-    record { from = omega arith; to = omega arith; within = some },
-    far (64 * cell) some,
-  );
-}
+greatest_none codes squares cell some far = grind (arith, nat_tests)
 
 -- the greatest of one more cell
 pub greatest_cell : (cells : List Cell) (n greatest : ℕ) → n < length cells
@@ -104,12 +83,9 @@ pub greatest_cell : (cells : List Cell) (n greatest : ℕ) → n < length cells
     ⊎ ((j : ℕ) × (j < length cells)
     × ((get_or cells j none).greatest ≡ max (get_or cells n none).greatest greatest)))
 greatest_cell cells n greatest l upper reached = (
-  λ j m.
-      ⊎_elim (λ b. omega (arith, upper j b))
-      (λ (b : n ≤ j). let e : j ≡ n = omega arith in rw e (omega arith))
-      (cases_lt j n),
-  ⊎_elim (λ b. ⊎_elim (λ z. absurd (omega arith)) (λ r. inr (r.0, r.1, omega (arith, r.2))) reached)
-      (λ b. inr (n, l, omega arith)) (cases_lt (get_or cells n none).greatest greatest),
+  λ j m. grind (arith, nat_tests, upper j),
+  ⊎_elim (λ b. grind (arith, nat_tests)) (λ b. inr (n, l, omega arith))
+      (cases_lt (get_or cells n none).greatest greatest),
 )
 
 -- no number is above the greatest of the cells'
@@ -117,28 +93,16 @@ below_best : (codes squares : List ℕ) (cells : List Cell) (greatest best k : �
     → AreCells codes squares cells → IsFirstCell cells greatest best → k < length codes
     → get_or squares k 0 ≤ greatest
 below_best codes squares cells greatest best k h first l =
-    let j = k / 64 in
-    let within : j < length cells = omega (arith, h.all) in
-    omega (
-      arith,
-      (h.each j none within).greatest.upper k
-          (record { from = omega arith; to = omega arith; within = l }),
-      first.upper j within,
-    )
+    let within : k / 64 < length cells = omega (arith, h.all) in
+    grind (arith, nat_tests, h.each (k / 64) none within, first.upper (k / 64))
 
 -- before the first cell with the greatest each number is below it
 before_best : (codes squares : List ℕ) (cells : List Cell) (greatest best k : ℕ)
     → AreCells codes squares cells → IsFirstCell cells greatest best → k < length codes
     → k < 64 * best → get_or squares k 0 < greatest
 before_best codes squares cells greatest best k h first l m =
-    let j = k / 64 in
-    let within : j < length cells = omega (arith, h.all) in
-    omega (
-      arith,
-      (h.each j none within).greatest.upper k
-          (record { from = omega arith; to = omega arith; within = l }),
-      first.first j (omega arith),
-    )
+    let within : k / 64 < length cells = omega (arith, h.all) in
+    grind (arith, nat_tests, h.each (k / 64) none within, first.first (k / 64))
 
 -- the first position in that cell with the greatest number is the first of all
 pub first_greatest : (codes squares : List ℕ) (cells : List Cell) (greatest best farthest : ℕ)
@@ -147,14 +111,4 @@ pub first_greatest : (codes squares : List ℕ) (cells : List Cell) (greatest be
     → ((k : ℕ) → 64 * best ≤ k → k < farthest → get_or squares k 0 < greatest)
     → greatest ≤ get_or squares farthest 0 → IsFirstGreatest squares farthest
 first_greatest codes squares cells greatest best farthest same h first within before reached =
-    record {
-      within = omega arith;
-      greatest = λ k l.
-          omega (arith, below_best codes squares cells greatest best k h first (omega arith));
-      first = λ k l.
-          ⊎_elim
-          (λ b.
-          omega (arith, before_best codes squares cells greatest best k h first (omega arith) b))
-          (λ b. omega (arith, before k b l))
-          (cases_lt k (64 * best));
-    }
+    grind (arith, nat_tests, below_best, before_best)

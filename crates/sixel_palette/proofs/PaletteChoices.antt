@@ -1,6 +1,6 @@
 -- From the listed codes and the entries chosen among them to the palette of the image and its
 -- certificate.
-use Rattle.std.proofs.Common.{◌≡◌, ℕ, ◌<◌, ◌≤◌, List, [], length, get_or, take, map, refl, sym, inl}
+use Rattle.std.proofs.Common.{◌≡◌, ℕ, ◌<◌, ◌≤◌, List, [], length, get_or, map, refl, sym, inl}
 use Rattle.std.proofs.Common.{inr, ◌∙◌, ⊎_elim, arith}
 use Rattle.std.specs.List.{All, Contains}
 use Rattle.std.specs.List.Sorted.{IsStrictlyIncreasing}
@@ -20,6 +20,7 @@ use Rattle.sixel_palette.proofs.PaletteShown.{IsColor-color_at}
 use Rattle.sixel_palette.proofs.PaletteOrder.{farthest_alike, members_from_order, apart_from_order}
 use Rattle.sixel_palette.proofs.PaletteOrder.{bound_from_order}
 use Rattle.sixel_palette.proofs.PaletteSize.{one_size, complete_from_size}
+use Rattle.std.proofs.lemmas.Bool.Decides.{nat_tests}
 
 -- the colors of rising codes are the members of the set that they list
 pub members_from_codes : (M : List ℕ → Type 0) (codes : List ℕ) → IsStrictlyIncreasing codes
@@ -28,34 +29,25 @@ pub members_from_codes : (M : List ℕ → Type 0) (codes : List ℕ) → IsStri
 members_from_codes M codes up to from =
     let color = λ (k : ℕ) (d : List ℕ) (l : k < length codes).
     get_or-map color_of codes k 0 d l in
+    let size = length-map codes color_of in
     record {
-      all = λ k d l.
-          let m : k < length codes = omega (arith, length-map codes color_of) in
-          rw (color k d m) (from _ (k, m, refl));
-      complete = λ c m.
-          let h = to c m in
-          (h.0, omega (arith, length-map codes color_of, h.1), color h.0 c h.1 ∙ h.2);
+      all = λ k d l. rw (color k d (omega arith)) (from _ (k, omega arith, refl));
+      complete = λ c m. let h = to c m in (h.0, omega (arith, h.1), color h.0 c h.1 ∙ h.2);
       ascending = λ i j d l m.
-          let n : j < length codes = omega (arith, length-map codes color_of) in
-          rw (
-            color i d (omega arith),
-            color j d n,
-            rank-color_of (get_or codes i 0),
-            rank-color_of (get_or codes j 0),
-          ) (AllPairs-from_increasing codes up i j 0 l n);
+          let n : j < length codes = omega arith in
+          rw (color i d (omega arith), color j d n)
+          (omega (arith, rank-color_of, AllPairs-from_increasing codes up i j 0 l n));
     }
 
 pub size_from_codes : (M : List ℕ → Type 0) (codes : List ℕ) → IsStrictlyIncreasing codes
     → ((c : List ℕ) → M c → IsListed codes c) → ((c : List ℕ) → IsListed codes c → M c)
     → HasSize M (length codes)
-size_from_codes M codes up to from =
-    (map color_of codes, members_from_codes M codes up to from, length-map codes color_of)
+size_from_codes h codes up to from = grind (arith, nat_tests, members_from_codes, length-map)
 
 -- a list that is farthest first over a set is so over the same set
 order_alike : (M N : List ℕ → Type 0) → ((c : List ℕ) → M c → N c) → ((c : List ℕ) → N c → M c)
     → (entries : List (List ℕ)) → IsFarthestFirst M entries → IsFarthestFirst N entries
-order_alike M N to from entries order = λ i d l.
-    farthest_alike M N to from (take i entries) (get_or entries i d) (order i d l)
+order_alike h e to from entries order = grind (arith, nat_tests)
 
 -- the color of an opaque pixel has three channels
 pub three_from_shown : (pixels c : List ℕ) → IsShown pixels c → length c ≡ 3
@@ -117,11 +109,9 @@ module _ (pixels : List ℕ) (room : ℕ) (choice : PaletteChoice)
   -- they lie apart
   pub chosen_apart : AreApart choice.witnesses.items choice.error
   chosen_apart =
-      ⊎_elim (λ l.
-      rw (h.witnesses_some l, h.error_some (omega arith))
-      (apart_from_order (IsShown pixels) choice.colors.items h.far chosen_order
-      (chosen_farthest (omega arith))))
-      (λ l. rw (h.witnesses_none l) (λ i j d m n. absurd (omega arith)))
+      ⊎_elim (λ l. rw (h.witnesses_some l, h.error_some (omega arith))
+      (apart_from_order (IsShown pixels) _ h.far chosen_order (chosen_farthest (omega arith))))
+      (λ l. rw (h.witnesses_none l) (grind arith))
       (cases_lt (length choice.colors.items) (length h.codes))
 
   -- they are colors of opaque pixels
@@ -156,19 +146,13 @@ module _ (pixels : List ℕ) (room : ℕ) (choice : PaletteChoice)
       → nearest choice.colors.items c < no_entry
   chosen_near bytes r c m =
       let some = some_from_shown c m in
-      let size = h.size in
-      let l : 0 < length choice.colors.items = omega arith in
+      let l : 0 < length choice.colors.items = omega (arith, h.size) in
       let first = members_from_order (IsShown pixels) choice.colors.items chosen_order 0 [] l in
-      omega (
-        arith,
-        nearest-le choice.colors.items c 0 [] l,
-        distance-lt (get_or choice.colors.items 0 []) c (IsColor-shown pixels _ bytes first)
-            (IsColor-shown pixels c bytes m),
-      )
+      grind (arith, nat_tests, nearest-le choice.colors.items c 0 [], distance-lt, IsColor-shown)
 
   -- where no pixel is opaque there is no entry
   pub chosen_empty : ((c : List ℕ) → ¬ IsShown pixels c) → choice.colors.items ≡ []
   chosen_empty none =
-      nil_from_length choice.colors.items (⊎_elim
-      (λ l. absurd (none _ (h.listed (color_of (get_or h.codes 0 0)) (0, l, refl))))
-      (λ l. omega (arith, h.size)) (cases_lt 0 (length h.codes)))
+      nil_from_length choice.colors.items
+      (let c = color_of (get_or h.codes 0 0) in
+      grind (arith, nat_tests, none c, h.listed c, h.size))

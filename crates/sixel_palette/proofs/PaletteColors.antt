@@ -1,5 +1,5 @@
 -- Colors of three bytes and their codes.
-use Rattle.std.proofs.Common.{◌≡◌, ℕ, suc, ◌-◌, ◌<◌, ◌≤◌, List, [], ◌∷◌, length, get_or, refl}
+use Rattle.std.proofs.Common.{◌≡◌, ℕ, suc, ◌-◌, ◌<◌, ◌≤◌, List, [], ◌∷◌, length, get_or}
 use Rattle.std.proofs.Common.{⊎_elim, arith}
 use Rattle.std.specs.List.{All, Contains}
 use Rattle.std.proofs.lemmas.Bool.{cases_lt}
@@ -8,6 +8,7 @@ use Rattle.std.specs.Int.{abs_diff}
 use Rattle.sixel_palette.specs.Palette.{distance, square_gap, nearest, rank, no_entry}
 use Rattle.sixel_palette.specs.inside.PaletteCodes.{color_of, code_count}
 use Rattle.sixel_palette.proofs.PaletteDistance.{same_from_distance, below_three, square-le}
+use Rattle.std.proofs.lemmas.Bool.Decides.{nat_tests}
 
 -- three channels, each a byte
 pub record IsColor (c : List ℕ) : Type 0 where
@@ -17,15 +18,7 @@ pub record IsColor (c : List ℕ) : Type 0 where
 -- colors of one rank are equal
 pub same_from_rank : (a b : List ℕ) → IsColor a → IsColor b → rank a ≡ rank b → a ≡ b
 unfolding rank
-same_from_rank a b p q e =
-    let green = p.bytes 1 (omega arith) in
-    let blue = p.bytes 2 (omega arith) in
-    let other_green = q.bytes 1 (omega arith) in
-    let other_blue = q.bytes 2 (omega arith) in
-    same_number_lists a b (omega (arith, p.three, q.three))
-    (λ k l.
-    below_three (λ k. get_or a k 0 ≡ get_or b k 0)
-    (omega arith) (omega arith) (omega arith) k (omega (arith, p.three)))
+same_from_rank a b p q e = grind (arith, nat_tests, same_number_lists, below_three)
 
 -- the rank of a code's color is the code
 pub rank-color_of : (code : ℕ) → rank (color_of code) ≡ code
@@ -35,18 +28,12 @@ rank-color_of code = omega arith
 -- a code has a color
 pub IsColor-color_of : (code : ℕ) → code < code_count → IsColor (color_of code)
 unfolding color_of
-IsColor-color_of code l = record {
-  three = refl;
-  bytes =
-      below_three (λ k. get_or (color_of code) k 0 < 256)
-      (omega arith) (omega arith) (omega arith);
-}
+IsColor-color_of code l = grind (arith, nat_tests, below_three)
 
 -- the rank of a color has 24 bits
 pub rank-lt : (c : List ℕ) → IsColor c → rank c < code_count
 unfolding rank
-rank-lt c h =
-    omega (arith, h.bytes 0 (omega arith), h.bytes 1 (omega arith), h.bytes 2 (omega arith))
+rank-lt c h = grind (arith, nat_tests)
 
 -- a color is that of its rank
 pub color_of-rank : (c : List ℕ) → IsColor c → color_of (rank c) ≡ c
@@ -59,19 +46,12 @@ square_gap-le : (a b : List ℕ) (k : ℕ) → get_or a k 0 < 256 → get_or b k
     → square_gap a b k ≤ 65025
 unfolding square_gap
 square_gap-le a b k p q =
-    let gap = abs_diff (get_or a k 0) (get_or b k 0) in
-    square-le gap 255 (255 - gap) (omega arith)
+    let gap = abs_diff (get_or a k 0) (get_or b k 0) in square-le gap 255 (255 - gap) (omega arith)
 
 -- the distance of two colors is below that of no entry
 pub distance-lt : (a b : List ℕ) → IsColor a → IsColor b → distance a b < no_entry
 unfolding distance
-distance-lt a b p q =
-    omega (
-      arith,
-      square_gap-le a b 0 (p.bytes 0 (omega arith)) (q.bytes 0 (omega arith)),
-      square_gap-le a b 1 (p.bytes 1 (omega arith)) (q.bytes 1 (omega arith)),
-      square_gap-le a b 2 (p.bytes 2 (omega arith)) (q.bytes 2 (omega arith)),
-    )
+distance-lt a b p q = grind (arith, nat_tests, square_gap-le)
 
 -- a color at no distance from its nearest entry is an entry
 pub Contains-nearest : (ps : List (List ℕ)) (c : List ℕ) → All (λ p. length p ≡ 3) ps → length c ≡ 3
@@ -79,8 +59,7 @@ pub Contains-nearest : (ps : List (List ℕ)) (c : List ℕ) → All (λ p. leng
 unfolding nearest
 Contains-nearest [] c a t h = absurd (omega arith)
 Contains-nearest (p ∷ ps) c a t h =
-    ⊎_elim (λ l.
-    let rest = Contains-nearest ps c (λ k d m. a (suc k) d (omega arith)) t (omega arith) in
-    (suc rest.0, omega (arith, rest.1), rest.2))
-    (λ l. (0, omega arith, same_from_distance p c (a 0 p (omega arith)) t (omega arith)))
-    (cases_lt 0 (distance p c))
+    let rest = Contains-nearest ps c (λ k d m. a (suc k) d (omega arith)) t in
+    let here = same_from_distance p c (a 0 p (omega arith)) t in
+    ⊎_elim (λ l. let r = rest (omega arith) in (suc r.0, omega (arith, r.1), r.2))
+    (λ l. (0, omega arith, here (omega arith))) (cases_lt 0 (distance p c))

@@ -1,9 +1,7 @@
 -- Sums over codes and over pixels.
 use Rattle.std.proofs.Common.{◌≡◌, ℕ, zero, suc, ◌+◌, ◌*◌, ◌/◌, ◌<◌, ◌≤◌, List, [], ◌∷◌, length}
-use Rattle.std.proofs.Common.{get_or, take, set, map, replicate, refl, ap, sym, ◌∙◌, ⊎_elim, arith}
-use Rattle.std.specs.Prelude.{nat_lt, if◌then◌else◌}
+use Rattle.std.proofs.Common.{get_or, take, set, map, replicate, refl, ap, sym, ◌∙◌, arith}
 use Rattle.std.proofs.Math.Nat.{mul-le-mul_left}
-use Rattle.std.proofs.lemmas.Bool.{cases_lt, cond_below, cond_above}
 use Rattle.std.proofs.lemmas.Grind.{same_number_lists}
 use Rattle.std.proofs.lemmas.List.{length-map, length-set, length-replicate, get_or-map}
 use Rattle.std.proofs.lemmas.List.{get_or_default}
@@ -23,6 +21,7 @@ use Rattle.sixel_palette.proofs.PaletteColors.{color_of-rank}
 use Rattle.sixel_palette.proofs.PaletteFarthest.{code_from_listed}
 use Rattle.sixel_palette.proofs.PaletteNearest.{nearest-cap}
 use Rattle.sixel_palette.proofs.PaletteShown.{IsColor-color_at}
+use Rattle.std.proofs.lemmas.Bool.Decides.{nat_tests}
 
 -- no numbers have the sum 0
 pub dot-zeros : (n : ℕ) (ys : List ℕ) → dot (replicate n 0) ys ≡ 0
@@ -107,57 +106,36 @@ sum_to-ones f (suc n) h = omega (arith, sum_to-ones f n h, h n)
 -- a transparent pixel has the number 0
 pub number_hidden : (f : ℕ → ℕ) (pixels : List ℕ) (pixel : ℕ)
     → get_or pixels (4 * pixel + 3) 0 < 128 → pixel_number f pixels pixel ≡ 0
-number_hidden f pixels pixel l =
-    sym (cond_below (get_or pixels (4 * pixel + 3) 0) 128 0 (f (rank (color_at pixels pixel))) l)
+number_hidden f pixels pixel l = grind (arith, nat_tests)
 
 -- an opaque pixel has the number of its color
 pub number_opaque : (f : ℕ → ℕ) (pixels : List ℕ) (pixel : ℕ)
     → 128 ≤ get_or pixels (4 * pixel + 3) 0
     → pixel_number f pixels pixel ≡ f (rank (color_at pixels pixel))
-number_opaque f pixels pixel l =
-    let number = f (rank (color_at pixels pixel)) in
-    sym (cond_above (get_or pixels (4 * pixel + 3) 0) 128 0 number number l refl)
+number_opaque f pixels pixel l = grind (arith, nat_tests)
 
 -- a pixel counts at most once
 pub number-one : (pixels : List ℕ) (pixel : ℕ) → pixel_number (λ _. 1) pixels pixel ≤ 1
-number-one pixels pixel =
-    ⊎_elim (λ l. omega (arith, number_hidden (λ _. 1) pixels pixel l))
-    (λ l. omega (arith, number_opaque (λ _. 1) pixels pixel l))
-    (cases_lt (get_or pixels (4 * pixel + 3) 0) 128)
+number-one pixels pixel = grind (arith, nat_tests)
 
 -- a number of a pixel's color is that of its color's code
 pub number-color : (number : List ℕ → ℕ) (pixels : List ℕ) → ((k : ℕ) → get_or pixels k 0 < 256)
     → (pixel : ℕ) → pixel_number (λ code. number (color_of code)) pixels pixel
     ≡ opaque_number number pixels pixel
-number-color number pixels bytes pixel =
-    let color = color_at pixels pixel in
-    let same = color_of-rank color (IsColor-color_at pixels pixel bytes) in
-    ap (λ c. if nat_lt (get_or pixels (4 * pixel + 3) 0) 128 then 0 else number c) same
+number-color number pixels bytes pixel = grind (arith, nat_tests, color_of-rank, IsColor-color_at)
 
 -- there are no more pixels than there are
 pub weighed_from_counts : (pixels codes counts : List ℕ)
     → AreCounts pixels codes counts (length pixels / 4) → length pixels / 4 ≤ area_limit
     → IsWeighed codes counts
-weighed_from_counts pixels codes counts h area = record {
-  same = h.same;
-  few =
-      omega (
-        arith,
-        h.sums (λ _. 1),
-        sum_to-ones (pixel_number (λ _. 1) pixels)
-            (length pixels / 4) (number-one pixels),
-        area,
-      );
-}
+weighed_from_counts pixels codes counts h area =
+    grind (arith, nat_tests, h.sums (λ _. 1), sum_to-ones, number-one)
 
 -- sums over the codes are those over the pixels
 sums_from_counts : (number : List ℕ → ℕ) (pixels codes counts : List ℕ)
     → ((k : ℕ) → get_or pixels k 0 < 256) → AreCounts pixels codes counts (length pixels / 4)
     → dot counts (map (λ code. number (color_of code)) codes) ≡ opaque_pixels pixels number
-sums_from_counts number pixels codes counts bytes h =
-    h.sums (λ code. number (color_of code))
-    ∙ sum_to-same (pixel_number (λ code. number (color_of code)) pixels)
-    (opaque_number number pixels) (length pixels / 4) (number-color number pixels bytes)
+sums_from_counts number pixels codes counts bytes h = grind (arith, sum_to-same, number-color)
 
 -- so is the error
 pub error_from_counts : (entries : List (List ℕ)) (pixels codes counts : List ℕ)
@@ -170,74 +148,77 @@ error_from_counts entries pixels codes counts bytes h =
 pub error-small : (entries : List (List ℕ)) (codes counts : List ℕ) → IsWeighed codes counts
     → counted_error entries codes counts ≤ no_entry * area_limit
 error-small entries codes counts h =
-    omega (
-      arith,
-      dot-map-le counts codes (near_code entries) (λ _. no_entry)
-          (λ code. nearest-cap entries (color_of code)),
-      dot-map-same counts codes no_entry,
-      h.few,
-    )
+    let le = dot-map-le counts codes (near_code entries) (λ _. no_entry)
+    (λ code. nearest-cap entries (color_of code)) in
+    omega (arith, dot-map-same counts codes no_entry)
 
 -- squared distances of nearest entries are a map of the codes
 pub squares_mapped : (entries : List (List ℕ)) (codes squares indices : List ℕ)
     → length squares ≡ length codes → AreNearest entries codes squares indices
     → squares ≡ map (near_code entries) codes
 squares_mapped entries codes squares indices same near =
-    same_number_lists squares (map (near_code entries) codes)
-    (omega (arith, length-map codes (near_code entries)))
-    (λ k l.
-    (near k (omega arith)).gap
-    ∙ sym (get_or-map (near_code entries) codes k 0 0 (omega arith)))
+    grind (arith, nat_tests, same_number_lists, length-map, get_or-map)
 
 -- no pixel is counted yet
 pub counts_none : (pixels codes counts : List ℕ) → counts ≡ replicate (length codes) 0
     → AreCounts pixels codes counts 0
 unfolding sum_to
-counts_none pixels codes counts e = record {
-  same = rw e (length-replicate (length codes) 0);
-  sums = λ number. rw e (dot-zeros (length codes) (map number codes));
-}
+counts_none pixels codes counts e = grind (arith, nat_tests, length-replicate, dot-zeros)
 
--- a transparent pixel is not counted
-pub counts_hidden : (pixels codes counts : List ℕ) (pixel : ℕ)
-    → get_or pixels (4 * pixel + 3) 0 < 128 → AreCounts pixels codes counts pixel
-    → AreCounts pixels codes counts (pixel + 1)
-counts_hidden pixels codes counts pixel hidden h = record {
+-- a number of several pixels in a row
+sum_to-run : (f : ℕ → ℕ) (x from n : ℕ) → ((k : ℕ) → k < n → f (from + k) ≡ x)
+    → sum_to f (from + n) ≡ sum_to f from + n * x
+sum_to-run f x from zero h =
+    let same : from + zero ≡ from = omega arith in rw same (omega arith)
+sum_to-run f x from (suc n) h =
+    let next : from + suc n ≡ from + n + 1 = omega arith in
+    rw next
+    (omega (
+      arith,
+      sum_to-more f (from + n),
+      sum_to-run f x from n (λ k l. h k (omega (arith, l))),
+      h n (omega arith),
+    ))
+
+-- transparent pixels, in a row, are not counted
+pub counts_hidden : (pixels codes counts : List ℕ) (pixel n : ℕ)
+    → ((k : ℕ) → k < n → get_or pixels (4 * (pixel + k) + 3) 0 < 128)
+    → AreCounts pixels codes counts pixel → AreCounts pixels codes counts (pixel + n)
+counts_hidden pixels codes counts pixel n hidden h = record {
   same = h.same;
   sums = λ number.
       omega (
         arith,
         h.sums number,
-        sum_to-more (pixel_number number pixels) pixel,
-        number_hidden number pixels pixel hidden,
+        sum_to-run (pixel_number number pixels) 0 pixel n
+            (λ k l. number_hidden number pixels (pixel + k) (hidden k l)),
       );
 }
 
--- an opaque pixel is counted for the code of its color
-pub counts_opaque : (pixels codes counts : List ℕ) (pixel position x : ℕ)
-    → 128 ≤ get_or pixels (4 * pixel + 3) 0 → position < length codes
-    → get_or codes position 0 ≡ rank (color_at pixels pixel)
-    → x ≡ get_or counts position 0 + 1 → AreCounts pixels codes counts pixel
-    → AreCounts pixels codes (set counts position x) (pixel + 1)
-counts_opaque pixels codes counts pixel position x opaque within same e h = record {
+-- opaque pixels of one color, in a row, are counted for its code
+pub counts_run : (pixels codes counts : List ℕ) (pixel n position x : ℕ)
+    → ((k : ℕ) → k < n → 128 ≤ get_or pixels (4 * (pixel + k) + 3) 0) → position < length codes
+    → ((k : ℕ) → k < n → get_or codes position 0 ≡ rank (color_at pixels (pixel + k)))
+    → x ≡ get_or counts position 0 + n → AreCounts pixels codes counts pixel
+    → AreCounts pixels codes (set counts position x) (pixel + n)
+counts_run pixels codes counts pixel n position x opaque within same e h = record {
   same = omega (arith, h.same, length-set counts position x);
   sums = λ number.
       let numbers = map number codes in
-      let here : get_or numbers position 0 ≡ number (rank (color_at pixels pixel)) =
-      get_or-map number codes position 0 0 within ∙ ap number same in
+      let own = number (get_or codes position 0) in
+      let here : get_or numbers position 0 ≡ own = get_or-map number codes position 0 0 within in
       let old = get_or counts position 0 in
-      let one : x * get_or numbers position 0
-      ≡ old * get_or numbers position 0 + get_or numbers position 0 =
-      rw e (omega arith) in
+      let more : x * get_or numbers position 0
+      ≡ old * get_or numbers position 0 + n * own =
+      rw (e, here) (omega arith) in
       omega (
         arith,
         dot-set counts numbers position x (omega (arith, h.same))
             (omega (arith, length-map codes number)),
         h.sums number,
-        sum_to-more (pixel_number number pixels) pixel,
-        number_opaque number pixels pixel opaque,
-        here,
-        one,
+        sum_to-run (pixel_number number pixels) own pixel n (λ k l.
+            number_opaque number pixels (pixel + k) (opaque k l) ∙ ap number (sym (same k l))),
+        more,
       );
 }
 
@@ -246,45 +227,29 @@ pub count-le : (pixels codes counts : List ℕ) (count position : ℕ) → posit
     → AreCounts pixels codes counts count → get_or counts position 0 ≤ count
 count-le pixels codes counts count position within h =
     let unit : ℕ → ℕ = λ _. 1 in
-    let ones = map unit codes in
-    let one : get_or ones position 0 ≡ 1 = get_or-map unit codes position 0 0 within in
-    let product : get_or counts position 0 * get_or ones position 0 ≡ get_or counts position 0 =
-    rw one (omega arith) in
-    omega (
-      arith,
-      dot-ge counts ones position (omega (arith, h.same)) (omega (arith, length-map codes unit)),
-      h.sums unit,
-      sum_to-ones (pixel_number unit pixels) count (number-one pixels),
-      product,
-    )
+    let one = get_or-map unit codes position 0 0 within in
+    let size = length-map codes unit in
+    let le = dot-ge counts (map unit codes) position (omega (arith, h.same)) (omega arith) in
+    let few = sum_to-ones (pixel_number unit pixels) count (number-one pixels) in
+    omega (arith, rw one at le, h.sums unit)
 
 -- the code of a listed color is among the codes
 pub Contains-code : (codes : List ℕ) (c : List ℕ) (code : ℕ) → code ≡ rank c → IsListed codes c
     → Contains codes code
-Contains-code codes c code e m = (
-  m.0,
-  m.1,
-  get_or_default codes m.0 code 0 m.1 ∙ code_from_listed codes c m ∙ sym e,
-)
+Contains-code codes c code e m = grind (arith, nat_tests, get_or_default, code_from_listed)
 
 -- numbers that are all 0 have the sum 0
 sum_to-zero : (f : ℕ → ℕ) (n : ℕ) → ((k : ℕ) → k < n → f k ≡ 0) → sum_to f n ≡ 0
 unfolding sum_to
 sum_to-zero f zero h = refl
-sum_to-zero f (suc n) h =
-    omega (arith, sum_to-zero f n (λ k l. h k (omega arith)), h n (omega arith))
+sum_to-zero f (suc n) h = grind (arith, sum_to-zero f n, h n)
 
 -- without an opaque pixel there is no error
 pub error_none : (entries : List (List ℕ)) (pixels : List ℕ) → ((c : List ℕ) → ¬ IsShown pixels c)
     → summed_error entries pixels ≡ 0
 error_none entries pixels none =
     sum_to-zero (pixel_error entries pixels) (length pixels / 4)
-    (λ pixel l.
-    ⊎_elim (λ hidden.
-    sym (cond_below (get_or pixels (4 * pixel + 3) 0) 128 0
-    (nearest entries (color_at pixels pixel)) hidden))
-    (λ opaque. absurd (none (color_at pixels pixel) (pixel, l, opaque, refl)))
-    (cases_lt (get_or pixels (4 * pixel + 3) 0) 128))
+    (λ pixel l. grind (arith, nat_tests, none (color_at pixels pixel)))
 
 -- no products
 pub dot-nil : (ys : List ℕ) → 0 ≡ dot [] ys
@@ -306,12 +271,8 @@ dot-sum f [] [] e = refl
 dot-sum f [] (x ∷ counts) e = absurd (omega arith)
 dot-sum f (code ∷ codes) [] e = absurd (omega arith)
 dot-sum f (code ∷ codes) (x ∷ counts) e =
-    let g : ℕ → ℕ = λ k. get_or (x ∷ counts) k 0 * f (get_or (code ∷ codes) k 0) in
-    omega (
-      arith,
-      dot-sum f codes counts (omega arith),
-      sum_to-front g (length codes),
-    )
+    let front = sum_to-front (λ k. get_or (x ∷ counts) k 0 * f (get_or (code ∷ codes) k 0)) in
+    omega (arith, dot-sum f codes counts (omega arith), front (length codes))
 
 -- the sum of the products is one over the pixels of the codes
 pub dot-counted : (number : List ℕ → ℕ) (codes counts : List ℕ) → length counts ≡ length codes

@@ -1,10 +1,9 @@
 -- From the distances of the colors to the farthest one, and from their palette indices to those of
 -- the pixels.
 use Rattle.std.proofs.Common.{◌≡◌, ℕ, ◌+◌, ◌*◌, ◌/◌, ◌%◌, ◌<◌, ◌≤◌, List, [], length, get_or, refl}
-use Rattle.std.proofs.Common.{ap, sym, ◌∙◌, ⊎_elim, arith}
+use Rattle.std.proofs.Common.{ap, sym, ◌∙◌, arith}
 use Rattle.std.specs.List.{Contains}
 use Rattle.std.specs.List.Sorted.{IsStrictlyIncreasing}
-use Rattle.std.proofs.lemmas.Bool.{cases_lt}
 use Rattle.std.proofs.lemmas.List.{get_or_default}
 use Rattle.sixel_palette.specs.declared.palette.nearest_entry.NearestEntry.{NearestEntry}
 use Rattle.sixel_palette.specs.Palette.{nearest, rank, color_at, IsOpaque, IsShown, IsFarthest}
@@ -17,13 +16,12 @@ use Rattle.sixel_palette.proofs.PaletteLists.{increasing-le}
 use Rattle.sixel_palette.proofs.PaletteNearest.{nearest-nil, nearest-le}
 use Rattle.sixel_palette.proofs.PaletteColors.{rank-color_of, color_of-rank}
 use Rattle.sixel_palette.proofs.PaletteShown.{IsColor-color_at}
+use Rattle.std.proofs.lemmas.Bool.Decides.{nat_tests}
 
 -- an earlier position has a color that is no later in order
 rank-le : (codes : List ℕ) → IsStrictlyIncreasing codes → (i j : ℕ) → i ≤ j → j < length codes
     → rank (color_of (get_or codes i 0)) ≤ rank (color_of (get_or codes j 0))
-rank-le codes up i j l m =
-    rw (rank-color_of (get_or codes i 0), rank-color_of (get_or codes j 0))
-    (increasing-le codes up i j l m)
+rank-le codes up i j l m = grind (arith, nat_tests, rank-color_of, increasing-le)
 
 -- with no entry the first of the listed colors is farthest
 pub farthest_of_none : (codes : List ℕ) → IsStrictlyIncreasing codes → 0 < length codes
@@ -47,44 +45,12 @@ pub farthest_from_position : (entries : List (List ℕ)) (codes squares color_in
     → AreNearest entries codes squares color_indices → IsFirstGreatest squares position
     → IsFarthest (IsListed codes) entries (color_of (get_or codes position 0))
 farthest_from_position entries codes squares color_indices position up same kept first =
-    let here : IsListed codes (color_of (get_or codes position 0)) = (
-      position,
-      omega (arith, first.within),
-      refl,
-    ) in
-    let gap =
-    squared-listed entries codes squares color_indices kept (color_of (get_or codes position 0))
-    here in
-    record {
-      member = here;
-      farthest = λ d m.
-          omega (
-            arith,
-            gap,
-            squared-listed entries codes squares color_indices kept d m,
-            first.greatest m.0 (omega (arith, m.1)),
-          );
-      least = λ d m e.
-          rw (← m.2) (rank-le codes up position m.0 (⊎_elim
-          (λ l.
-          absurd (omega (
-            arith,
-            gap,
-            squared-listed entries codes squares color_indices kept d m,
-            first.first m.0 l,
-            e,
-          )))
-          (λ l. l) (cases_lt m.0 position)) m.1);
-    }
+    grind (arith, nat_tests, squared-listed, rank-le)
 
 -- a distance below that of no entry is that of the nearest entry
 pub nearest_from_entry : (entries : List (List ℕ)) (c : List ℕ) (near : NearestEntry)
     → nearest entries c < no_entry → IsNearestEntry entries c near → IsNearest entries c near.index
-nearest_from_entry entries c near l h = record {
-  entry = h.within l;
-  least = λ j m. rw (h.least l) (nearest-le entries c j [] m);
-  first = λ j m. rw (h.least l) (h.first l j m);
-}
+nearest_from_entry entries c near l h = grind (arith, nat_tests, nearest-le)
 
 -- a code that is the rank of a listed color is among the codes
 pub code_from_listed : (codes : List ℕ) (c : List ℕ) (m : IsListed codes c)
@@ -96,18 +62,13 @@ pub Contains-word : (pixels codes : List ℕ) (pixel word : ℕ)
     → word / 256 ≡ rank (color_at pixels pixel) → pixel < length pixels / 4 → IsOpaque pixels pixel
     → ((c : List ℕ) → IsShown pixels c → IsListed codes c) → Contains codes (word / 256)
 Contains-word pixels codes pixel word code l opaque listed =
-    let color = color_at pixels pixel in
-    let m = listed color (pixel, l, opaque, refl) in (
-      m.0,
-      m.1,
-      get_or_default codes m.0 (word / 256) 0 m.1 ∙ code_from_listed codes color m ∙ sym code,
-    )
+    let m = listed (color_at pixels pixel) (pixel, l, opaque, refl) in
+    (m.0, m.1, grind (arith, nat_tests, get_or_default, code_from_listed))
 
 -- the color of a pixel is that of its word
 color_of_word : (pixels : List ℕ) (pixel word : ℕ) → ((k : ℕ) → get_or pixels k 0 < 256)
     → word / 256 ≡ rank (color_at pixels pixel) → color_of (word / 256) ≡ color_at pixels pixel
-color_of_word pixels pixel word bytes code =
-    ap color_of code ∙ color_of-rank (color_at pixels pixel) (IsColor-color_at pixels pixel bytes)
+color_of_word pixels pixel word bytes code = grind (arith, color_of-rank, IsColor-color_at)
 
 -- a bound on opaque pixels' colors applies to that of an opaque pixel's word
 pub word_below : (pixels : List ℕ) (entries : List (List ℕ)) (pixel word : ℕ)
@@ -115,17 +76,12 @@ pub word_below : (pixels : List ℕ) (entries : List (List ℕ)) (pixel word : �
     → pixel < length pixels / 4 → IsOpaque pixels pixel
     → ((c : List ℕ) → IsShown pixels c → nearest entries c < no_entry)
     → nearest entries (color_of (word / 256)) < no_entry
-word_below pixels entries pixel word bytes code l opaque below =
-    rw (color_of_word pixels pixel word bytes code)
-    (below (color_at pixels pixel) (pixel, l, opaque, refl))
+word_below pixels entries pixel word bytes code l opaque below = grind (arith, color_of_word)
 
 -- the index for a word is that of each pixel with the word
 pub index_from_word : (pixels : List ℕ) (entries : List (List ℕ)) (pixel word index : ℕ)
     → ((k : ℕ) → get_or pixels k 0 < 256) → word / 256 ≡ rank (color_at pixels pixel)
     → word % 256 ≡ get_or pixels (4 * pixel + 3) 0 → IsIndexOf entries word index
     → IsIndex pixels entries pixel index
-index_from_word pixels entries pixel word index bytes code alpha h = record {
-  opaque = λ o.
-      rw (color_of_word pixels pixel word bytes code) at h.opaque (omega (arith, alpha, o));
-  hidden = λ l. h.hidden (omega (arith, alpha, l));
-}
+index_from_word pixels entries pixel word index bytes code alpha h =
+    grind (arith, nat_tests, color_of_word)

@@ -22,13 +22,7 @@ smaller a b = cond (nat_lt a b) 4294967295 0
 -- each lane of a mask is one of two numbers
 pub mask_each : (P : ℕ → Type 0) (test : ℕ → ℕ → Bool) (xs ys : List ℕ) → P 4294967295 → P 0
     → Each1 P (zip2 (λ a b. cond (test a b) 4294967295 0) xs ys)
-mask_each P test xs ys on off =
-    Each1-zip2 (λ a b. cond (test a b) 4294967295 0) P xs ys
-    (Each2-all (λ a b. P (cond (test a b) 4294967295 0)) (λ a b.
-    elim (cases_Bool (test a b)) [
-      | inl less ↦ rw less on
-      | inr more ↦ rw more off
-    ]) xs ys)
+mask_each h test xs ys on off = grind (arith, nat_tests, Each1-zip2, Each2-all, cases_Bool)
 
 -- the lanes that a mask chooses
 pub length-chosen : (ms : List Bool) (xs ys : List ℕ) → length ms ≡ 8 → length xs ≡ 8
@@ -38,15 +32,12 @@ length-chosen ms xs ys m x y = length-sel_l ms xs ys (m ∙ sym x) (m ∙ sym y)
 chosen_at : (ms : List Bool) (xs ys : List ℕ) (j : ℕ) (test : Bool) → length ms ≡ 8
     → length xs ≡ 8 → length ys ≡ 8 → j < 8 → get_or ms j false ≡ test
     → get_or (sel_l ms xs ys) j 0 ≡ cond test (get_or xs j 0) (get_or ys j 0)
-chosen_at ms xs ys j test m x y l is =
-    get_or-sel_l ms xs ys j 0 (omega (arith, l, m)) (omega (arith, l, x)) (omega (arith, l, y))
-    ∙ ap (λ t. cond t (get_or xs j 0) (get_or ys j 0)) is
+chosen_at ms xs ys j test m x y l is = grind (arith, nat_tests, get_or-sel_l)
 
 -- the mask of the smaller lanes
 pub length-smaller : (ds ss : List ℕ) → length ds ≡ 8 → length ss ≡ 8
     → length (map (top 31) (zip2 smaller ds ss)) ≡ 8
-length-smaller ds ss d s =
-    length-map (zip2 smaller ds ss) (top 31) ∙ length-zip2 smaller ds ss (d ∙ sym s) ∙ d
+length-smaller ds ss d s = grind (arith, nat_tests, length-map, length-zip2)
 
 smaller_at : (ds ss : List ℕ) (j : ℕ) → length ds ≡ 8 → length ss ≡ 8 → j < 8
     → get_or (map (top 31) (zip2 smaller ds ss)) j false
@@ -59,20 +50,13 @@ smaller_at ds ss j d s l =
 pub least_at : (ds ss : List ℕ) (j : ℕ) → length ds ≡ 8 → length ss ≡ 8 → j < 8
     → get_or (sel_l (map (top 31) (zip2 smaller ds ss)) ds ss) j 0
     ≡ cond (nat_lt (get_or ds j 0) (get_or ss j 0)) (get_or ds j 0) (get_or ss j 0)
-least_at ds ss j d s l =
-    chosen_at (map (top 31) (zip2 smaller ds ss)) ds ss j
-    (nat_lt (get_or ds j 0) (get_or ss j 0)) (length-smaller ds ss d s) d s l
-    (smaller_at ds ss j d s l)
+least_at ds ss j d s l = grind (arith, nat_tests, chosen_at, nat_lt, length-smaller, smaller_at)
 
 -- the same mask, compared with 0 and made of narrower lanes
 pub length-narrow : (f : ℕ → ℕ) (g : ℕ → ℕ → ℕ) (ds ss zs : List ℕ) → length ds ≡ 8
     → length ss ≡ 8 → length zs ≡ 8
     → length (map (top 7) (map f (zip2 g (zip2 smaller ds ss) zs))) ≡ 8
-length-narrow f g ds ss zs d s z =
-    let first = length-zip2 smaller ds ss (d ∙ sym s) ∙ d in
-    length-map (map f (zip2 g (zip2 smaller ds ss) zs)) (top 7)
-    ∙ length-map (zip2 g (zip2 smaller ds ss) zs) f
-    ∙ length-zip2 g (zip2 smaller ds ss) zs (first ∙ sym z) ∙ first
+length-narrow f g ds ss zs d s z = grind (arith, nat_tests, length-zip2, length-map)
 
 narrow_at : (f : ℕ → ℕ) (g : ℕ → ℕ → ℕ) (ds ss zs : List ℕ) (j : ℕ) → length ds ≡ 8
     → length ss ≡ 8 → length zs ≡ 8 → get_or zs j 0 ≡ 0 → top 7 (f (g 4294967295 0)) ≡ true
@@ -80,21 +64,17 @@ narrow_at : (f : ℕ → ℕ) (g : ℕ → ℕ → ℕ) (ds ss zs : List ℕ) (j
     → get_or (map (top 7) (map f (zip2 g (zip2 smaller ds ss) zs))) j false
     ≡ nat_lt (get_or ds j 0) (get_or ss j 0)
 narrow_at f g ds ss zs j d s z zero on off l =
-    let test = nat_lt (get_or ds j 0) (get_or ss j 0) in
     let first = length-zip2 smaller ds ss (d ∙ sym s) ∙ d in
     let second = length-zip2 g (zip2 smaller ds ss) zs (first ∙ sym z) ∙ first in
     let third = length-map (zip2 g (zip2 smaller ds ss) zs) f ∙ second in
-    get_or-map (top 7) (map f (zip2 g (zip2 smaller ds ss) zs)) j 0 false (omega (arith, l, third))
-    ∙ ap (top 7) (get_or-map f (zip2 g (zip2 smaller ds ss) zs) j 0 0 (omega (arith, l, second))
-    ∙ ap f (get_or-zip2 g (zip2 smaller ds ss) zs j 0 0 0 (omega (arith, l, first))
-    (omega (arith, l, z))
-    ∙ ap (λ m. g m (get_or zs j 0)) (get_or-zip2 smaller ds ss j 0 0 0 (omega (arith, l, d))
-    (omega (arith, l, s)))
-    ∙ ap (g (cond test 4294967295 0)) zero))
-    ∙ elim (cases_Bool test) [
+    let one = get_or-map (top 7) (map f (zip2 g (zip2 smaller ds ss) zs)) j 0 false (omega arith) in
+    let two = get_or-map f (zip2 g (zip2 smaller ds ss) zs) j 0 0 (omega arith) in
+    let three = get_or-zip2 g (zip2 smaller ds ss) zs j 0 0 0 (omega arith) (omega arith) in
+    let four = get_or-zip2 smaller ds ss j 0 0 0 (omega arith) (omega arith) in
+    rw (one, two, three, four, zero) (elim (cases_Bool (nat_lt (get_or ds j 0) (get_or ss j 0))) [
       | inl less ↦ rw less on
       | inr more ↦ rw more off
-    ]
+    ])
 
 -- the lanes that it chooses
 pub narrow_chosen : (f : ℕ → ℕ) (g : ℕ → ℕ → ℕ) (ds ss zs xs ys : List ℕ) (j : ℕ)
@@ -102,29 +82,22 @@ pub narrow_chosen : (f : ℕ → ℕ) (g : ℕ → ℕ → ℕ) (ds ss zs xs ys 
     → get_or zs j 0 ≡ 0 → top 7 (f (g 4294967295 0)) ≡ true → top 7 (f (g 0 0)) ≡ false → j < 8
     → get_or (sel_l (map (top 7) (map f (zip2 g (zip2 smaller ds ss) zs))) xs ys) j 0
     ≡ cond (nat_lt (get_or ds j 0) (get_or ss j 0)) (get_or xs j 0) (get_or ys j 0)
-narrow_chosen f g ds ss zs xs ys j d s z x y zero on off l =
-    chosen_at (map (top 7) (map f (zip2 g (zip2 smaller ds ss) zs))) xs ys j
-    (nat_lt (get_or ds j 0) (get_or ss j 0)) (length-narrow f g ds ss zs d s z) x y l
-    (narrow_at f g ds ss zs j d s z zero on off l)
+narrow_chosen f g ds ss zs xs ys j d s z x y h on off l =
+    grind (arith, nat_tests, chosen_at, nat_lt, length-narrow, narrow_at)
 
 -- eight numbers that are stored
 pub stored_outside : (xs ys : List ℕ) (at k : ℕ) → length ys ≡ 8 → (k < at) ⊎ (at + 8 ≤ k)
     → get_or (put_chunk at xs ys) k 0 ≡ get_or xs k 0
-stored_outside xs ys at k y apart = elim apart [
-  | inl below ↦ get_or-put_chunk_below at xs ys k 0 below
-  | inr above ↦ get_or-put_chunk_above at xs ys k 0 (omega (arith, above, y))
-]
+stored_outside xs ys at k y apart =
+    grind (arith, nat_tests, get_or-put_chunk_below, get_or-put_chunk_above)
 
 pub stored_at : (xs ys : List ℕ) (at j : ℕ) → length ys ≡ 8 → at + 8 ≤ length xs → j < 8
     → get_or (put_chunk at xs ys) (at + j) 0 ≡ get_or ys j 0
-stored_at xs ys at j y within l =
-    get_or-put_chunk_at at xs ys j 0 (omega (arith, l, y)) (omega (arith, within, y))
+stored_at xs ys at j y within l = grind (arith, nat_tests, get_or-put_chunk_at)
 
 pub stored_here : (xs ys : List ℕ) (at k : ℕ) → length ys ≡ 8 → at + 8 ≤ length xs → at ≤ k
     → k < at + 8 → get_or (put_chunk at xs ys) k 0 ≡ get_or ys (k - at) 0
-stored_here xs ys at k y within from to =
-    let place : at + (k - at) ≡ k = omega (arith, from) in
-    rw place at (stored_at xs ys at (k - at) y within (omega (arith, from, to)))
+stored_here xs ys at k y within from to = grind (arith, nat_tests, stored_at)
 
 -- the nearest entry after one more at this distance
 near_chosen : (entries : List (List ℕ)) (p c : List ℕ) (d s i index : ℕ)
@@ -134,14 +107,9 @@ near_chosen : (entries : List (List ℕ)) (p c : List ℕ) (d s i index : ℕ)
     (record { squared = cond (nat_lt d s) d s; index = cond (nat_lt d s) index i })
 near_chosen entries p c d s i index at far near =
     let old : NearestEntry = record { squared = s; index = i } in
-    elim (cases_lt d s) [
-      | inl less ↦
-          let is : nat_lt d s ≡ true = grind (arith, nat_tests) in
-          rw is (near_taken entries p c d index old less at far near)
-      | inr more ↦
-          let is : nat_lt d s ≡ false = grind (arith, nat_tests) in
-          rw is (near_kept entries p c old (omega (arith, more, far)) near)
-    ]
+    let taken = near_taken entries p c d index old in
+    let kept = near_kept entries p c old in
+    grind (arith, nat_tests)
 
 -- so it is of two lists with these numbers
 pub near_stored : (entries : List (List ℕ)) (p c : List ℕ) (k d s i index : ℕ)
@@ -162,18 +130,7 @@ pub record AreGreatestLanes (squares : List ℕ) (from count : ℕ) (lanes : Lis
 greater_at : (lanes more : List ℕ) (j : ℕ) → length lanes ≡ 8 → length more ≡ 8 → j < 8
     → get_or (sel_l (map (top 31) (zip2 smaller lanes more)) more lanes) j 0
     ≡ max (get_or lanes j 0) (get_or more j 0)
-greater_at lanes more j a b l =
-    let own = get_or lanes j 0 in
-    let other = get_or more j 0 in
-    chosen_at (map (top 31) (zip2 smaller lanes more)) more lanes j (nat_lt own other)
-    (length-smaller lanes more a b) b a l (smaller_at lanes more j a b l)
-    ∙ elim (cases_lt own other) [
-      | inl less ↦
-          let is : nat_lt own other ≡ true = grind (arith, nat_tests) in rw is (omega (arith, less))
-      | inr above ↦
-          let is : nat_lt own other ≡ false = grind (arith, nat_tests) in
-          rw is (omega (arith, above))
-    ]
+greater_at lanes more j a b l = grind (arith, chosen_at, nat_lt, length-smaller, smaller_at)
 
 -- eight more numbers
 pub greatest_lanes_more : (old squares : List ℕ) (from count : ℕ) (lanes more : List ℕ)
@@ -184,37 +141,14 @@ pub greatest_lanes_more : (old squares : List ℕ) (from count : ℕ) (lanes mor
     → AreGreatestLanes squares from (count + 8)
     (sel_l (map (top 31) (zip2 smaller lanes more)) more lanes)
 greatest_lanes_more old squares from count lanes more even a b same own h = record {
-  upper = λ k l.
-      elim (cases_lt k count) [
-        | inl below ↦ omega (
-          arith,
-          same (from + k) (omega (arith, below)),
-          h.upper k below,
-          greater_at lanes more (k % 8) a b (omega arith),
-        )
-        | inr above ↦
-            let j = k - count in
-            let small : j < 8 = omega (arith, above, l) in
-            let lane : k % 8 ≡ j = omega (arith, above, small, even) in
-            let place : from + count + j ≡ from + k = omega (arith, above) in
-            rw lane (omega (
-              arith,
-              rw place at (own j small),
-              greater_at lanes more j a b small,
-            ))
-      ];
+  upper = λ k l. grind (arith, nat_tests, own (k - count), same (from + k), greater_at, h.upper k);
   reached = λ j l.
       let is = greater_at lanes more j a b l in
       elim (cases_lt (get_or lanes j 0) (get_or more j 0)) [
-        | inl less ↦
-            let place : from + count + j ≡ from + (count + j) = omega arith in
-            (count + j, omega (arith, l), omega (arith, rw place at (own j l), is, less))
+        | inl less ↦ (count + j, omega (arith, l), grind (arith, nat_tests, own j))
         | inr above ↦
-            let r = h.reached j l in (
-              r.0,
-              omega (arith, r.1),
-              omega (arith, same (from + r.0) (omega (arith, r.1)), r.2, is, above),
-            )
+            let r = h.reached j l in
+            (r.0, omega (arith, r.1), grind (arith, nat_tests, same (from + r.0)))
       ];
 }
 
@@ -222,10 +156,8 @@ greatest_lanes_more old squares from count lanes more even a b same own h = reco
 pub greatest_lanes_first : (squares : List ℕ) (from : ℕ) (lanes : List ℕ)
     → ((j : ℕ) → j < 8 → get_or lanes j 0 ≡ get_or squares (from + j) 0)
     → AreGreatestLanes squares from 8 lanes
-greatest_lanes_first squares from lanes own = record {
-  upper = λ k l. let lane : k % 8 ≡ k = omega (arith, l) in rw lane (omega (arith, own k l));
-  reached = λ j l. (j, l, omega (arith, own j l));
-}
+greatest_lanes_first squares from lanes own =
+    record { upper = λ k l. grind (arith, own k); reached = λ j l. (j, l, sym (own j l)) }
 
 -- the greatest lane is that of the cell
 pub greatest_from_lanes : (codes squares lanes : List ℕ) (cell greatest : ℕ)
@@ -235,18 +167,8 @@ pub greatest_from_lanes : (codes squares lanes : List ℕ) (cell greatest : ℕ)
     → IsGreatestIn codes squares cell greatest
 greatest_from_lanes codes squares lanes cell greatest whole h upper reached = record {
   upper = λ k i.
-      let j = k - 64 * cell in
-      let place : 64 * cell + j ≡ k = omega (arith, i.from) in
-      let below = rw place at (h.upper j (omega (arith, i.from, i.to))) in
-      omega (arith, below, upper (j % 8) (omega arith));
+      grind (arith, nat_tests, h.upper (k - 64 * cell), upper ((k - 64 * cell) % 8), i.from, i.to);
   reached =
-      let r = h.reached reached.0 reached.1 in (
-        64 * cell + r.0,
-        record {
-          from = omega arith;
-          to = omega (arith, r.1);
-          within = omega (arith, r.1, whole);
-        },
-        omega (arith, r.2, reached.2),
-      );
+      let r = h.reached reached.0 reached.1 in
+      (64 * cell + r.0, grind (arith, nat_tests), grind (arith, nat_tests));
 }

@@ -1,17 +1,16 @@
 -- That an image has one palette and a color one nearest entry.
-use Rattle.std.proofs.Common.{◌≡◌, ℕ, ◌<◌, List, length, get_or, sym, ◌∙◌, ⊎_elim, arith}
+use Rattle.std.proofs.Common.{◌≡◌, ℕ, ◌<◌, List, length, get_or, arith}
 use Rattle.std.specs.List.{All}
-use Rattle.std.proofs.lemmas.Bool.{cases_lt, cases_order}
 use Rattle.std.proofs.lemmas.List.{take_all, get_or_past}
-use Rattle.sixel_palette.specs.Palette.{IsShown, HasSize, IsPalette, IsNearest}
+use Rattle.sixel_palette.specs.Palette.{IsShown, HasSize, IsPalette}
 use Rattle.sixel_palette.proofs.PaletteChoices.{IsColor-shown, three_from_shown}
 use Rattle.sixel_palette.proofs.PaletteOrder.{order-take}
 use Rattle.sixel_palette.proofs.PaletteSize.{one_size}
+use Rattle.std.proofs.lemmas.Bool.Decides.{nat_tests}
 
 -- bytes are bytes also past the end
 pub byte-get_or : (p : List ℕ) → All (λ b. b < 256) p → (k : ℕ) → get_or p k 0 < 256
-byte-get_or p bytes k =
-    ⊎_elim (λ l. bytes k 0 l) (λ l. rw (get_or_past p k 0 l) (omega arith)) (cases_lt k (length p))
+byte-get_or p bytes k = grind (arith, nat_tests, get_or_past)
 
 -- images that show the same colors have palettes of one length
 length-palette : (p q : List ℕ) (max_colors : ℕ) (xs ys : List (List ℕ))
@@ -19,8 +18,7 @@ length-palette : (p q : List ℕ) (max_colors : ℕ) (xs ys : List (List ℕ))
     → IsPalette p max_colors xs → IsPalette q max_colors ys → length xs ≡ length ys
 length-palette p q max_colors xs ys to from f g =
     let same =
-    one_size (IsShown p) (IsShown q) to from (three_from_shown p) f.size.0 g.size.0 f.size.1
-    g.size.1 in
+    one_size (IsShown p) (IsShown q) to from (three_from_shown p) _ _ f.size.1 g.size.1 in
     omega (arith, f.size.2, g.size.2)
 
 -- they have one palette
@@ -30,17 +28,9 @@ pub palette_same : (p q : List ℕ) (max_colors : ℕ) (xs ys : List (List ℕ))
 palette_same p q max_colors xs ys bytes to from f g =
     let size = length-palette p q max_colors xs ys to from f g in
     let fronts =
-    order-take (IsShown p) (IsShown q) to from
-    (λ c m. IsColor-shown p c (byte-get_or p bytes) m)
+    order-take (IsShown p) (IsShown q) to from (λ c. IsColor-shown p c (byte-get_or p bytes))
     xs ys f.order g.order (length xs) (omega arith) (omega arith) in
-    sym (take_all (length xs) xs (omega arith)) ∙ fronts ∙ take_all (length xs) ys (omega arith)
-
--- a color has one nearest entry
-pub index_same : (entries : List (List ℕ)) (c : List ℕ) (i j : ℕ) → IsNearest entries c i
-    → IsNearest entries c j → i ≡ j
-index_same entries c i j f g =
-    ⊎_elim (λ e. e) (⊎_elim (λ l. absurd (omega (arith, g.first i l, f.least j g.entry)))
-    (λ l. absurd (omega (arith, f.first j l, g.least i f.entry)))) (cases_order i j)
+    grind (arith, nat_tests, take_all)
 
 -- an image shows one number of colors
 pub size_same : (p : List ℕ) (m n : ℕ) → HasSize (IsShown p) m → HasSize (IsShown p) n → m ≡ n

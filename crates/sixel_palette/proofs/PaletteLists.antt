@@ -1,57 +1,31 @@
 -- Lists of numbers: one more at the end, one set, a part, and numbers that rise.
-use Rattle.std.proofs.Common.{◌≡◌, ℕ, zero, suc, ◌+◌, ◌-◌, ◌<◌, ◌≤◌, List, [], ◌∷◌, ◌++◌}
-use Rattle.std.proofs.Common.{length, get_or, take, drop, replicate, ap, ◌∙◌, inl, inr, ⊎_elim}
-use Rattle.std.proofs.Common.{arith}
+use Rattle.std.proofs.Common.{◌≡◌, ℕ, zero, suc, ◌+◌, ◌-◌, ◌<◌, ◌≤◌, List, [], ◌∷◌, ◌++◌, length}
+use Rattle.std.proofs.Common.{get_or, take, drop, replicate, ◌∙◌, arith}
 use Rattle.std.specs.List.{All}
 use Rattle.std.specs.List.Sorted.{IsStrictlyIncreasing}
-use Rattle.std.proofs.lemmas.Bool.{cases_lt}
 use Rattle.std.proofs.lemmas.List.{get_or_append_left, get_or_push, get_or-take, get_or-drop}
-use Rattle.std.proofs.lemmas.List.{get_or-replicate, length_push}
-use Rattle.std.proofs.lemmas.List.{length-take, length-drop}
+use Rattle.std.proofs.lemmas.List.{get_or-replicate, length_push, length-take, length-drop}
 use Rattle.std.proofs.lemmas.List.Kept.{AllPairs-from_increasing}
+use Rattle.std.proofs.lemmas.Bool.Decides.{nat_tests}
 
 -- a fact of each of four indices
 pub four_cases : (P : ℕ → Type 0) → P 0 → P 1 → P 2 → P 3 → (k : ℕ) → k < 4 → P k
-four_cases P a b c d zero l = a
-four_cases P a b c d (suc zero) l = b
-four_cases P a b c d (suc (suc zero)) l = c
-four_cases P a b c d (suc (suc (suc zero))) l = d
-four_cases P a b c d (suc (suc (suc (suc k)))) l = absurd (omega arith)
+four_cases P a b c d k l = grind (arith, nat_tests)
 
 -- each position below eight
 pub eight_cases : (P : ℕ → Type 0) → P 0 → P 1 → P 2 → P 3 → P 4 → P 5 → P 6 → P 7 → (k : ℕ)
     → k < 8 → P k
-eight_cases P a b c d e f g h k l =
-    elim (cases_lt k 4) [
-      | inl low ↦ four_cases P a b c d k low
-      | inr high ↦
-          let place : 4 + (k - 4) ≡ k = omega (arith, high) in
-          rw place at (four_cases (λ j. P (4 + j)) e f g h (k - 4) (omega (arith, l, high)))
-    ]
+eight_cases i a b c d e f g h k l = grind (arith, nat_tests)
 
 -- rising numbers do not fall from an earlier position to a later one
 pub increasing-le : (xs : List ℕ) → IsStrictlyIncreasing xs → (i j : ℕ) → i ≤ j → j < length xs
     → get_or xs i 0 ≤ get_or xs j 0
-increasing-le xs up i j l m =
-    ⊎_elim (λ (h : i < j). omega (arith, AllPairs-from_increasing xs up i j 0 h m))
-    (λ (h : j ≤ i). let e : i ≡ j = omega arith in rw e (omega arith))
-    (cases_lt i j)
+increasing-le xs up i j l m = grind (arith, nat_tests, AllPairs-from_increasing)
 
 -- rising numbers and a greater one rise
 pub increasing-push : (xs : List ℕ) (x : ℕ) → IsStrictlyIncreasing xs → All (λ y. y < x) xs
     → IsStrictlyIncreasing (xs ++ x ∷ [])
-increasing-push xs x up below = λ k l.
-    let long = length_push xs x in
-    ⊎_elim (λ (m : k + 1 < length xs).
-    rw
-    (get_or_append_left xs (x ∷ []) 0 k (omega arith), get_or_append_left xs (x ∷ []) 0 (k + 1) m)
-    (up k m))
-    (λ (m : length xs ≤ k + 1).
-    rw (
-      get_or_append_left xs (x ∷ []) 0 k (omega (arith, long)),
-      get_or_push xs x 0 (k + 1) (omega (arith, long)),
-    ) (below k 0 (omega (arith, long))))
-    (cases_lt (k + 1) (length xs))
+increasing-push xs x up below = grind (arith, length_push, get_or_append_left, get_or_push)
 
 -- a rising number is at least its position
 increasing-from : (xs : List ℕ) → IsStrictlyIncreasing xs → (k : ℕ) → k < length xs
@@ -64,15 +38,7 @@ increasing-from xs up (suc k) l =
 -- rising numbers below a limit are at most as many
 pub increasing-few : (xs : List ℕ) (n : ℕ) → IsStrictlyIncreasing xs → All (λ x. x < n) xs
     → length xs ≤ n
-increasing-few xs n up below =
-    ⊎_elim (λ (some : 0 < length xs).
-    omega (
-      arith,
-      increasing-from xs up (length xs - 1) (omega arith),
-      below (length xs - 1) 0 (omega arith),
-    ))
-    (λ (none : length xs ≤ 0). omega arith)
-    (cases_lt 0 (length xs))
+increasing-few xs n up below = grind (arith, nat_tests, increasing-from)
 
 -- a number of a part is that far on in the whole
 get_or_part : (xs : List ℕ) (a n k : ℕ) → k < n
@@ -86,8 +52,7 @@ length-part xs a n l = omega (arith, length-take n (drop a xs), length-drop a xs
 -- a number of the whole is that far back in a part round it
 pub part_at : (xs : List ℕ) (a n k : ℕ) → a ≤ k → k < a + n
     → get_or (take n (drop a xs)) (k - a) 0 ≡ get_or xs k 0
-part_at xs a n k l m =
-    get_or_part xs a n (k - a) (omega arith) ∙ ap (λ j. get_or xs j 0) (omega arith)
+part_at xs a n k l m = grind (arith, nat_tests, get_or_part)
 
 -- numbers that are all one
 pub all_replicated : (xs : List ℕ) (n x : ℕ) → xs ≡ replicate n x → (k : ℕ) → k < n

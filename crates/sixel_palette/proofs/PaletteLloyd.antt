@@ -1,9 +1,8 @@
 -- The rounds of Lloyd's algorithm: the entries of bins, and the means of entries.
-use Rattle.std.proofs.Common.{◌≡◌, ℕ, zero, suc, ◌+◌, ◌<◌, ◌≤◌, true, false, cond, List, [], ◌∷◌}
-use Rattle.std.proofs.Common.{length, get_or, map, set, take, refl, ap, sym, ⊎_elim, ◌∙◌, arith}
-use Rattle.std.specs.Prelude.{◌==◌, ◌≢◌, nat_le}
+use Rattle.std.proofs.Common.{◌≡◌, ℕ, zero, suc, ◌+◌, ◌<◌, ◌≤◌, true, cond, List, [], ◌∷◌}
+use Rattle.std.proofs.Common.{length, get_or, map, set, take, refl, sym, ◌∙◌, arith}
+use Rattle.std.specs.Prelude.{◌==◌}
 use Rattle.std.specs.List.{All, range_with_len, sum_by}
-use Rattle.std.proofs.lemmas.Bool.{cases_eq}
 use Rattle.std.proofs.lemmas.Bool.Decides.{nat_tests}
 use Rattle.std.proofs.lemmas.List.{get_or-set_other, get_or-set_same, get_or_default, length-map}
 use Rattle.std.proofs.lemmas.List.{same_lists}
@@ -15,11 +14,11 @@ use Rattle.sixel_palette.specs.declared.palette.nearest_entry.NearestEntry.{Near
 use Rattle.sixel_palette.specs.Palette.{distance, nearest, no_entry}
 use Rattle.sixel_palette.specs.ColorSums.{Pixels, mean_or, sums_of}
 use Rattle.sixel_palette.specs.GainCut.{corner}
-use Rattle.sixel_palette.specs.Lloyd.{bin_mean, has_entry, improved_entries, mean_bytes}
+use Rattle.sixel_palette.specs.Lloyd.{has_entry, improved_entries, mean_bytes}
 use Rattle.sixel_palette.specs.Lloyd.{moved_entries, nearest_index}
 use Rattle.sixel_palette.specs.inside.PaletteCounts.{counted_error}
 use Rattle.sixel_palette.specs.inside.PaletteNearest.{IsNearestEntry}
-use Rattle.sixel_palette.specs.inside.PaletteSums.{AreBinsOf, AreIndicesBy, IsWholeBin, channels}
+use Rattle.sixel_palette.specs.inside.PaletteSums.{AreBinsOf, AreIndicesBy, IsWholeBin}
 use Rattle.sixel_palette.specs.inside.PaletteSums.{counted_pixels, entry_sums, total}
 use Rattle.sixel_palette.proofs.PaletteCounts.{dot-counted}
 use Rattle.sixel_palette.proofs.PaletteSums.{mean_or-same}
@@ -33,22 +32,16 @@ index_is : (entries : List (List ℕ)) (c : List ℕ) (i : ℕ) → i < length e
     → i ≡ nearest_index entries c
 unfolding nearest nearest_index
 index_is [] c i l least first = absurd (omega arith)
-index_is (p ∷ ps) c zero l least first =
-    let test : nat_le (distance p c) (nearest ps c) ≡ true = grind (arith, nat_tests, least) in
-    rw test refl
+index_is (p ∷ ps) c zero l least first = grind (arith, nat_tests)
 index_is (p ∷ ps) c (suc i) l least first =
     let far = first 0 (omega arith) in
-    let test : nat_le (distance p c) (nearest ps c) ≡ false = grind (arith, nat_tests, far) in
-    rw test
-    (ap suc
-    (index_is ps c i (omega arith) (omega (arith, least, far))
-    (λ j m. omega (arith, first (suc j) (omega arith), far))))
+    let rest = index_is ps c i (omega arith) (omega (arith, least, far)) in
+    grind (arith, nat_tests, rest (λ j m. omega (arith, first (suc j) (omega arith), far)))
 
 pub nearest_index-is : (entries : List (List ℕ)) (c : List ℕ) (near : NearestEntry)
     → nearest entries c < no_entry → IsNearestEntry entries c near
     → near.index ≡ nearest_index entries c
-nearest_index-is entries c near l h =
-    index_is entries c near.index (h.within l) (h.least l) (h.first l)
+nearest_index-is entries c near l h = grind (arith, nat_tests, index_is)
 
 -- ---- sums of entries
 
@@ -63,50 +56,14 @@ pub entry_more : (entry : Bin → ℕ) (bins : List Bin) (indices : List ℕ) (s
     ≡ entry_sums entry (take (position + 1) bins) index k
 entry_more entry bins indices sums position place bin old new index k d are l own at inside was
     plus before =
-    let f : Bin → ℕ = λ b. cond (entry b == index) (total b.sums k) 0 in
-    let more : entry_sums entry (take (position + 1) bins) index k
-    ≡ entry_sums entry (take position bins) index k + f bin =
-    sum_by_more f bins position bin l
-    ∙ ap (λ b. entry_sums entry (take position bins) index k + f b) (sym own) in
-    let its : entry bin ≡ place = ap entry own ∙ (sym (are position bin l) ∙ sym at) in
-    ⊎_elim (λ (same : index ≡ place).
-    let test : (entry bin == index) ≡ true = grind (arith, nat_tests, its, same) in
-    let here : get_or sums index d ≡ old =
-    ap (λ n. get_or sums n d) same ∙ (get_or_default sums place d old inside ∙ sym was) in
-    let there : get_or (set sums place new) index d ≡ new =
-    ap (λ n. get_or (set sums place new) n d) same ∙ get_or-set_same sums place new d inside in
-    omega (
-      arith,
-      ap (λ (s : ColorSums). total s k) there,
-      ap (λ (s : ColorSums). total s k) here,
-      plus,
-      before,
-      more,
-      ap (λ t. cond t (total bin.sums k) 0) test,
-    ))
-    (λ (other : index ≢ place).
-    let test : (entry bin == index) ≡ false = grind (arith, nat_tests, its, other) in
-    omega (
-      arith,
-      ap (λ (s : ColorSums). total s k) (get_or-set_other sums place index new d other),
-      before,
-      more,
-      ap (λ t. cond t (total bin.sums k) 0) test,
-    ))
-    (cases_eq index place)
+    grind (arith, sum_by_more, get_or_default, get_or-set_same, get_or-set_other)
 
 sum_by_same : {X : Type 0} (f g : X → ℕ) (xs : List X)
     → ((k : ℕ) (d : X) → k < length xs → f (get_or xs k d) ≡ g (get_or xs k d))
     → sum_by f xs ≡ sum_by g xs
 sum_by_same f g [] h = refl
 sum_by_same f g (x ∷ xs) h =
-    omega (
-      arith,
-      sum_by-cons f x xs,
-      sum_by-cons g x xs,
-      h 0 x (omega arith),
-      sum_by_same f g xs (λ k d l. h (suc k) d (omega arith)),
-    )
+    grind (arith, sum_by-cons, h 0 x, sum_by_same f g xs (λ k d l. h (suc k) d (omega arith)))
 
 -- the entry that is nearest to the mean of a bin
 abbrev pub entry_of : List (List ℕ) → Bin → ℕ
@@ -118,13 +75,10 @@ pub entry_pixels : (pixels : Pixels) (entries : List (List ℕ)) (bins : List Bi
     → entry_sums (entry_of entries) bins index k
     ≡ sums_of pixels (λ c. has_entry pixels entries index (corner pixels.step c)) k
 entry_pixels pixels entries bins index k are whole =
-    sum_by_same (λ bin. cond (entry_of entries bin == index) (total bin.sums k) 0)
-    (λ bin. cond (has_entry pixels entries index (channels bin.corner)) (total bin.sums k) 0) bins
-    (λ j d l.
-    let bin = get_or bins j d in
-    let mean : mean_bytes (total bin.sums) ≡ bin_mean pixels bin.corner = λ i.
-    mean_bytes (λ n. whole j d l n i) in
-    ap (λ (m : List ℕ). cond (nearest_index entries m == index) (total bin.sums k) 0) mean)
+    sum_by_same (λ bin. cond (entry_of entries bin == index) (total bin.sums k) 0) _ bins
+    (λ j d l i.
+    cond (nearest_index entries (mean_bytes (λ n. whole j d l n i)) == index)
+    (total (get_or bins j d).sums k) 0)
     ∙ are (has_entry pixels entries index) k
 
 -- the means are the moved entries
@@ -139,16 +93,15 @@ moved_is pixels entries moved bins are whole size means =
     let f : ℕ → List ℕ = λ index.
     mean_or (sums_of pixels (λ c. has_entry pixels entries index (corner pixels.step c)))
     (get_or entries index []) in
-    same_lists moved (map f (range_with_len 0 n))
-    (omega (arith, size, length-map (range_with_len 0 n) f, length-range_with_len 0 n))
+    same_lists moved (map f (range_with_len 0 n)) (grind (arith, length-map, length-range_with_len))
     (λ k d l.
     let inside : k < n = omega (arith, l, size) in
-    get_or_default moved k d [] l
-    ∙ (means k inside
-    ∙ (mean_or-same (entry_sums (entry_of entries) bins k)
+    let same =
+    mean_or-same (entry_sums (entry_of entries) bins k)
     (sums_of pixels (λ c. has_entry pixels entries k (corner pixels.step c))) (get_or entries k [])
-    (λ j. entry_pixels pixels entries bins k j are whole)
-    ∙ sym (get_or-map-range_with_len f 0 n k k d inside (omega arith)))))
+    (λ j. entry_pixels pixels entries bins k j are whole) in
+    rw (get_or_default moved k d [] l, means k inside)
+    (same ∙ sym (get_or-map-range_with_len f 0 n k k d inside (omega arith))))
 
 -- ---- the better entries
 
@@ -164,16 +117,7 @@ pub improved_kept : (codes counts : List ℕ) (entries moved : List (List ℕ))
     (moved_entries (counted_pixels codes counts) entries)
     → counted_error entries codes counts ≤ counted_error moved codes counts
     → entries ≡ improved_entries (counted_pixels codes counts) entries
-improved_kept codes counts entries moved same is l =
-    let pixels = counted_pixels codes counts in
-    let twice = moved_entries pixels (moved_entries pixels entries) in
-    let here = error_counted entries codes counts same in
-    let there = error_counted moved codes counts same ∙ ap (λ m. pixels.sum (nearest m)) is in
-    let less : pixels.sum (nearest entries) ≤ pixels.sum
-    (nearest twice) = omega (arith, here, there, l) in
-    let test : nat_le (pixels.sum (nearest entries)) (pixels.sum (nearest twice)) ≡ true =
-    grind (arith, nat_tests, less) in
-    sym (ap (λ t. cond t entries twice) test)
+improved_kept codes counts entries moved same is l = grind (arith, nat_tests, error_counted)
 
 pub improved_taken : (codes counts : List ℕ) (entries moved : List (List ℕ))
     → length counts ≡ length codes
@@ -181,13 +125,4 @@ pub improved_taken : (codes counts : List ℕ) (entries moved : List (List ℕ))
     (moved_entries (counted_pixels codes counts) entries)
     → counted_error moved codes counts < counted_error entries codes counts
     → moved ≡ improved_entries (counted_pixels codes counts) entries
-improved_taken codes counts entries moved same is l =
-    let pixels = counted_pixels codes counts in
-    let twice = moved_entries pixels (moved_entries pixels entries) in
-    let here = error_counted entries codes counts same in
-    let there = error_counted moved codes counts same ∙ ap (λ m. pixels.sum (nearest m)) is in
-    let more : pixels.sum (nearest twice) < pixels.sum
-    (nearest entries) = omega (arith, here, there, l) in
-    let test : nat_le (pixels.sum (nearest entries)) (pixels.sum (nearest twice)) ≡ false =
-    grind (arith, nat_tests, more) in
-    is ∙ sym (ap (λ t. cond t entries twice) test)
+improved_taken codes counts entries moved same is l = grind (arith, nat_tests, error_counted)

@@ -51,7 +51,6 @@ unfolding nearest
 nearest-reached [] c d l = absurd (omega arith)
 nearest-reached (p ∷ ps) c d l =
     ⊎_elim (λ h.
-    let rest = nearest-reached ps c d (omega arith) in
-    (suc rest.0, omega (arith, rest.1), omega (arith, rest.2)))
-    (λ h. (0, omega arith, omega arith))
-    (cases_lt (nearest ps c) (distance p c))
+    let r = nearest-reached ps c d (omega arith) in
+    (suc r.0, omega (arith, r.1), omega (arith, r.2)))
+    (λ h. (0, omega arith, omega arith)) (cases_lt (nearest ps c) (distance p c))

@@ -1,11 +1,10 @@
 -- Farthest-first lists: with the next color they lie apart, their entries are members, and a set
 -- has one of each length.
 use Rattle.std.proofs.Common.{◌≡◌, ℕ, zero, suc, ◌<◌, ◌≤◌, List, [], ◌∷◌, ◌++◌, length, get_or}
-use Rattle.std.proofs.Common.{take, refl, sym, ⊎_elim, add-one, arith}
+use Rattle.std.proofs.Common.{take, refl, add-one, arith}
 use Rattle.std.specs.List.{All}
 use Rattle.std.proofs.lemmas.List.{get_or-take, take-append-le, take_at, get_or_append_left}
 use Rattle.std.proofs.lemmas.List.{get_or_at, take_more_same, length-take, length_push}
-use Rattle.std.proofs.lemmas.Bool.{cases_lt}
 use Rattle.std.proofs.lemmas.List.Quantifiers.{all_pairs_push}
 use Rattle.std.proofs.lemmas.List.Elements.{All-push}
 use Rattle.sixel_palette.specs.Palette.{distance, nearest, rank, IsFarthest, IsFarthestFirst}
@@ -13,6 +12,7 @@ use Rattle.sixel_palette.specs.PaletteBound.{AreApart, NoListIsBetter}
 use Rattle.sixel_palette.proofs.PaletteNearest.{nearest-le, nearest-take}
 use Rattle.sixel_palette.proofs.PaletteApart.{far_from_others}
 use Rattle.sixel_palette.proofs.PaletteColors.{IsColor, same_from_rank}
+use Rattle.std.proofs.lemmas.Bool.Decides.{nat_tests}
 
 -- the entries are members
 pub members_from_order : (Member : List ℕ → Type 0) (entries : List (List ℕ))
@@ -23,22 +23,16 @@ members_from_order Member entries order = λ k d l. (order k d l).member
 pub entry-apart : (Member : List ℕ → Type 0) (entries : List (List ℕ)) (c : List ℕ)
     → IsFarthestFirst Member entries → Member c → (i j : ℕ) (d : List ℕ) → i < j
     → j < length entries → nearest entries c ≤ distance (get_or entries i d) (get_or entries j d)
-entry-apart Member entries c order m i j d l h =
-    let e = get_or entries j d in
-    let near =
-    rw (get_or-take j entries i d l) at
-    (nearest-le (take j entries) e i d (simp length-take (omega arith))) in
-    let far = (order j d h).farthest c m in
-    omega (arith, near, far, nearest-take entries j c)
+entry-apart e entries c order m i j d l h =
+    grind (arith, nat_tests, get_or-take, nearest-le, length-take, nearest-take)
 
 -- the entries and the next color lie as far apart as that color from its nearest entry
 pub apart_from_order : (Member : List ℕ → Type 0) (entries : List (List ℕ)) (c : List ℕ)
     → IsFarthestFirst Member entries → IsFarthest Member entries c
     → AreApart (entries ++ c ∷ []) (nearest entries c)
 apart_from_order Member entries c order far =
-    all_pairs_push (λ a b. nearest entries c ≤ distance a b)
-    entries c (entry-apart Member entries c order far.member)
-    (λ k d l. nearest-le entries c k d l)
+    all_pairs_push (λ a b. nearest entries c ≤ distance a b) entries c
+    (entry-apart Member entries c order far.member) (λ k d l. nearest-le entries c k d l)
 
 -- no list of as many colors is better than a fourth of the next color's distance
 pub bound_from_order : (Member : List ℕ → Type 0) (entries : List (List ℕ)) (c : List ℕ)
@@ -54,38 +48,21 @@ bound_from_order Member entries c order far = λ others l.
 pub order_more : (Member : List ℕ → Type 0) (entries : List (List ℕ)) (c : List ℕ)
     → IsFarthestFirst Member entries → IsFarthest Member entries c
     → IsFarthestFirst Member (entries ++ c ∷ [])
-order_more Member entries c order far = λ i d l.
-    ⊎_elim (λ h.
-    rw (take-append-le i entries (c ∷ []) (omega arith), get_or_append_left entries (c ∷ []) d i h)
-    (order i d h))
-    (λ h.
-    let e : length entries ≡ i = omega (arith, length_push entries c) in
-    rw (take_at entries (c ∷ []) i e, get_or_at entries c [] d i e) far)
-    (cases_lt i (length entries))
+order_more h entries c order far =
+    grind (arith, nat_tests, take-append-le, get_or_append_left, length_push, take_at, get_or_at)
 
 -- the same for two sets with the same members
 pub farthest_alike : (M N : List ℕ → Type 0) → ((c : List ℕ) → M c → N c)
     → ((c : List ℕ) → N c → M c) → (entries : List (List ℕ)) (c : List ℕ) → IsFarthest M entries c
     → IsFarthest N entries c
-farthest_alike M N to from entries c far =
-    record {
-      member = to c far.member;
-      farthest = λ d m. far.farthest d (from d m);
-      least = λ d m e. far.least d (from d m) e;
-    }
+farthest_alike h e to from entries c far = grind (arith, nat_tests)
 
 -- two farthest colors have one rank
 pub rank-farthest : (M N : List ℕ → Type 0) → ((c : List ℕ) → M c → N c)
     → ((c : List ℕ) → N c → M c)
     → (entries : List (List ℕ)) (a b : List ℕ) → IsFarthest M entries a → IsFarthest N entries b
     → rank a ≡ rank b
-rank-farthest M N to from entries a b f g =
-    let p = f.farthest b (from b g.member) in
-    let q = g.farthest a (to a f.member) in
-    let e : nearest entries a ≡ nearest entries b = omega arith in
-    let r = f.least b (from b g.member) (sym e) in
-    let s = g.least a (to a f.member) e in
-    omega arith
+rank-farthest h e to from entries a b f g = grind (arith, nat_tests)
 
 -- two farthest-first lists over the same colors agree as far as both go
 pub order-take : (M N : List ℕ → Type 0) → ((c : List ℕ) → M c → N c) → ((c : List ℕ) → N c → M c)
@@ -96,7 +73,6 @@ order-take M N to from colors xs ys f g (suc n) l m =
     let front = order-take M N to from colors xs ys f g n (omega arith) (omega arith) in
     let x = f n [] (omega arith) in
     let y = rw (← front) at (g n [] (omega arith)) in
-    let same =
-    same_from_rank (get_or xs n []) (get_or ys n []) (colors _ x.member)
+    let same = same_from_rank (get_or xs n []) (get_or ys n []) (colors _ x.member)
     (colors _ (from _ y.member)) (rank-farthest M N to from (take n xs) _ _ x y) in
     rw (← add-one) (take_more_same xs ys n [] (omega arith) (omega arith) front same)

@@ -1,6 +1,6 @@
 -- Relaxing distances by one more entry: in a cell, in all cells, and in a cell that is too far.
-use Rattle.std.proofs.Common.{◌≡◌, ◌≢◌, ◌⊎◌, inl, inr, ℕ, ◌+◌, ◌*◌, ◌<◌, ◌≤◌, min, max, List, []}
-use Rattle.std.proofs.Common.{◌∷◌, ◌++◌, length, get_or, set, refl, ◌∙◌, ⊎_elim, arith}
+use Rattle.std.proofs.Common.{◌≡◌, ◌≢◌, ◌⊎◌, inr, ℕ, ◌+◌, ◌*◌, ◌<◌, ◌≤◌, min, max, List, []}
+use Rattle.std.proofs.Common.{◌∷◌, ◌++◌, length, get_or, set, refl, ⊎_elim, arith}
 use Rattle.std.proofs.lemmas.Bool.{cases_lt}
 use Rattle.std.proofs.lemmas.List.{get_or-set_same, get_or-set_other, length-set}
 use Rattle.sixel_palette.specs.declared.palette.cells.Cell.{Cell}
@@ -11,6 +11,7 @@ use Rattle.sixel_palette.specs.inside.PaletteNearest.{IsNearestEntry, AreNearest
 use Rattle.sixel_palette.specs.inside.PaletteCells.{IsInBox, IsInCell, IsGreatestIn, IsCell}
 use Rattle.sixel_palette.specs.inside.PaletteCells.{AreCells, AreNearestIn, IsSameOutside}
 use Rattle.sixel_palette.proofs.PaletteNearestEntry.{near_kept}
+use Rattle.std.proofs.lemmas.Bool.Decides.{nat_tests}
 
 -- the distances of the colors at these positions are relaxed by the entries
 abbrev pub AreRelaxedIn : List (List ℕ) → List ℕ → List ℕ → List ℕ → ℕ → ℕ → Type 0
@@ -40,10 +41,7 @@ get_or-set_after xs at x k l = let other : k ≢ at = omega arith in rw get_or-s
 -- one more position is written
 pub old_more : (old new : List ℕ) (from at x : ℕ) → from ≤ at → AreOld old new from at
     → AreOld old (set new at x) from (at + 1)
-old_more old new from at x l h = record {
-  before = λ k m. get_or-set_before new at x k (omega arith) ∙ h.before k m;
-  after = λ k m. get_or-set_after new at x k (omega arith) ∙ h.after k (omega arith);
-}
+old_more old new from at x l h = grind (arith, nat_tests, get_or-set_before, get_or-set_after)
 
 -- the distance of one more color is relaxed
 pub relaxed_more :
@@ -52,15 +50,8 @@ pub relaxed_more :
     → IsNearestEntry entries (color_of (get_or codes at 0)) near
     → AreRelaxedIn entries codes (set squares at near.squared) (set indices at near.index) from
     (at + 1)
-relaxed_more entries codes squares indices from at near l m before here = λ k f t c.
-    ⊎_elim (λ b.
-    rw (get_or-set_before squares at near.squared k b, get_or-set_before indices at near.index k b)
-    (before k f b c))
-    (λ b.
-    let e : k ≡ at = omega arith in
-    rw (e, get_or-set_same squares at near.squared 0 l, get_or-set_same indices at near.index 0 m)
-    here)
-    (cases_lt k at)
+relaxed_more entries codes squares indices from at near l m before here =
+    grind (arith, nat_tests, get_or-set_before, get_or-set_same)
 
 -- the greatest of one more
 pub greatest_more : (squares : List ℕ) (from at greatest x : ℕ) → from ≤ at → at < length squares
@@ -69,47 +60,23 @@ pub greatest_more : (squares : List ℕ) (from at greatest x : ℕ) → from ≤
 greatest_more squares from at greatest x f l h =
     let here = get_or-set_same squares at x 0 l in
     record {
-      upper = λ k m t.
-          ⊎_elim (λ b. omega (arith, get_or-set_before squares at x k b, h.upper k m b))
-          (λ (b : at ≤ k). let e : k ≡ at = omega arith in rw e (omega (arith, here)))
-          (cases_lt k at);
-      reached =
-          inr (⊎_elim (λ b.
-          ⊎_elim (λ n. (at, f, omega arith, omega (arith, here, n.1)))
-          (λ r. (
-            r.0,
-            r.1,
-            omega (arith, r.2),
-            omega (arith, get_or-set_before squares at x r.0 r.2, r.3),
-          ))
-          h.reached)
-          (λ b. (at, f, omega arith, omega (arith, here)))
-          (cases_lt x greatest));
+      upper = λ k m t. grind (arith, nat_tests, get_or-set_before, h.upper k);
+      reached = inr (⊎_elim (λ b. ⊎_elim (λ n. (at, f, omega arith, omega (arith, here, n.1)))
+          (λ r. (r.0, r.1, omega (arith, r.2), grind (arith, get_or-set_before))) h.reached)
+          (λ b. (at, f, omega arith, omega (arith, here))) (cases_lt x greatest));
     }
 
 -- the greatest at a cell's positions is that of the cell
 pub greatest_in : (codes squares : List ℕ) (cell end greatest : ℕ)
     → end ≡ min (length codes) (64 * cell + 64) → 64 * cell < length codes
     → IsGreatestOf squares (64 * cell) end greatest → IsGreatestIn codes squares cell greatest
-greatest_in codes squares cell end greatest e some h = record {
-  upper = λ k i. h.upper k i.from (omega (arith, i.to, i.within));
-  reached =
-      ⊎_elim (λ n. absurd (omega (arith, n.0)))
-      (λ r. (r.0, record { from = r.1; to = omega (arith, r.2); within = omega (arith, r.2) }, r.3))
-      h.reached;
-}
+greatest_in codes squares cell end greatest e some h = grind (arith, nat_tests)
 
 -- a cell whose numbers stay the same stays the same
 cell_same : (codes squares new : List ℕ) (j : ℕ) (cell : Cell) → IsCell codes squares j cell
     → ((k : ℕ) → IsInCell codes j k → get_or new k 0 ≡ get_or squares k 0)
     → IsCell codes new j cell
-cell_same codes squares new j cell h same = record {
-  box = h.box;
-  greatest = record {
-    upper = λ k i. omega (arith, same k i, h.greatest.upper k i);
-    reached = let r = h.greatest.reached in (r.0, r.1, omega (arith, same r.0 r.1, r.2));
-  };
-}
+cell_same codes squares new j cell h same = grind (arith, nat_tests, same)
 
 -- the distances of one cell are relaxed
 pub cells_relaxed :
@@ -125,32 +92,13 @@ cells_relaxed codes squares new cells position greatest cell l h others here rel
       blue = cell.blue;
       greatest = greatest;
     } in
+    let size = length-set cells position made in
+    let own : IsCell codes new position made = grind (arith, nat_tests, here.box) in
     record {
-      all = omega (arith, h.all, length-set cells position made);
+      all = omega (arith, h.all);
       each = λ j d m.
-          let within : j < length cells = omega (arith, length-set cells position made) in
-          ⊎_elim (λ b.
-          let other : j ≢ position = omega arith in
-          rw (get_or-set_other cells position j made d other)
-          (cell_same codes squares new j (get_or cells j d) (h.each j d within)
-          (λ k i. others k (inl (omega (arith, i.to))))))
-          (λ b.
-          ⊎_elim (λ a.
-          let other : j ≢ position = omega arith in
-          rw (get_or-set_other cells position j made d other)
-          (cell_same codes squares new j (get_or cells j d) (h.each j d within)
-          (λ k i. others k (inr (omega (arith, i.from))))))
-          (λ a.
-          let e : j ≡ position = omega arith in
-          rw (e, get_or-set_same cells position made d l)
-          (record {
-            box = λ k i.
-                let box = here.box k i in
-                record { red = box.red; green = box.green; blue = box.blue };
-            greatest = relaxed;
-          }))
-          (cases_lt position j))
-          (cases_lt j position);
+          let old = cell_same codes squares new j (get_or cells j d) (h.each j d (omega arith)) in
+          grind (arith, nat_tests, others, get_or-set_same, get_or-set_other);
     }
 
 -- the colors so far and those of one more cell
@@ -160,27 +108,19 @@ pub relaxed_cell : (entries : List (List ℕ)) (codes squares new indices moved 
     → IsSameOutside position squares new
     → IsSameOutside position indices moved → AreNearestIn entries codes new moved position
     → AreRelaxedIn entries codes new moved 0 (64 * (position + 1))
-relaxed_cell entries codes squares new indices moved position before others also here =
-    λ k f t within.
-    ⊎_elim (λ b. rw (others k (inl b), also k (inl b)) (before k f b within))
-    (λ b. here k (record { from = b; to = omega arith; within = within }))
-    (cases_lt k (64 * position))
+relaxed_cell entries codes squares new indices moved position before others also here = grind arith
 
 -- the numbers after one more cell are the old ones
 pub old_cell : (old new next : List ℕ) (position : ℕ) → AreOld old new 0 (64 * position)
     → IsSameOutside position new next → AreOld old next 0 (64 * (position + 1))
-old_cell old new next position h others = record {
-  before = λ k l. absurd (omega arith);
-  after = λ k l. others k (inr (omega arith)) ∙ h.after k (omega arith);
-}
+old_cell old new next position h others = grind (arith, nat_tests)
 
 -- the nearest entries of a cell that was not written to
 pub nearest_still : (entries : List (List ℕ)) (codes old squares first indices : List ℕ)
     (position : ℕ)
     → AreOld old squares 0 (64 * position) → AreOld first indices 0 (64 * position)
     → AreNearest entries codes old first → AreNearestIn entries codes squares indices position
-nearest_still entries codes old squares first indices position h g kept k i =
-    rw (h.after k i.from, g.after k i.from) (kept k i.within)
+nearest_still entries codes old squares first indices position h g kept k i = grind arith
 
 -- a cell whose box is far enough: the new entry is no nearer
 pub nearest_far :

@@ -1,7 +1,6 @@
 -- How many members a set has, and when all of them are entries.
-use Rattle.std.proofs.Common.{◌≡◌, ℕ, ◌*◌, ◌<◌, ◌≤◌, List, length, get_or, ap, ⊎_elim, arith}
+use Rattle.std.proofs.Common.{◌≡◌, ℕ, ◌*◌, ◌<◌, ◌≤◌, List, length, arith}
 use Rattle.std.specs.List.{All, AllPairs, Contains}
-use Rattle.std.proofs.lemmas.Bool.{cases_lt}
 use Rattle.sixel_palette.specs.Palette.{distance, nearest, rank, AreMembers, HasSize, IsFarthest}
 use Rattle.sixel_palette.specs.Palette.{IsFarthestFirst}
 use Rattle.sixel_palette.specs.PaletteBound.{AreApart}
@@ -9,38 +8,27 @@ use Rattle.sixel_palette.proofs.PaletteDistance.{distance_self, same_from_distan
 use Rattle.sixel_palette.proofs.PaletteApart.{far_from_others}
 use Rattle.sixel_palette.proofs.PaletteColors.{Contains-nearest}
 use Rattle.sixel_palette.proofs.PaletteOrder.{members_from_order, bound_from_order}
+use Rattle.std.proofs.lemmas.Bool.Decides.{nat_tests}
 
 -- a color of a list is not far from all of the list
 pub near_from_contains : (colors : List (List ℕ)) (c : List ℕ) (least : ℕ) → Contains colors c
     → All (λ p. least ≤ 4 * distance c p) colors → least ≡ 0
-near_from_contains colors c least h far =
-    let here = rw (h.2, distance_self c) at (far h.0 c h.1) in
-    omega arith
+near_from_contains colors c least h far = grind (arith, nat_tests, h.2, distance_self, h.0, h.1)
 
 -- different colors lie apart
 apart_from_ascending : (colors : List (List ℕ)) → All (λ c. length c ≡ 3) colors
     → AllPairs (λ a b. rank a < rank b) colors → AreApart colors 1
 apart_from_ascending colors three up = λ i j d l m.
-    let a = get_or colors i d in
-    let b = get_or colors j d in
-    ⊎_elim (λ h. h)
-    (λ h.
-    let same =
-    ap rank (same_from_distance a b (three i d (omega arith)) (three j d m) (omega arith)) in
-    let less = up i j d l m in absurd (omega arith))
-    (cases_lt 0 (distance a b))
+    grind (arith, nat_tests, three i, three j, up i j d l m, same_from_distance)
 
 -- a list of all members of a set is no shorter than the list of them
 pub size-le : (M : List ℕ → Type 0) → ((c : List ℕ) → M c → length c ≡ 3)
     → (members others : List (List ℕ)) → AreMembers M members
     → ((c : List ℕ) → M c → Contains others c) → length members ≤ length others
 size-le M three members others h holds =
-    ⊎_elim (λ l.
-    let w =
-    far_from_others M 1 others members
-    (apart_from_ascending members (λ k d m. three _ (h.all k d m)) h.ascending) h.all l in
-    absurd (omega (arith, near_from_contains others w.0 1 (holds w.0 w.1) w.2)))
-    (λ l. l) (cases_lt (length others) (length members))
+    let apart = apart_from_ascending members (λ k d m. three _ (h.all k d m)) h.ascending in
+    let far = far_from_others M 1 others members apart h.all in
+    grind (arith, nat_tests, near_from_contains, holds)
 
 -- sets with the same members have one size
 pub one_size : (M N : List ℕ → Type 0) → ((c : List ℕ) → M c → N c) → ((c : List ℕ) → N c → M c)

@@ -30,7 +30,6 @@ mod lloyd;
 pub mod nearest;
 pub mod nearest_entry;
 pub mod nearest_indices;
-mod positions;
 mod rank_bitmap;
 mod refined;
 pub mod register_color;

@@ -4,7 +4,7 @@
 //! Society for Information Display 17 (1976), 75-77.
 
 ghost use Rattle.std.specs.Prelude.{◌≡◌, ℕ, ◌<◌, ◌≤◌, ◌+◌, ◌*◌, ◌/◌, IfOk, List, OnOk, length};
-ghost use Rattle.std.specs.Prelude.{slice_index};
+ghost use Rattle.std.specs.Prelude.{slice_index, slice_set};
 ghost use Rattle.sixel_palette.specs.inside.PaletteKeys.{IsSearchOf};
 ghost use Rattle.sixel_encoder.specs.Dithering.{AreMapped, errors_of, target_of_visit};
 ghost use Rattle.sixel_encoder.specs.inside.Diffusion.{AreErrors, AreLanes, AreReceived};
@@ -17,6 +17,7 @@ ghost use Rattle.sixel_encoder.specs.inside.Mapped.{AreEntries, IsMappable, IsPl
 use crate::band::is_opaque;
 use crate::indices::mapped::{MappedImage, Place, column_of_step};
 use sixel_palette::palette::nearest::Search;
+use sixel_palette::palette::nearest_entry::Entry;
 use std::alloc::{AllocError, Global};
 use std::simd::prelude::*;
 
@@ -143,11 +144,33 @@ impl MappedImage<'_> {
         }
         let values = self.sixteenths(place.pixel, received);
         let target = rounded(values);
-        let kept = self.kept(indices, place, target);
-        let index = self.index_of(search, kept, target)?;
-        indices[place.pixel] = index;
-        *error = self.error(values, self.colors[usize::from(index)]);
+        let (before, above) = self.neighbors(indices, place, target);
+        let kept = before.or_nearer(above);
+        // In a flat area these branches are predicted, so that no distance is waited for.
+        if kept.squared >= self.tolerance {
+            let index = self.index_of(search, kept, target)?;
+            *error = self.store(indices, place.pixel, values, search.entry(index));
+        } else if above.squared < before.squared {
+            *error = self.store(indices, place.pixel, values, search.entry(above.index));
+        } else {
+            *error = self.store(indices, place.pixel, values, search.entry(before.index));
+        }
         Ok(())
+    }
+
+    /// Stores the entry of an opaque pixel of these sixteenths, and returns what it passes on.
+    #[inline(always)]
+    fn store(&self, indices: &mut [u8], pixel: usize, values: u16x4, entry: Entry) -> PixelError
+        requires strength { self.now.strength ≤ 8 }
+        requires pixel { pixel < length indices.old }
+        requires four { length values ≡ 4 }
+        requires values { (k : ℕ) → slice_index values k ≤ 4080 }
+        ensures indices { indices.new ≡ slice_set indices.old pixel entry.index }
+        ensures error { channels result ≡ color_error self.now.strength values entry.color }
+        ensures lanes { AreErrors result }
+    {
+        indices[pixel] = entry.index;
+        self.error(values, entry.color, entry.index)
     }
 
     /// Returns the channels of a pixel with what it receives, in sixteenths.
@@ -168,15 +191,17 @@ impl MappedImage<'_> {
     }
 
     /// Returns what an opaque pixel of these sixteenths passes on if it has this entry.
+    ///
+    /// The index fills the lane without a meaning, so that an entry is one load.
     #[inline(always)]
-    fn error(&self, values: u16x4, entry: [u8; 3]) -> PixelError
+    fn error(&self, values: u16x4, entry: [u8; 3], index: u8) -> PixelError
         requires strength { self.now.strength ≤ 8 }
         requires four { length values ≡ 4 }
         requires values { (k : ℕ) → slice_index values k ≤ 4080 }
         ensures value { channels result ≡ color_error self.now.strength values entry }
         ensures lanes { AreErrors result }
     {
-        let color = u8x4::from_array([entry[0], entry[1], entry[2], 0]).cast::<u16>();
+        let color = u8x4::from_array([entry[0], entry[1], entry[2], index]).cast::<u16>();
         let gap = values + u16x4::splat(4096) - color * u16x4::splat(16);
         let strength = u16x4::splat(u16::from(self.strength));
         (gap * strength) >> u16x4::splat(3)
@@ -223,7 +248,8 @@ impl Neighbors {
         let below = share(self.above, 5);
         let whole = self.beyond;
         let rest = whole - share(whole, 7) - share(whole, 3) - share(whole, 5);
-        next + below_before + below + rest
+        // The error before is the last one to be known, and LLVM adds saturating terms in order.
+        (below_before + below + rest).saturating_add(next)
     }
 }
 

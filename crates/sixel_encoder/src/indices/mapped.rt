@@ -50,6 +50,26 @@ const NONE: Kept = Kept {
     index: 0,
 };
 
+impl Kept {
+    /// Returns the nearer one of two entries, the first on ties.
+    ///
+    /// It has no branch, because in photographs either one is often the nearer.
+    #[inline(always)]
+    pub fn or_nearer(self, other: Self) -> Self
+        ensures second { other.squared < self.squared → result ≡ other }
+        ensures first { self.squared ≤ other.squared → result ≡ self }
+    {
+        Self {
+            squared: other.squared.min(self.squared),
+            index: if other.squared < self.squared {
+                other.index
+            } else {
+                self.index
+            },
+        }
+    }
+}
+
 impl<'a> MappedImage<'a> {
     /// Returns an image whose pixels have their nearest entries, without dithering.
     pub fn plain(pixels: &'a [u8], width: usize, colors: &'a [[u8; 3]]) -> Self
@@ -150,19 +170,30 @@ impl MappedImage<'_> {
             (neighbor_of (mapped_value self.now) target indices.now
             (place.row * self.now.width + place.step)) result }
     {
+        let (before, above) = self.neighbors(indices, place, target);
+        before.or_nearer(above)
+    }
+
+    /// Returns the entries of the pixels before and above. Without a tolerance there are none.
+    #[inline(always)]
+    pub fn neighbors(&self, indices: &[u8], place: Place, target: [u8; 3]) -> (Kept, Kept)
+        requires image { IsMappable self.now }
+        requires place { IsPlace (mapped_value self.now) place }
+        requires size { length indices.now ≡ length self.now.pixels.now / 4 }
+        requires entries { AreEntries self.now.colors.now indices.now }
+        ensures above { result.1.squared < result.0.squared → IsKept (mapped_value self.now) target
+            (neighbor_of (mapped_value self.now) target indices.now
+            (place.row * self.now.width + place.step)) result.1 }
+        ensures before { result.0.squared ≤ result.1.squared → IsKept (mapped_value self.now) target
+            (neighbor_of (mapped_value self.now) target indices.now
+            (place.row * self.now.width + place.step)) result.0 }
+    {
         if self.tolerance == 0 {
-            return NONE;
+            return (NONE, NONE);
         }
         let before = self.entry_before(indices, place, target);
-        if before.squared == 0 {
-            return before;
-        }
         let above = self.entry_above(indices, place, target);
-        if above.squared < before.squared {
-            above
-        } else {
-            before
-        }
+        (before, above)
     }
 
     /// Returns the entry of the pixel before a step.

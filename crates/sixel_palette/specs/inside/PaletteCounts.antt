@@ -1,9 +1,12 @@
 -- The distinct colors of an image's opaque pixels, with the number of pixels that have each.
-use Rattle.std.specs.Prelude.{◌≡◌, ℕ, ◌+◌, ◌*◌, ◌<◌, List, [], ◌∷◌, map, length}
+use Rattle.std.specs.Prelude.{◌≡◌, ℕ, ◌+◌, ◌*◌, ◌/◌, ◌%◌, ◌<◌, ◌≤◌, List, [], ◌∷◌, map, length}
 use Rattle.std.specs.Prelude.{nat_lt, if◌then◌else◌, slice_index}
-use Rattle.sixel_palette.specs.Palette.{rank, color_at, nearest, IsOpaque}
+use Rattle.std.specs.List.Sorted.{IsStrictlyIncreasing}
+use Rattle.sixel_palette.specs.declared.palette.color_counts.Ranking.{Ranking}
+use Rattle.sixel_palette.specs.Palette.{rank, color_at, nearest, IsShown}
 use Rattle.sixel_palette.specs.Refined.{sum_to}
-use Rattle.sixel_palette.specs.inside.PaletteCodes.{color_of}
+use Rattle.sixel_palette.specs.inside.PaletteCodes.{color_of, IsListed}
+use Rattle.sixel_palette.specs.inside.PaletteRanks.{IsRankBitmap}
 
 -- the sum of the products of two lists, element by element
 unfoldable pub dot : List ℕ → List ℕ → ℕ
@@ -24,16 +27,16 @@ pub record AreCounts (pixels codes counts : List ℕ) (count : ℕ) : Type 0 whe
   pub sums : (number : ℕ → ℕ)
       → dot counts (map number codes) ≡ sum_to (pixel_number number pixels) count
 
--- the position is that of the code of a pixel's color
-pub record IsPosition (pixels codes : List ℕ) (pixel position : ℕ) : Type 0 where
-  pub within : position < length codes
-  pub code : slice_index codes position ≡ rank (color_at pixels pixel)
+-- the position is that of the color of an opaque pixel of this word
+pub record HasPosition (codes : List ℕ) (word position : ℕ) : Type 0 where
+  pub within : 128 ≤ word % 256 → position < length codes
+  pub code : 128 ≤ word % 256 → slice_index codes position ≡ word / 256
 
--- the positions of the first opaque pixels are stored, as far as there are places for them
-abbrev pub ArePositions : List ℕ → List ℕ → List ℕ → ℕ → Type 0
-ArePositions pixels codes positions count =
-    (pixel : ℕ) → pixel < count → pixel < length positions → IsOpaque pixels pixel
-    → IsPosition pixels codes pixel (slice_index positions pixel)
+-- the colors of the image's opaque pixels have ranks
+pub record IsRankingOf (pixels : List ℕ) (ranking : Ranking) : Type 0 where
+  pub ascending : IsStrictlyIncreasing ranking.codes.now
+  pub ranks : IsRankBitmap ranking.codes.now ranking.ranks.now
+  pub listed : (c : List ℕ) → IsShown pixels c → IsListed ranking.codes.now c
 
 -- the squared distance of a code's color to its nearest entry
 abbrev pub near_code : List (List ℕ) → ℕ → ℕ

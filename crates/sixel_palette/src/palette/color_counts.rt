@@ -1,29 +1,37 @@
-//! The distinct colors of an image's opaque pixels: the pixels of each, and the color of each.
+//! The number of an image's pixels that have each of its distinct colors.
 
-ghost use Rattle.std.specs.Prelude.{◌≡◌, ◌+◌, ◌*◌, ◌/◌, ◌<◌, ◌≤◌, ℕ, List, map, length};
-ghost use Rattle.std.specs.Prelude.{All, Contains, IfOk, slice_index};
+ghost use Rattle.std.specs.Prelude.{◌≡◌, ◌+◌, ◌*◌, ◌/◌, ◌<◌, ◌≤◌, ℕ, List, length, IfOk};
+ghost use Rattle.std.specs.Prelude.{slice_index};
 ghost use Rattle.std.specs.List.Sorted.{IsStrictlyIncreasing};
 ghost use Rattle.sixel_base.specs.Limits.{area_limit};
 ghost use Rattle.sixel_palette.specs.Palette.{IsShown};
 ghost use Rattle.sixel_palette.specs.inside.PaletteCodes.{IsListed, AreColorCodes};
-ghost use Rattle.sixel_palette.specs.inside.PaletteCounts.{AreCounts, ArePositions};
+ghost use Rattle.sixel_palette.specs.inside.PaletteCounts.{AreCounts, HasPosition, IsRankingOf};
+ghost use Rattle.sixel_palette.specs.inside.PaletteFlags.{AreFourWords, IsPixelWord};
 ghost use Rattle.sixel_palette.specs.inside.PaletteRanks.{IsRankBitmap};
 
-use crate::palette::colors::shown_code;
-use crate::palette::positions::{position_count, store_position};
+use crate::palette::colors::{are_four_of, pixel_word};
+use crate::palette::indices::four_words;
 use crate::palette::rank_bitmap::RankBitmap;
 use std::alloc::{AllocError, Global};
 
-/// The pixels of each distinct color, and the position of each pixel's color among them.
+/// The pixels of each distinct color, and the ranks of the colors.
 #[derive(Drop)]
 pub struct Counts {
     /// The number of opaque pixels of each color.
     pub counts: Vec<u32>,
-    /// The position of each opaque pixel's color, or none of them if they are too many.
-    pub positions: Vec<u32>,
+    /// The position of each color's code in the list of codes.
+    pub ranks: RankBitmap,
 }
 
-/// The counts and the positions of the colors of an image, from the colors' codes.
+/// The codes of the distinct colors in order, and their ranks.
+#[derive(Clone, Copy)]
+struct Ranking<'a> {
+    codes: &'a [u32],
+    ranks: &'a RankBitmap,
+}
+
+/// The counts and the ranks of the colors of an image, from the colors' codes.
 pub fn counts_of(alloc: Global, pixels: &[u8], codes: &[u32]) -> Result<Counts, AllocError>
     requires area { length pixels.now / 4 ≤ area_limit }
     requires ascending { IsStrictlyIncreasing codes.now }
@@ -31,39 +39,79 @@ pub fn counts_of(alloc: Global, pixels: &[u8], codes: &[u32]) -> Result<Counts, 
     requires listed { (c : List ℕ) → IsShown pixels.now c → IsListed codes.now c }
     ensures counts { IfOk result (λ counted.
         AreCounts pixels.now codes.now counted.counts.items (length pixels.now / 4)) }
-    ensures positions { IfOk result (λ counted.
-        ArePositions pixels.now codes.now counted.positions.items (length pixels.now / 4)) }
+    ensures ranks { IfOk result (λ counted. IsRankBitmap codes.now counted.ranks) }
 {
     let mut counts = vec![in alloc; 0; codes.len()]?;
-    let mut positions = vec![in alloc; 0; position_count(pixels.len() / 4, codes.len())]?;
     let ranks = RankBitmap::new(alloc, codes)?;
-    count_pixels(&mut counts, &mut positions, pixels, codes, &ranks);
-    Ok(Counts { counts, positions })
+    let ranking = Ranking {
+        codes,
+        ranks: &ranks,
+    };
+    ranking.count_pixels(&mut counts, pixels);
+    Ok(Counts { counts, ranks })
 }
 
-/// Counts the opaque pixels of each color, and stores positions as far as there are places.
-#[inline(never)]
-fn count_pixels(
-    counts: &mut [u32],
-    positions: &mut [u32],
-    pixels: &[u8],
-    codes: &[u32],
-    ranks: &RankBitmap,
-)
-    requires area { length pixels.now / 4 ≤ area_limit }
-    requires ascending { IsStrictlyIncreasing codes.now }
-    requires small { AreColorCodes codes.now }
-    requires ranks { IsRankBitmap codes.now ranks.now }
-    requires listed { (c : List ℕ) → IsShown pixels.now c → IsListed codes.now c }
-    requires none { AreCounts pixels.now codes.now counts.old 0 }
-    ensures counts { AreCounts pixels.now codes.now counts.new (length pixels.now / 4) }
-    ensures positions { ArePositions pixels.now codes.now positions.new (length pixels.now / 4) }
-{
-    for pixel in 0..pixels.len() / 4 {
-        if let Some(code) = shown_code(pixels, pixel) {
-            let position = ranks.position_of(codes, code);
-            counts[position] += 1;
-            store_position(positions, pixel, position);
+impl Ranking<'_> {
+    /// Counts the opaque pixels of each color.
+    ///
+    /// Four pixels that are equal to the one before them are counted without a search.
+    #[inline(never)]
+    fn count_pixels(&self, counts: &mut [u32], pixels: &[u8])
+        requires area { length pixels.now / 4 ≤ area_limit }
+        requires ranking { IsRankingOf pixels.now self.now }
+        requires none { AreCounts pixels.now self.now.codes.now counts.old 0 }
+        ensures { AreCounts pixels.now self.now.codes.now counts.new (length pixels.now / 4) }
+    {
+        let count = pixels.len() / 4;
+        let mut last = 0;
+        let mut position = 0;
+        for four in 0..count / 4 {
+            if !are_four_of(pixels, 4 * four, last) {
+                let words = four_words(pixels, 4 * four);
+                last = words[3];
+                position = self.count_four(counts, pixels, 4 * four, words);
+            } else if last % 256 >= 128 {
+                counts[position] += 4;
+            }
         }
+        for pixel in count / 4 * 4..count {
+            self.count_word(counts, pixels, pixel, pixel_word(pixels, pixel));
+        }
+    }
+
+    /// Counts four pixels of these words, and returns the position of the last one's color.
+    #[inline(never)]
+    fn count_four(&self, counts: &mut [u32], pixels: &[u8], pixel: usize, words: [u32; 4]) -> usize
+        requires area { length pixels.now / 4 ≤ area_limit }
+        requires within { pixel + 4 ≤ length pixels.now / 4 }
+        requires words { AreFourWords pixels.now pixel words }
+        requires ranking { IsRankingOf pixels.now self.now }
+        requires counts { AreCounts pixels.now self.now.codes.now counts.old pixel }
+        ensures counts { AreCounts pixels.now self.now.codes.now counts.new (pixel + 4) }
+        ensures position { HasPosition self.now.codes.now (slice_index words 3) result }
+    {
+        self.count_word(counts, pixels, pixel, words[0]);
+        self.count_word(counts, pixels, pixel + 1, words[1]);
+        self.count_word(counts, pixels, pixel + 2, words[2]);
+        self.count_word(counts, pixels, pixel + 3, words[3])
+    }
+
+    /// Counts a pixel of this word, if it is opaque, and returns the position of its color.
+    #[inline(always)]
+    fn count_word(&self, counts: &mut [u32], pixels: &[u8], pixel: usize, word: u32) -> usize
+        requires area { length pixels.now / 4 ≤ area_limit }
+        requires within { pixel < length pixels.now / 4 }
+        requires word { IsPixelWord pixels.now pixel word }
+        requires ranking { IsRankingOf pixels.now self.now }
+        requires counts { AreCounts pixels.now self.now.codes.now counts.old pixel }
+        ensures counts { AreCounts pixels.now self.now.codes.now counts.new (pixel + 1) }
+        ensures position { HasPosition self.now.codes.now word result }
+    {
+        if word % 256 < 128 {
+            return 0;
+        }
+        let position = self.ranks.position_of(self.codes, word / 256);
+        counts[position] += 1;
+        position
     }
 }

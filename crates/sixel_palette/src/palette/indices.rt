@@ -9,6 +9,7 @@ ghost use Rattle.sixel_palette.specs.inside.PaletteFlags.{IsPixelWord, AreFourWo
 ghost use Rattle.sixel_palette.specs.inside.PaletteNearest.{AreNearest, IsIndexOf};
 ghost use Rattle.sixel_palette.specs.inside.PaletteNearest.{IsIndex, AreIndicesTo};
 ghost use Rattle.sixel_palette.specs.inside.PaletteLookUp.{IsLookUp, HasColorsOf, FindsNearest};
+ghost use Rattle.sixel_palette.specs.inside.PaletteRanks.{IsRankBitmap};
 
 use crate::palette::colors::{are_four_of, pixel_word};
 use crate::palette::rank_bitmap::RankBitmap;
@@ -30,12 +31,31 @@ pub fn indices_of(
         → ((c : List ℕ) → IsShown pixels.now c → nearest entries c < no_entry)
         → AreIndices pixels.now entries indices.items) }
 {
-    // The indices outlive the table, so they are allocated before it.
-    let mut indices = vec![in alloc; 0; pixels.len() / 4]?;
     let ranks = RankBitmap::new(alloc, codes)?;
+    Ok(indices_by(alloc, pixels, codes, &ranks, color_indices)?)
+}
+
+/// The palette index of each pixel, from those of the colors in use and the colors' ranks.
+pub fn indices_by(
+    alloc: Global,
+    pixels: &[u8],
+    codes: &[u32],
+    ranks: &RankBitmap,
+    color_indices: &[u8],
+) -> Result<Vec<u8>, AllocError>
+    requires same { length codes.now ≡ length color_indices.now }
+    requires ascending { IsStrictlyIncreasing codes.now }
+    requires ranks { IsRankBitmap codes.now ranks.now }
+    requires listed { (c : List ℕ) → IsShown pixels.now c → IsListed codes.now c }
+    ensures { IfOk result (λ indices. (entries : List (List ℕ)) (squares : List ℕ)
+        → AreNearest entries codes.now squares color_indices.now
+        → ((c : List ℕ) → IsShown pixels.now c → nearest entries c < no_entry)
+        → AreIndices pixels.now entries indices.items) }
+{
+    let mut indices = vec![in alloc; 0; pixels.len() / 4]?;
     let look_up = LookUp {
         codes,
-        ranks: &ranks,
+        ranks,
         color_indices,
     };
     fill_indices(&mut indices, pixels, &look_up);
@@ -154,7 +174,7 @@ fn fill_indices(indices: &mut [u8], pixels: &[u8], look_up: &LookUp<'_>)
 
 /// The words of four pixels, from this one on.
 #[inline(always)]
-fn four_words(pixels: &[u8], pixel: usize) -> [u32; 4]
+pub fn four_words(pixels: &[u8], pixel: usize) -> [u32; 4]
     requires { pixel + 4 ≤ length pixels.now / 4 }
     ensures { AreFourWords pixels.now pixel result }
 {

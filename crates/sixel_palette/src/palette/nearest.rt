@@ -73,6 +73,15 @@ impl Search {
         })
     }
 
+    /// The entry of a palette index.
+    #[inline(always)]
+    pub fn entry(&self, index: u8) -> Entry
+        requires { index < length self.now.entries.items }
+        ensures { result ≡ entry_at self.now.entries.items index }
+    {
+        self.entries[usize::from(index)]
+    }
+
     /// The entry nearest to a color, the first of equals.
     #[inline(always)]
     pub fn nearest_to(&mut self, color: [u8; 3]) -> Result<NearestEntry, AllocError>
@@ -292,8 +301,8 @@ fn least_key_of_sixteen(entries: &[Entry], code: u32) -> u32
         let entry = entries[lane];
         keys[lane] = key(distance_to(code, entry.color), entry.index);
     }
-    let mut least = 256 * NO_ENTRY;
-    for position in 0..SMALL_PALETTE {
+    let mut least = keys[0];
+    for position in 1..SMALL_PALETTE {
         least = keys[position].min(least);
     }
     least

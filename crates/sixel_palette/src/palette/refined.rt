@@ -12,8 +12,9 @@ ghost use Rattle.sixel_palette.specs.Refined.{IsRegisterColor, register_color, I
 ghost use Rattle.sixel_palette.specs.inside.PaletteAssignment.{IsStart, IsWeighed};
 ghost use Rattle.sixel_palette.specs.inside.PaletteBoxes.{binned_pixels};
 ghost use Rattle.sixel_palette.specs.inside.PaletteSums.{AreBinsOf, IsWholeBin, counted_pixels};
-ghost use Rattle.sixel_palette.specs.inside.PaletteCounts.{counted_error, AreCounts, ArePositions};
+ghost use Rattle.sixel_palette.specs.inside.PaletteCounts.{counted_error, AreCounts};
 ghost use Rattle.sixel_palette.specs.inside.PaletteCodes.{color_of, IsListed, AreColorCodes};
+ghost use Rattle.sixel_palette.specs.inside.PaletteRanks.{IsRankBitmap};
 
 use crate::palette::assignment::{Assignment, assign, summed};
 use crate::palette::bins::{Bin, bins_of};
@@ -22,9 +23,9 @@ use crate::palette::colors::{color_of, shown_codes};
 use crate::palette::distance::distance;
 use crate::palette::farthest_on_top::add_farthest;
 use crate::palette::gain_cut::{box_colors, boxes_of, is_final};
+use crate::palette::indices::indices_by;
 use crate::palette::lloyd::improve;
 use crate::palette::nearest_entry::squared_to_nearest;
-use crate::palette::positions::indices_by;
 use crate::palette::register_color::register_color;
 use sixel_base::limits::MAX_AREA;
 use sixel_base::size::validate_color_count;
@@ -139,16 +140,15 @@ fn palette_of_counts(
     requires listed { (c : List ℕ) → IsListed codes.now c → IsShown pixels.now c }
     requires counts { AreCounts pixels.now codes.now counted.now.counts.items
         (length pixels.now / 4) }
-    requires positions { ArePositions pixels.now codes.now counted.now.positions.items
-        (length pixels.now / 4) }
+    requires ranks { IsRankBitmap codes.now counted.now.ranks }
     ensures { IfOk result (IsRefined pixels.now room) }
 {
     let counts: &[u32] = &counted.counts;
     let start = start_of(alloc, codes, counts, room)?;
     let topped = add_farthest(alloc, codes, start.assignment, room)?;
     let error = summed(counts, &topped.traversal.squares);
-    let positions: &[u32] = &counted.positions;
-    let indices = indices_by(alloc, pixels, codes, positions, &topped.traversal.indices)?;
+    let color_indices: &[u8] = &topped.traversal.indices;
+    let indices = indices_by(alloc, pixels, codes, &counted.ranks, color_indices)?;
     let apart = least_apart(&topped.witnesses);
     Ok(RefinedPalette {
         colors: topped.colors,

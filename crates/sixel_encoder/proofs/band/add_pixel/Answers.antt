@@ -29,31 +29,13 @@ returns-clause-marks c =
     c.requires.weight
 
 pub bounds-rows-row : goal.bounds-rows-row
-bounds-rows-row c =
-    let inside =
-    sixel_inside c.args.image.now c.args.rows.now c.args.used.now
-    (c.args.line.start + c.args.column) c.from-row.result c.args.column c.requires.image
-    c.requires.entries c.requires.rows (omega (arith, c.requires.line))
-    (c.is_opaque.ensures.opaque c.if-not-is_opaque.false) c.from-row.ensures c.requires.column in
-    inside.1
+bounds-rows-row c = grind (arith, nat_tests)
 
 pub bounds-rows-row-2 : goal.bounds-rows-row-2
-bounds-rows-row-2 c =
-    let inside =
-    sixel_inside c.args.image.now c.args.rows.now c.args.used.now
-    (c.args.line.start + c.args.column) c.from-row.result c.args.column c.requires.image
-    c.requires.entries c.requires.rows (omega (arith, c.requires.line))
-    (c.is_opaque.ensures.opaque c.if-not-is_opaque.false) c.from-row.ensures c.requires.column in
-    inside.1
+bounds-rows-row-2 c = grind (arith, nat_tests)
 
 pub bounds-used-row : goal.bounds-used-row
-bounds-used-row c =
-    let inside =
-    sixel_inside c.args.image.now c.args.rows.now c.args.used.now
-    (c.args.line.start + c.args.column) c.from-row.result c.args.column c.requires.image
-    c.requires.entries c.requires.rows (omega (arith, c.requires.line))
-    (c.is_opaque.ensures.opaque c.if-not-is_opaque.false) c.from-row.ensures c.requires.column in
-    inside.0
+bounds-used-row c = grind (arith, nat_tests)
 
 pub returns-then-not-is_opaque-clause-marks : goal.returns-then-not-is_opaque-clause-marks
 returns-then-not-is_opaque-clause-marks c = c.requires.marks

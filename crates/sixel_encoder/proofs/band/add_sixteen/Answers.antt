@@ -1,6 +1,6 @@
 use Rattle.std.proofs.Common.{◌≡◌, ◌+◌, ◌-◌, ◌*◌, arith}
 use Rattle.sixel_encoder.proofs.Lines.{pixel_bit-row}
-use Rattle.sixel_encoder.proofs.LineRuns.{between-none, between-join}
+use Rattle.sixel_encoder.proofs.LineRuns.{between-none}
 use Rattle.sixel_encoder.proofs.LineRuns.{between-same, cell-run, AreMarks-run}
 use Rattle.sixel_encoder.proofs.band.add_sixteen.Goals as goal
 use Rattle.std.proofs.lemmas.Bool.Decides.{nat_tests}
@@ -55,12 +55,7 @@ pub add_pixel-requires-clause-fits : goal.add_pixel-requires-clause-fits
 add_pixel-requires-clause-fits c = λ e le. grind (arith)
 
 pub loop-one-preserved : goal.loop-one-preserved
-loop-one-preserved c = record {
-  cells = λ e x le lx.
-      between-join _ _ _ c.args.column c.loop-one.one (c.loop-one.one + 1) _ x (omega arith)
-      (omega arith) (c.loop-one.invariant.cells e x le lx) (c.add_pixel.ensures.cells e x le lx);
-  marks = c.add_pixel.ensures.marks;
-}
+loop-one-preserved c = grind (arith, nat_tests)
 
 pub returns-clause-cells : goal.returns-clause-cells
 returns-clause-cells c = grind (arith, nat_tests, c.loop-one.invariant.cells)

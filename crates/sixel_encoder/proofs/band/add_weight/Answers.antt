@@ -1,6 +1,7 @@
 use Rattle.sixel_encoder.proofs.LineRuns.{lanes-more}
 use Rattle.sixel_encoder.proofs.band.add_weight.Goals as goal
+use Rattle.std.proofs.Common.{arith}
+use Rattle.std.proofs.lemmas.Bool.Decides.{nat_tests}
 
 pub returns : goal.returns
-returns c =
-    lanes-more c.args.rows.now c.args.from c.args.weight c.requires.within c.requires.fits
+returns c = grind (arith, nat_tests, lanes-more, c.requires.within, c.requires.fits)

@@ -1,4 +1,4 @@
-use Rattle.std.proofs.Common.{◌-◌, ◌<◌, arith, refl, sym}
+use Rattle.std.proofs.Common.{◌<◌, arith, refl, sym}
 use Rattle.sixel_encoder.specs.inside.Indexed.{drawing_of}
 use Rattle.sixel_encoder.proofs.LaneChanges.{change-left, change-right, lane-most}
 use Rattle.sixel_encoder.proofs.PlainBound.{bound-start, bound-step, bound-whole, zero-replicated}
@@ -32,8 +32,7 @@ end-requires-then-left-right-clause-order c =
     let entries = c.args.entries.now in
     let column = c.loop-column.column in
     let bit = c.loop-bit.bit in
-    let lc : column < entries.image.now.width =
-    omega (arith, c.loop-column-test.true, c.loop-column.auto.column-end) in
+    let lc : column < entries.image.now.width = grind (arith, nat_tests) in
     let lb : bit < 6 = omega (arith, c.loop-bit-test.true, c.loop-bit.auto.bit-end) in
     (c.end.ensures.bound (drawing_of entries.image.now) entries.band
     (λ some. change-left entries column bit c.lane-left.result c.lane-right.result c.requires lc lb
@@ -49,8 +48,7 @@ loop-bit-preserved c =
     let left = c.lane-left.result in
     let right = c.lane-right.result in
     let is = c.loop-bit.invariant in
-    let lc : column < entries.image.now.width =
-    omega (arith, c.loop-column-test.true, c.loop-column.auto.column-end) in
+    let lc : column < entries.image.now.width = grind (arith, nat_tests) in
     let lb : bit < 6 = omega (arith, c.loop-bit-test.true, c.loop-bit.auto.bit-end) in
     elim c.if-left-right.branch [
       | then-left-right w ↦
@@ -66,8 +64,7 @@ loop-bit-preserved c =
             size = w.end-then-left-right.ensures.starts;
             few = omega (arith, is.few, w.end.ensures.few, w.end-then-left-right.ensures.few);
           }
-      | else-left-right w ↦
-          rw w.runs-is record { bound = is.bound; size = is.size; few = omega (arith, is.few) }
+      | else-left-right w ↦ grind (arith, nat_tests)
     ]
 
 pub loop-column-preserved : goal.loop-column-preserved
@@ -76,8 +73,7 @@ loop-column-preserved c =
     let drawing = drawing_of entries.image.now in
     let column = c.loop-column.column in
     let some : 0 < column = omega (arith, c.loop-column.auto.column) in
-    let lc : column < entries.image.now.width =
-    omega (arith, c.loop-column-test.true, c.loop-column.auto.column-end) in
+    let lc : column < entries.image.now.width = grind (arith, nat_tests) in
     elim c.if-not-is_repeated.branch [
       | then-not-is_repeated+else-loop-bit-test w ↦
           let is = w.loop-bit.invariant in

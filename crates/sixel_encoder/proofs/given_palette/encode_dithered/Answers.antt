@@ -13,12 +13,7 @@ use Rattle.std.proofs.lemmas.Bool.Decides.{nat_tests}
 told : (c : After-deref)
     → AreDithered c.args.mapping c.args.source.now.width c.args.source.now.pixels.now
     c.args.colors.now c.in_ok-indices.indices.items
-told c =
-    rw (
-      c.plain-image.ensures.pixels,
-      c.plain-image.ensures.width,
-      c.plain-image.ensures.colors,
-    ) at c.in_ok-indices.ensures
+told c = grind (arith, nat_tests)
 
 pub dithered_indices-requires-clause-image : goal.dithered_indices-requires-clause-image
 dithered_indices-requires-clause-image c =

@@ -1,9 +1,6 @@
-use Rattle.std.proofs.Common.{◌≡◌, ◌+◌, false, length, ap, ◌∙◌, arith}
-use Rattle.std.specs.Prelude.{All}
-use Rattle.std.specs.List.{range_with_len}
+use Rattle.std.proofs.Common.{arith}
 use Rattle.std.proofs.lemmas.List.Folds.{list_any_none}
 use Rattle.std.proofs.lemmas.List.FromFn.{get_or-range_with_len, length-range_with_len}
-use Rattle.sixel_encoder.specs.IndexedDrawing.{is_past}
 use Rattle.sixel_encoder.proofs.IndexedText.{list_any-past}
 use Rattle.sixel_encoder.proofs.given_palette.validate_indices.Goals as goal
 use Rattle.std.proofs.lemmas.Bool.Decides.{nat_tests}
@@ -18,12 +15,10 @@ returns-then-from-colors c =
 
 pub returns : goal.returns
 returns c =
-    let count = length c.args.indices.now in
-    let past = is_past c.args.pixels.now c.args.indices.now c.args.colors in
-    let each : All (λ k. past k ≡ false) (range_with_len 0 count) =
-    λ k d l.
-    let inside = length-range_with_len 0 count in
-    let zero : 0 + k ≡ k = omega arith in
-    ap past (get_or-range_with_len 0 count k d (omega arith) ∙ zero)
-    ∙ c.loop-pixel.invariant k (omega arith) in
-    grind (arith, nat_tests, list_any_none)
+    grind (
+      arith,
+      length-range_with_len,
+      get_or-range_with_len,
+      c.loop-pixel.invariant,
+      list_any_none,
+    )

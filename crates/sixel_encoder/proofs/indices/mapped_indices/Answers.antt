@@ -3,25 +3,16 @@ use Rattle.sixel_encoder.specs.declared.dither.Dither.{Dither}
 use Rattle.sixel_encoder.specs.declared.mapping.Tolerance.TheVariants.{Auto}
 use Rattle.sixel_encoder.specs.Dithering.{AreMapped, mapped_of, target_of, tolerance_of}
 use Rattle.sixel_encoder.proofs.DiffusionLaws.{AreMapped-diffused}
-use Rattle.sixel_encoder.proofs.DitheredIndices.{AreRows, AreRowsOf-whole}
+use Rattle.sixel_encoder.proofs.DitheredIndices.{AreRows}
 use Rattle.sixel_encoder.proofs.PaletteError.{error-none, held-none}
 use Rattle.sixel_encoder.proofs.indices.mapped_indices.Goals as goal
+use Rattle.std.proofs.lemmas.Bool.Decides.{nat_tests}
 
 pub returns-in-Off : goal.returns-in-Off
-returns-in-Off c =
-    rw c.in-Off.is (rw (
-      c.requires.plain.strength,
-      c.requires.plain.amplitude,
-      c.tolerance_of-tolerance.ensures,
-    ) at c.keep_entries.ensures)
+returns-in-Off c = grind (arith, nat_tests)
 
 pub returns-in-Ordered : goal.returns-in-Ordered
-returns-in-Ordered c =
-    rw c.in-Ordered.is (rw (
-      c.requires.plain.strength,
-      c.amplitude_of-amplitude.ensures,
-      c.tolerance_of-tolerance.ensures,
-    ) at c.ordered_indices.ensures)
+returns-in-Ordered c = grind (arith, nat_tests)
 
 pub returns-in-Diffusion : goal.returns-in-Diffusion
 returns-in-Diffusion c =
@@ -33,12 +24,7 @@ returns-in-Diffusion c =
     let none = ap (λ t. tolerance_of t colors pixels) (sym auto) ∙ exact in
     let m = mapped_of c.args.mapping image.width pixels colors in
     let three = c.channel_bytes.ensures.three in
-    let rows : AreRows m = record {
-      rows =
-          AreRowsOf-whole pixels image.width c.requires.image.whole.wide
-          c.requires.image.whole.rows;
-      some = c.requires.image.some;
-    } in
+    let rows : AreRows m = grind (arith, nat_tests) in
     subst
     (λ (d : Dither). AreMapped m (target_of d m c.args.nearest.items) c.args.nearest.items)
     (sym c.in-Diffusion.is) (AreMapped-diffused m c.args.nearest.items rows
@@ -46,9 +32,4 @@ returns-in-Diffusion c =
     (held-none colors pixels three (error-none colors pixels none)) exact c.requires.nearest)
 
 pub returns-in-Diffusion-2 : goal.returns-in-Diffusion-2
-returns-in-Diffusion-2 c =
-    rw c.in-Diffusion-2.is (rw (
-      c.clamp-strength.ensures,
-      c.requires.plain.amplitude,
-      c.tolerance_of-tolerance.ensures,
-    ) at c.diffused_indices.ensures)
+returns-in-Diffusion-2 c = grind (arith, nat_tests)

@@ -1,8 +1,7 @@
-use Rattle.std.proofs.Common.{◌≡◌, ◌<◌, ℕ, List, [], inl, inr, length, ap, sym, subst, ◌∙◌, arith}
+use Rattle.std.proofs.Common.{◌≡◌, ◌<◌, ℕ, length, ap, subst, arith}
 use Rattle.std.proofs.Common.{refl}
-use Rattle.std.specs.Prelude.{◌/◌, All, Contains, None}
+use Rattle.std.specs.Prelude.{◌/◌, All}
 use Rattle.std.proofs.lemmas.Bool.Decides.{nat_tests}
-use Rattle.sixel_base.specs.CallFault.{color_count_fault}
 use Rattle.std.proofs.lemmas.List.{get_or_default}
 use Rattle.sixel_palette.proofs.PaletteColors.{IsColor}
 use Rattle.sixel_palette.specs.Palette.{IsOpaque, color_at}
@@ -12,57 +11,28 @@ use Rattle.sixel_encoder.specs.Dithering.{AreDithered, AreMapped, HaveTargets, M
 use Rattle.sixel_encoder.specs.Dithering.{mapped_of, target_of, tolerance_of}
 use Rattle.sixel_encoder.specs.Gray.{source_pixels}
 use Rattle.sixel_encoder.proofs.DiffusionLaws.{AreHeld, AreIndices-exact}
-use Rattle.sixel_encoder.proofs.DitheredIndices.{AreIndices-mapped, AreRows, rows-sound}
+use Rattle.sixel_encoder.proofs.DitheredIndices.{AreIndices-mapped, AreRows}
 use Rattle.sixel_encoder.proofs.GraySource.{AreIndices-source, AreRowsOf-source, IsSource-pixels}
 use Rattle.sixel_encoder.proofs.GraySource.{bytes-source, dithered-count, own-source}
 use Rattle.sixel_encoder.proofs.PaletteError.{error-bound, tolerance-held}
-use Rattle.sixel_encoder.proofs.Verdicts.{none-found, none-judged}
 use Rattle.sixel_encoder.proofs.indices.palette_indices.Goals as goal
 
 -- the rows of an image without a fault, mapped in any way to the colors
 rows-of : (c : goal.In_ok-dithered_indices) (m : Mapped) → m.width ≡ c.args.width
     → m.pixels ≡ c.args.pixels.now → m.colors ≡ c.args.colors.now → AreRows m
-rows-of c m wide pixels colors =
-    let sound =
-    rows-sound (length c.args.pixels.now) c.args.width
-    (none-found _ _ _ c.validate_rows.ensures c.in_ok-validate_rows.was) in
-    let judged : color_count_fault (length c.args.colors.now) ≡ None =
-    none-judged _ _ _ c.validate_color_count.ensures c.in_ok-validate_color_count.was in
-    let some : 0 < length c.args.colors.now = grind (arith, nat_tests) in
-    let count = length c.args.pixels.now / 4 / c.args.width in
-    record {
-      rows = record {
-        some = rw wide sound.0;
-        count = count;
-        whole = rw (pixels, wide) (omega (arith, sound.1));
-      };
-      some = rw colors some;
-    }
+rows-of c m wide pixels colors = grind (arith, nat_tests)
 
 -- the indices
 told : (c : goal.In_ok-dithered_indices)
     → AreDithered c.args.mapping c.args.width c.args.pixels.now c.args.colors.now
     c.in_ok-dithered_indices.field-0.items
-told c =
-    rw (
-      c.plain-image.ensures.pixels,
-      c.plain-image.ensures.width,
-      c.plain-image.ensures.colors,
-    ) at c.in_ok-dithered_indices.ensures
+told c = grind (arith, nat_tests)
 
 -- undithered ones are those of the pixels as they are
 told-off : (c : goal.In_ok-dithered_indices) → c.args.mapping.dither ≡ Off
     → HaveTargets c.args.mapping c.args.width c.args.pixels.now c.args.colors.now
     c.in_ok-dithered_indices.field-0.items
-told-off c off =
-    let same : source_pixels c.args.mapping.dither c.args.colors.now c.args.pixels.now
-    ≡ c.args.pixels.now =
-    ap (λ d. source_pixels d c.args.colors.now c.args.pixels.now) off in
-    subst
-    (λ (s : List ℕ).
-    HaveTargets c.args.mapping c.args.width s c.args.colors.now
-    c.in_ok-dithered_indices.field-0.items)
-    same (told c)
+told-off c off = grind (arith, nat_tests)
 
 pub returns-clause-count : goal.returns-clause-count
 returns-clause-count c =
@@ -93,19 +63,11 @@ returns-clause-exact c = λ strength is none held.
     let same : (pixel : ℕ) → pixel < length pixels / 4 → IsOpaque pixels pixel
     → color_at s pixel ≡ color_at pixels pixel =
     λ pixel l light. own-source dither colors pixels pixel l (held pixel l light) in
-    let kept : AreHeld m = λ pixel l light.
-    let inside : pixel < length pixels / 4 = omega (arith, l, of.count) in
-    let shown : IsOpaque pixels pixel = omega (arith, light, of.alpha pixel inside) in
-    subst (λ (c : List ℕ). Contains colors c) (sym (same pixel inside shown))
-    (held pixel inside shown) in
+    let kept : AreHeld m = λ pixel l light. grind (arith, nat_tests) in
     let exact : tolerance_of c.args.mapping.tolerance colors s ≡ 0 =
-    elim none [
-      | inl auto ↦ ap (λ t. tolerance_of t colors s) auto ∙ tolerance-held colors s kept
-      | inr zero ↦ ap (λ t. tolerance_of t colors s) zero
-    ] in
+    grind (arith, nat_tests, colors, s, tolerance-held, kept) in
     let three : All (λ p. length p ≡ 3) colors =
-    λ k e l.
-    subst (λ (p : List ℕ). length p ≡ 3) (get_or_default colors k [] e l) (c.told-colors k l) in
+    λ k e l. grind (arith, nat_tests, get_or_default, colors) in
     AreIndices-source pixels s colors indices of same
     (AreIndices-exact m indices
     (record {
@@ -125,13 +87,7 @@ returns-clause-summed c = λ off.
     let m = mapped_of c.args.mapping c.args.width pixels colors in
     let indices = c.in_ok-dithered_indices.field-0.items in
     let all : All IsColor colors =
-    λ k e l.
-    subst IsColor (get_or_default colors k [] e l)
-    (record {
-      three = c.told-colors k l;
-      bytes = λ j lj.
-          c.color_bytes.ensures k [] l j 0 (omega (arith, c.told-colors k l, lj));
-    }) in
+    λ k e l. grind (arith, nat_tests, get_or_default, colors, c.color_bytes.ensures) in
     error-bound m indices (rows-of c m refl refl refl).rows
     (λ j. omega (arith, c.type_inv.pixels j)) all
     (subst (λ (d : Dither). AreMapped m (target_of d m indices) indices) off (told-off c off))

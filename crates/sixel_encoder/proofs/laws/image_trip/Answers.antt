@@ -2,14 +2,15 @@ use Rattle.sixel_encoder.proofs.TripLimits.{IsWritable-drawn, CanRead-new, image
 use Rattle.sixel_encoder.proofs.TripLimits.{bytes-trip}
 use Rattle.sixel_encoder.proofs.SecondTrip.{image-read_back, image-one_string}
 use Rattle.sixel_encoder.proofs.laws.image_trip.Goals as goal
+use Rattle.std.proofs.Common.{arith}
+use Rattle.std.proofs.lemmas.Bool.Decides.{nat_tests}
 
 pub returns-clause-writable : goal.returns-clause-writable
 returns-clause-writable c = λ image max_colors drawing sound bytes is.
     IsWritable-drawn image max_colors drawing is sound bytes
 
 pub returns-clause-read_back : goal.returns-clause-read_back
-returns-clause-read_back c = λ decoder image max_colors text sound bytes reads is.
-    image-read_back decoder image max_colors text sound bytes reads is
+returns-clause-read_back c = grind (arith, nat_tests, image-read_back)
 
 pub returns-clause-sound : goal.returns-clause-sound
 returns-clause-sound c = λ raster_crop drawing is. image_fault-trip raster_crop drawing is

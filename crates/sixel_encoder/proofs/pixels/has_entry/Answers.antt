@@ -1,8 +1,6 @@
-use Rattle.std.proofs.Common.{ap, sym, ◌∙◌, arith}
+use Rattle.std.proofs.Common.{arith}
 use Rattle.std.proofs.lemmas.List.{get_or_past}
 use Rattle.std.proofs.lemmas.List.FromFn.{length-map-range_with_len}
-use Rattle.sixel_encoder.specs.Text.{is_entry}
-use Rattle.sixel_encoder.specs.inside.Indexed.{entry_of}
 use Rattle.sixel_encoder.proofs.IndexedDrawing.{get_or-entries}
 use Rattle.sixel_encoder.proofs.pixels.has_entry.Goals as goal
 use Rattle.std.proofs.lemmas.Bool.Decides.{nat_tests}
@@ -13,12 +11,8 @@ returns-then-pixel-image c =
 
 pub returns-in-Some : goal.returns-in-Some
 returns-in-Some c =
-    sym (ap (is_entry c.args.entry)
-    (get_or-entries c.args.image.now.pixels.now c.args.image.now.indices.now c.args.pixel
-    (omega (arith, c.if-pixel-image.false)) ∙ (sym c.entry_of.ensures.entry ∙ c.in-Some.is)))
+    grind (arith, get_or-entries, c.if-pixel-image.false, c.entry_of.ensures.entry, c.in-Some.is)
 
 pub returns-in-None : goal.returns-in-None
 returns-in-None c =
-    sym (ap (is_entry c.args.entry)
-    (get_or-entries c.args.image.now.pixels.now c.args.image.now.indices.now c.args.pixel
-    (omega (arith, c.if-pixel-image.false)) ∙ (sym c.entry_of.ensures.entry ∙ c.in-None.is)))
+    grind (arith, get_or-entries, c.if-pixel-image.false, c.entry_of.ensures.entry, c.in-None.is)

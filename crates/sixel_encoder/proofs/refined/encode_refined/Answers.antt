@@ -8,7 +8,7 @@ use Rattle.sixel_encoder.proofs.GraySource.{dithered-count, dithered-entry}
 use Rattle.sixel_encoder.proofs.PaletteText.{rows-sound}
 use Rattle.sixel_encoder.proofs.RefinedText.{IsRefinedText-returned}
 use Rattle.sixel_encoder.proofs.Sizes.{within-sound}
-use Rattle.sixel_encoder.proofs.Verdicts.{none-found, palette-failed}
+use Rattle.sixel_encoder.proofs.Verdicts.{none-found}
 use Rattle.sixel_encoder.proofs.refined.encode_refined.Goals as goal
 use Rattle.sixel_encoder.proofs.refined.encode_refined.Goals.{After-deref-3}
 use Rattle.std.proofs.lemmas.Bool.Decides.{nat_tests}
@@ -17,13 +17,7 @@ use Rattle.std.proofs.lemmas.Bool.Decides.{nat_tests}
 told : (c : After-deref-3)
     → AreDithered c.args.mapping c.args.source.now.width c.args.source.now.pixels.now
     c.in_ok-palette.palette.colors.items c.in_ok-indices.indices.items
-told c =
-    rw (
-      c.plain-image.ensures.pixels,
-      c.plain-image.ensures.width,
-      c.plain-image.ensures.colors,
-      c.deref.ensures.value,
-    ) at c.in_ok-indices.ensures
+told c = grind (arith, nat_tests)
 
 pub indices_from-requires-clause-rows : goal.indices_from-requires-clause-rows
 indices_from-requires-clause-rows c =
@@ -32,21 +26,13 @@ indices_from-requires-clause-rows c =
     (none-found _ _ _ c.validate_source.ensures c.in_ok-validate_source.was))
 
 pub indices_from-requires-clause-width : goal.indices_from-requires-clause-width
-indices_from-requires-clause-width c =
-    let sound = none-found _ _ _ c.validate_source.ensures c.in_ok-validate_source.was in
-    rw c.plain-image.ensures.width (within-sound (source_value c.args.source.now) sound).some_width
+indices_from-requires-clause-width c = grind (arith, nat_tests)
 
 pub indices_from-requires-clause-nearest : goal.indices_from-requires-clause-nearest
-indices_from-requires-clause-nearest c =
-    rw (
-      c.plain-image.ensures.pixels,
-      c.plain-image.ensures.colors,
-      c.deref.ensures.value,
-    ) c.in_ok-palette.ensures.refined.indices
+indices_from-requires-clause-nearest c = grind (arith, nat_tests)
 
 pub encode_drawing-requires-clause-sound : goal.encode_drawing-requires-clause-sound
-encode_drawing-requires-clause-sound c =
-    none-found _ _ _ c.validate_source.ensures c.in_ok-validate_source.was
+encode_drawing-requires-clause-sound c = grind (arith, nat_tests)
 
 pub encode_drawing-requires-clause-count : goal.encode_drawing-requires-clause-count
 encode_drawing-requires-clause-count c =
@@ -74,12 +60,7 @@ pub returns-in_err-palette-clause-fault : goal.returns-in_err-palette-clause-fau
 returns-in_err-palette-clause-fault c = grind (arith, mul-le)
 
 pub returns-clause-fault : goal.returns-clause-fault
-returns-clause-fault c =
-    let sound = none-found _ _ _ c.validate_source.ensures c.in_ok-validate_source.was in
-    let sized = (within-sound (source_value c.args.source.now) sound).sized in
-    palette-failed (source_value c.args.source.now) c.args.max_colors c.encode_drawing.result sound
-    (λ wrong. absurd (c.in_ok-palette.ensures.colors (omega (arith, sized)) wrong))
-    (λ _. c.encode_drawing.ensures.memory)
+returns-clause-fault c = grind (arith, nat_tests)
 
 pub returns-clause-text : goal.returns-clause-text
 returns-clause-text c =

@@ -18,7 +18,4 @@ loop-column-preserved c =
     grind (arith, nat_tests, union-more, c.loop-column.invariant)
 
 pub returns : goal.returns
-returns c =
-    let all : c.loop-column.column ≡ c.args.end =
-    omega (arith, c.loop-column-test.false, c.loop-column.auto.column-end, c.requires.from) in
-    c.loop-column.invariant ∙ ap (λ k. union c.args.row.now c.args.from (k - c.args.from)) all
+returns c = grind (arith, nat_tests)

@@ -116,10 +116,7 @@ pub push_run-requires-clause-last : goal.push_run-requires-clause-last
 push_run-requires-clause-last c = rw c.run_of-run.ensures.first c.columns.invariant.last
 
 pub push_run-requires-then-is_new-clause-last : goal.push_run-requires-then-is_new-clause-last
-push_run-requires-then-is_new-clause-last c =
-    rw c.run_of-run-then-is_new.ensures.first c.loop-bit.invariant.last
+push_run-requires-then-is_new-clause-last c = grind (arith, nat_tests)
 
 pub columns-preserved : goal.columns-preserved
-columns-preserved c =
-    let is = c.loop-bit.invariant in
-    grind (arith, nat_tests, is.segments, is.last, is.size, c.columns-test.true)
+columns-preserved c = grind (arith, nat_tests)

@@ -1,9 +1,9 @@
 use Rattle.std.specs.Prelude.{vec_len}
-use Rattle.std.proofs.lemmas.Bool.{eqb-true}
 use Rattle.std.proofs.Common.{◌≡◌, ◌-◌, ◌++◌, [], length, ap, sym, ◌∙◌, arith}
 use Rattle.sixel_encoder.specs.Segments.{passes}
 use Rattle.sixel_encoder.proofs.PassSteps.{length-none, passes-end, passes-none, passes-step}
 use Rattle.sixel_encoder.proofs.segments.in_passes.Goals as goal
+use Rattle.std.proofs.lemmas.Bool.Decides.{nat_tests}
 
 pub loop-preserved : goal.loop-preserved
 loop-preserved c =
@@ -18,8 +18,7 @@ loop-preserved c =
 pub returns-then-is_empty : goal.returns-then-is_empty
 returns-then-is_empty c =
     let left = c.loop.left.items in
-    let zero : vec_len c.loop.left ≡ 0 =
-    eqb-true (vec_len c.loop.left) 0 (sym c.is_empty.ensures ∙ c.if-is_empty.true) in
+    let zero : vec_len c.loop.left ≡ 0 = grind (arith, nat_tests) in
     let none : left ≡ [] = length-none left (omega (arith, zero, c.loop.left.ok.0)) in
     passes-end (length c.args.segments.now - c.loop.counter) c.loop.ordered.items left
     (passes (length c.args.segments.now) c.args.segments.now) none c.loop.invariant

@@ -72,8 +72,7 @@ returns-clause-last c =
           none-near items last c.args.gap c.args.run.first c.args.run.entry j c.requires.last
           w.in-None.is l
     ] in
-    let size : c.len.result ≡ length items =
-    omega (arith, c.len.ensures, c.args.segments.now.ok.0) in
+    let size : c.len.result ≡ length items = grind (arith, nat_tests) in
     rw c.in_ok-push.ensures.items
     (rw size
     (AreLast-run items last c.args.gap c.args.run c.requires.some c.requires.last c.requires.entry

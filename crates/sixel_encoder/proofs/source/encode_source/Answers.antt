@@ -1,18 +1,13 @@
 use Rattle.std.proofs.Common.{arith}
-use Rattle.std.specs.Prelude.{Ok}
 use Rattle.sixel_palette.specs.Palette.{IsPalette, AreIndices}
 use Rattle.sixel_encoder.specs.declared.text.IndexedImage.{IndexedImage}
 use Rattle.sixel_encoder.specs.inside.Indexed.{drawing_of}
-use Rattle.sixel_encoder.proofs.IndexedDrawing.{IsDrawing-chosen, IsIndexed-chosen}
-use Rattle.sixel_encoder.proofs.Verdicts.{fails-by_memory, none-found}
+use Rattle.sixel_encoder.proofs.IndexedDrawing.{IsDrawing-chosen}
 use Rattle.sixel_encoder.proofs.source.encode_source.Goals as goal
+use Rattle.std.proofs.lemmas.Bool.Decides.{nat_tests}
 
 pub encode_in_form-requires : goal.encode_in_form-requires
-encode_in_form-requires c =
-    let told = c.in_ok-choice.ensures in
-    IsIndexed-chosen _ (none-found _ _ _ c.validate_source.ensures c.in_ok-validate_source.was)
-    (rw c.deref.ensures.value (omega (arith, told.palette.size.2)))
-    (rw (c.deref.ensures.value, c.deref-2.ensures.value) told.indices)
+encode_in_form-requires c = grind (arith, nat_tests)
 
 pub returns-clause-text : goal.returns-clause-text
 returns-clause-text c =
@@ -37,9 +32,7 @@ returns-clause-text c =
     )
 
 pub returns-clause-refused : goal.returns-clause-refused
-returns-clause-refused c =
-    fails-by_memory _ (Ok c.in_ok-encode_in_form.field-0)
-    (none-found _ _ _ c.validate_source.ensures c.in_ok-validate_source.was) (tt {0})
+returns-clause-refused c = grind (arith, nat_tests)
 
 pub returns-clause-bytes : goal.returns-clause-bytes
 returns-clause-bytes c = c.in_ok-choice.ensures.bytes

@@ -51,17 +51,7 @@ returns-then-len-limit-2-clause-shorter c =
     omega (arith, ap length whole, c.if-len-limit-2.true, c.len-2.ensures)
 
 pub returns-clause-text : goal.returns-clause-text
-returns-clause-text c =
-    text-joined (drawing_of c.args.image.now) c.loop-band.band
-    (string_bytes c.in_ok-text.text) (string_bytes c.loop-band.text)
-    (string_bytes c.push_str.new.self) c.in_ok-text.ensures c.loop-band.invariant.text
-    (omega (
-      arith,
-      c.loop-band-test.false,
-      c.loop-band.auto.band-end,
-      c.div_ceil-band-end.ensures,
-    ))
-    c.in_ok-push_str.ensures.bytes
+returns-clause-text c = grind (arith, nat_tests)
 
 pub returns-clause-shorter : goal.returns-clause-shorter
 returns-clause-shorter c = omega (arith, c.if-len-limit-2.false, c.len-2.ensures)

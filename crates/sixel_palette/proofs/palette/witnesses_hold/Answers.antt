@@ -1,4 +1,4 @@
-use Rattle.std.proofs.Common.{refl}
+use Rattle.std.proofs.Common.{refl, arith}
 use Rattle.std.proofs.lemmas.Bool.{false≢true}
 use Rattle.std.proofs.lemmas.List.{take_all}
 use Rattle.sixel_palette.specs.PaletteBound.{AreApart}
@@ -8,9 +8,7 @@ use Rattle.sixel_palette.proofs.palette.witnesses_hold.Goals as goal
 pub returns-then-not-is_apart_from-clause-apart : goal.returns-then-not-is_apart_from-clause-apart
 returns-then-not-is_apart_from-clause-apart c = (
   λ no. absurd (false≢true no),
-  λ apart.
-      c.if-not-is_apart_from.ensures.1 (apart_before c.args.witnesses.now c.args.error
-      c.loop-position.position c.loop-position-test.true apart),
+  λ apart. c.if-not-is_apart_from.ensures.1 (apart_before _ _ _ c.loop-position-test.true apart),
 )
 
 pub loop-position-preserved : goal.loop-position-preserved
@@ -20,9 +18,7 @@ loop-position-preserved c =
 
 -- after the loop all lie apart
 all_apart : (c : goal.After-loop-position) → AreApart c.args.witnesses.now c.args.error
-all_apart c =
-    rw (take_all c.loop-position.position c.args.witnesses.now c.loop-position-test.false) at
-    c.loop-position.invariant
+all_apart c = grind (arith, take_all, c.loop-position-test.false, c.loop-position.invariant)
 
 pub returns-clause-apart : goal.returns-clause-apart
 returns-clause-apart c = (λ _. all_apart c, λ _. refl)

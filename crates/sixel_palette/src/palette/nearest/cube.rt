@@ -5,7 +5,7 @@
 
 ghost use Rattle.std.specs.Prelude.{◌≡◌, ◌+◌, ◌*◌, ◌/◌, ◌%◌, ◌<◌, ◌≤◌, ℕ, List, length};
 ghost use Rattle.std.specs.Prelude.{slice_index};
-ghost use Rattle.sixel_palette.specs.Palette.{distance};
+ghost use Rattle.sixel_palette.specs.Palette.{distance, no_entry};
 ghost use Rattle.sixel_palette.specs.inside.PaletteCodes.{color_of, code_count};
 ghost use Rattle.sixel_palette.specs.inside.PaletteKeys.{entry_at, key_of, least_key, IsInCube};
 ghost use Rattle.sixel_palette.specs.inside.PaletteKeys.{cube_position, group_position};
@@ -116,7 +116,8 @@ fn interval_from(low: u32, more: u32) -> Interval
 #[inline(always)]
 pub fn key(squared: u32, index: u8) -> u32
     requires { squared ≤ 195075 }
-    ensures { result ≡ 256 * squared + index }
+    ensures value { result ≡ 256 * squared + index }
+    ensures small { result < 256 * no_entry }
 {
     256 * squared + u32::from(index)
 }

@@ -1,7 +1,6 @@
 use Rattle.std.proofs.Common.{◌≡◌, ℕ, ◌<◌, ◌≤◌, ◌+◌, ◌*◌, ◌^◌, List, length, ◌∙◌, ap, arith}
 use Rattle.std.proofs.lemmas.Grind.{pow_more}
 use Rattle.std.proofs.lemmas.List.{with_items_is}
-use Rattle.std.proofs.lemmas.Nat.{mul-le}
 use Rattle.sixel_encoder.specs.declared.band.BandRows.{BandRows}
 use Rattle.sixel_encoder.specs.declared.text.IndexedImage.{IndexedImage}
 use Rattle.sixel_encoder.specs.Text.{mask}
@@ -17,25 +16,20 @@ use Rattle.std.proofs.lemmas.Bool.Decides.{nat_tests}
 
 -- a line ends within the image
 line-within : (row width height : ℕ) → row < height → row * width + width ≤ width * height
-line-within row width height l =
-    omega (arith, mul-le (row + 1) width height width (omega arith) (omega arith))
+line-within row width height l = grind (arith, nat_tests)
 
 pub loop-bit-init : goal.loop-bit-init
-loop-bit-init c =
-    grind (arith, nat_tests, mask-none, c.requires.empty.clear.blank, c.requires.empty.clear)
+loop-bit-init c = grind (arith, mask-none, c.requires.empty.clear.blank, c.requires.empty.clear)
 
 pub add_whole_line-requires-clause-line : goal.add_whole_line-requires-clause-line
-add_whole_line-requires-clause-line c =
-    line-within _ c.args.image.now.width c.args.image.now.height c.if-row-image.true
+add_whole_line-requires-clause-line c = grind (arith, nat_tests, line-within, c.if-row-image.true)
 
 pub add_part_of_line-requires-clause-line : goal.add_part_of_line-requires-clause-line
-add_part_of_line-requires-clause-line c =
-    line-within _ c.args.image.now.width c.args.image.now.height c.if-row-image.true
+add_part_of_line-requires-clause-line c = grind (arith, nat_tests, line-within, c.if-row-image.true)
 
 pub add_whole_line-requires-clause-fits : goal.add_whole_line-requires-clause-fits
 add_whole_line-requires-clause-fits c = λ e x le lx.
-    let count : e < length c.loop-bit.self.used.items =
-    omega (arith, le, ap length c.deref_mut-then-is_whole.ensures.value) in
+    let count : e < length c.loop-bit.self.used.items = grind (arith, nat_tests) in
     omega (
       arith,
       c.loop-bit.invariant.cells e x count lx,
@@ -46,8 +40,7 @@ add_whole_line-requires-clause-fits c = λ e x le lx.
 
 pub add_part_of_line-requires-clause-fits : goal.add_part_of_line-requires-clause-fits
 add_part_of_line-requires-clause-fits c = λ e x le lx.
-    let count : e < length c.loop-bit.self.used.items =
-    omega (arith, le, ap length c.deref_mut-else-is_whole-2.ensures.value) in
+    let count : e < length c.loop-bit.self.used.items = grind (arith, nat_tests) in
     omega (
       arith,
       c.loop-bit.invariant.cells e x count lx,

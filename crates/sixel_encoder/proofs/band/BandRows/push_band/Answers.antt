@@ -1,8 +1,6 @@
-use Rattle.std.proofs.Common.{◌≡◌, ℕ, [], ◌∷◌, ◌+◌, ◌*◌, ◌<◌, ◌≤◌, ◌++◌, length, string_bytes}
-use Rattle.std.proofs.Common.{append_assoc, ap, sym, ◌∙◌, arith}
-use Rattle.std.specs.Prelude.{encode_utf8}
-use Rattle.sixel_base.specs.Picture.{joined}
-use Rattle.sixel_encoder.specs.Text.{entry_text, band_text, sixel_of}
+use Rattle.std.proofs.Common.{◌≡◌, ℕ, ◌+◌, ◌*◌, ◌<◌, ◌++◌, length, string_bytes}
+use Rattle.std.proofs.Common.{append_assoc, ap, ◌∙◌, arith}
+use Rattle.sixel_encoder.specs.Text.{entry_text, sixel_of}
 use Rattle.sixel_encoder.specs.inside.Indexed.{drawing_of}
 use Rattle.sixel_encoder.specs.inside.Grid.{cell}
 use Rattle.sixel_encoder.proofs.Dots.{appended-start, joined-part}
@@ -34,16 +32,14 @@ loop-part-preserved c =
     let told = c.in_ok-push_rows.ensures in
     let shape = c.push_rows.ensures.shape in
     let from_old = c.fill.ensures.shape in
-    let size : c.len-in-loop-part.result ≡ count =
-    omega (arith, c.len-in-loop-part.ensures, old.used.ok.0) in
+    let size : c.len-in-loop-part.result ≡ count = grind (arith, nat_tests) in
     let from : filled.first ≡ part * count = from_old.from ∙ ap (λ n. part * n) size in
     let wide : filled.width ≡ image.width = from_old.wide ∙ is.empty.wide in
     let marks : length new.used.items ≡ count = shape.marks ∙ from_old.marks in
     let sixels : length new.rows.items ≡ length old.rows.items = shape.sixels ∙ from_old.sixels in
     let cells : (e x : ℕ) → e < count → x < image.width
     → cell filled.rows.items image.width e x ≡ sixel_of drawing band (part * count + e) x =
-    λ e x le lx.
-    c.fill.ensures.cells e x le lx ∙ ap (λ n. sixel_of drawing band (part * n + e) x) size in
+    λ e x le lx. grind (arith, nat_tests) in
     let text = rw (wide, from, from_old.marks) at told.text in
     record {
       text = rw marks (appended-part (entry_text drawing band) part count
@@ -52,30 +48,19 @@ loop-part-preserved c =
           (text ∙ ap (λ rows. string_bytes c.loop-part.text ++ rows)
           (joined-part drawing band (part * count) count filled.rows.items cells)));
       count = marks ∙ is.count;
-      empty = record {
-        wide = shape.wide ∙ wide;
-        some = omega (arith, is.empty.some, marks);
-        few = λ some. omega (arith, is.empty.few some, marks);
-        size = omega (arith, is.empty.size, marks, sixels);
-        places = sixels ∙ is.empty.places ∙ sym (ap (λ n. n * image.width) marks);
-        clear = rw (wide, from_old.marks, ← marks) at told.clear;
-      };
+      empty = grind (arith, nat_tests);
     }
 
 pub returns-clause-text : goal.returns-clause-text
 returns-clause-text c =
-    let image = c.args.image.now in
-    let start = string_bytes c.args.text.now in
-    let before = string_bytes c.loop-part.text in
-    let f = entry_text (drawing_of image) c.args.band in
-    let part = c.loop-part.part in
-    let count = part * length c.loop-part.self.used.items in
-    let all : length image.colors.now ≤ count =
-    grind (arith, nat_tests, c.parts-part-end.ensures.all) in
-    let rows : before ≡ start ++ joined f (length image.colors.now) = c.loop-part.invariant.text
-    ∙ ap (λ s. start ++ s) (joined-all image c.args.band count c.requires.image all) in
-    let dash : encode_utf8 45 ≡ 45 ∷ [] = c.push.ensures.ascii (omega arith) in
-    let whole : before ++ encode_utf8 45 ≡ start ++ band_text (drawing_of image) c.args.band =
-    ap (λ d. before ++ d) dash ∙ (ap (λ b. b ++ 45 ∷ []) rows
-    ∙ append_assoc start (joined f (length image.colors.now)) (45 ∷ [])) in
-    grind (arith, nat_tests, string_bytes, c.push.ensures.bytes)
+    grind (
+      arith,
+      string_bytes,
+      c.parts-part-end.ensures.all,
+      c.loop-part.invariant.text,
+      joined-all,
+      c.requires.image,
+      c.push.ensures.ascii,
+      append_assoc,
+      c.push.ensures.bytes,
+    )

@@ -1,5 +1,4 @@
 use Rattle.std.proofs.Common.{◌≡◌, ◌<◌, ◌+◌, ◌-◌, ◌*◌, take, drop, arith}
-use borrow.Rule.Slice.PartMut.{put_mid}
 use Rattle.std.proofs.lemmas.List.{with_items_is}
 use Rattle.sixel_encoder.specs.inside.Grid.{grid_row}
 use Rattle.sixel_encoder.proofs.RowParts.{part-row, All-grid_row, cell-put_own, cell-put_other}
@@ -19,18 +18,10 @@ push_sixels-requires-clause-below c =
 
 pub returns-clause-text : goal.returns-clause-text
 returns-clause-text c =
-    let rows = c.args.self.now in
-    let start = c.args.row * rows.width in
-    let size = start + rows.width - start in
-    let row : take size (drop start c.deref.result.now)
-    ≡ grid_row rows.rows.items rows.width c.args.row =
-    grind (arith, nat_tests, part-row, c.deref.ensures.value, c.requires.within) in
-    rw (← row) c.in_ok-push_sixels.ensures
+    grind (arith, part-row, c.deref.ensures.value, c.requires.within, c.in_ok-push_sixels.ensures)
 
 pub returns-clause-blank : goal.returns-clause-blank
-returns-clause-blank c = λ x lx.
-    grind (arith, nat_tests, with_items_is, put_mid, cell-put_own, c.fill.ensures.clones)
+returns-clause-blank c = grind (arith, with_items_is, cell-put_own, c.fill.ensures.clones)
 
 pub returns-clause-others : goal.returns-clause-others
-returns-clause-others c = λ e x apart lx.
-    grind (arith, nat_tests, with_items_is, put_mid, cell-put_other, c.deref_mut.ensures.value)
+returns-clause-others c = grind (arith, with_items_is, cell-put_other, c.deref_mut.ensures.value)

@@ -21,8 +21,7 @@ loop-row-preserved c =
     let is = c.loop-row.invariant in
     let start = string_bytes c.args.text.now in
     let now = string_bytes c.loop-row.text in
-    let inside : row < length old.used.items =
-    omega (arith, c.loop-row-test.true, c.len-row-end.ensures, first.used.ok.0, is.shape.marks) in
+    let inside : row < length old.used.items = grind (arith, nat_tests) in
     let mark : get_or old.used.items row false ≡ c.index.result.now =
     get_or_default old.used.items row false c.index.result.now inside ∙ sym c.index.ensures in
     elim c.if-index.branch [

@@ -1,4 +1,4 @@
-use Rattle.std.proofs.Common.{◌-◌, arith}
+use Rattle.std.proofs.Common.{arith}
 use Rattle.sixel_encoder.proofs.band_entries.BandEntries.end_of_repeats.Goals as goal
 use Rattle.std.proofs.lemmas.Bool.Decides.{nat_tests}
 

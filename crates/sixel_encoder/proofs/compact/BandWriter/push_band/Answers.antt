@@ -7,6 +7,7 @@ use Rattle.sixel_encoder.specs.inside.Indexed.{drawing_of}
 use Rattle.sixel_encoder.proofs.CompactSteps.{IsWithin-drawn, band-selected, band-text, drawn-end}
 use Rattle.sixel_encoder.proofs.CompactSteps.{drawn-made, drawn-more, text-end, text-more}
 use Rattle.sixel_encoder.proofs.compact.BandWriter.push_band.Goals as goal
+use Rattle.std.proofs.lemmas.Bool.Decides.{nat_tests}
 
 pub loop-segment-init : goal.loop-segment-init
 loop-segment-init c = grind (arith, length-map-range_with_len)
@@ -48,8 +49,7 @@ returns-clause-register c =
     let band = c.args.band in
     let items = c.deref-segment-items.result.now in
     let drawn = rw (c.read.ensures.image, c.read.ensures.band) at c.in_ok-segments.ensures in
-    let all : length items ≤ c.loop-segment.segment-index =
-    omega (arith, c.loop-segment-test.false) in
+    let all : length items ≤ c.loop-segment.segment-index = grind (arith, nat_tests) in
     band-selected drawing band c.args.self.now.pen.register _
     (drawn_so_far c.loop-segment.self) items
     (drawn-made _ (nothing_of drawing band c.args.self.now.pen.register)
@@ -65,8 +65,7 @@ returns-clause-text c =
     let band = c.args.band in
     let items = c.deref-segment-items.result.now in
     let drawn = rw (c.read.ensures.image, c.read.ensures.band) at c.in_ok-segments.ensures in
-    let all : length items ≤ c.loop-segment.segment-index =
-    omega (arith, c.loop-segment-test.false) in
+    let all : length items ≤ c.loop-segment.segment-index = grind (arith, nat_tests) in
     band-text drawing band c.args.self.now.pen.register _ items
     (string_bytes c.args.text.now) (string_bytes c.begin_band.new.text)
     (string_bytes c.loop-segment.text)

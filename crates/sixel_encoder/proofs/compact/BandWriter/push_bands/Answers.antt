@@ -1,7 +1,5 @@
-use Rattle.std.proofs.Common.{refl, ap, sym, ◌∙◌, arith}
-use Rattle.std.specs.Prelude.{string_bytes}
-use Rattle.sixel_encoder.specs.Compact.{band_register, compact_band}
-use Rattle.sixel_encoder.specs.Marks.{mark_text}
+use Rattle.std.proofs.Common.{ap, sym, ◌∙◌, arith}
+use Rattle.sixel_encoder.specs.Compact.{band_register}
 use Rattle.sixel_encoder.specs.Text.{bands}
 use Rattle.sixel_encoder.specs.Trip.{is_used}
 use Rattle.sixel_encoder.specs.inside.Indexed.{drawing_of}
@@ -14,14 +12,7 @@ use Rattle.std.proofs.lemmas.Bool.Decides.{nat_tests}
 
 pub loop-band-init : goal.loop-band-init
 loop-band-init c =
-    let drawing = drawing_of c.args.self.now.entries.image.now in
-    record {
-      writer = c.requires.writer;
-      image = refl;
-      text = flat_map-start mark_text (compact_band drawing) (string_bytes c.args.text.now);
-      plain = omega arith;
-      register = c.requires.register ∙ sym (register_after-none drawing);
-    }
+    grind (arith, c.requires.writer, flat_map-start, c.requires.register, register_after-none)
 
 pub push_band-requires-clause-band : goal.push_band-requires-clause-band
 push_band-requires-clause-band c =
@@ -52,5 +43,4 @@ pub returns-clause-plain : goal.returns-clause-plain
 returns-clause-plain c = grind (arith, bands_up_to-le, length-bands)
 
 pub returns-clause-text : goal.returns-clause-text
-returns-clause-text c =
-    grind (arith, nat_tests, c.in_ok-push_str.ensures.bytes, c.loop-band.invariant.text)
+returns-clause-text c = grind (arith, nat_tests)

@@ -1,10 +1,11 @@
-use Rattle.std.proofs.Common.{◌≡◌, ◌+◌, ◌*◌, ◌++◌, ℕ, List, length, take, drop, ap, arith}
+use Rattle.std.proofs.Common.{◌≡◌, ◌+◌, ◌*◌, ◌++◌, ℕ, List, length, take, drop, arith}
 use Rattle.std.specs.Prelude.{◌/◌}
 use Rattle.std.proofs.lemmas.List.{take_at}
 use Rattle.sixel_encoder.specs.inside.Mapped.{mapped_value}
 use Rattle.sixel_encoder.proofs.DiffusionErrors.{IsLine-none}
 use Rattle.sixel_encoder.proofs.DitheredIndices.{AreEntries-zeros}
 use Rattle.sixel_encoder.proofs.indices.diffusion.diffused_indices.Goals as goal
+use Rattle.std.proofs.lemmas.Bool.Decides.{nat_tests}
 
 -- a list of the same length replaces an old one
 replaced : {X : Type 0} (new old : List X) (len : ℕ) → length new ≡ len
@@ -32,8 +33,7 @@ loop-row-init c =
     }
 
 pub diffuse_row-requires-clause-visited : goal.diffuse_row-requires-clause-visited
-diffuse_row-requires-clause-visited c =
-    rw c.deref_mut.ensures.value c.loop-row.invariant.visited
+diffuse_row-requires-clause-visited c = grind (arith, nat_tests)
 
 pub loop-row-preserved : goal.loop-row-preserved
 loop-row-preserved c =
@@ -56,13 +56,11 @@ loop-row-preserved c =
 
 pub returns : goal.returns
 returns c =
-    let m = mapped_value c.args.image.now in
-    let rows = c.requires.whole.rows in
-    let last : c.loop-row.row ≡ length m.pixels / 4 / m.width =
-    omega (arith, c.loop-row.auto.row-end, c.loop-row-test.false) in
-    record {
-      one_each = c.loop-row.invariant.size;
-      each = λ n l.
-          c.loop-row.invariant.visited n
-          (omega (arith, rows, ap (λ row. row * m.width) last, l));
-    }
+    grind (
+      arith,
+      c.requires.whole.rows,
+      c.loop-row.auto.row-end,
+      c.loop-row-test.false,
+      c.loop-row.invariant.size,
+      c.loop-row.invariant.visited,
+    )

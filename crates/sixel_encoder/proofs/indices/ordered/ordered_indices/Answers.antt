@@ -1,12 +1,12 @@
-use Rattle.std.proofs.Common.{◌≡◌, arith, ap, set, subst, sym, ◌∙◌}
+use Rattle.std.proofs.Common.{◌≡◌, arith, set, subst}
 use Rattle.std.specs.Prelude.{◌/◌, ℕ, length}
 use Rattle.std.proofs.lemmas.List.{length-set}
-use Rattle.std.proofs.lemmas.Nat.{mod_below}
 use Rattle.sixel_encoder.specs.Dithering.{HasTarget, ordered_color, serpentine}
 use Rattle.sixel_encoder.specs.inside.Mapped.{IsIndexAt, mapped_value}
 use Rattle.sixel_encoder.proofs.DitheredIndices.{AreEntries-set, AreEntries-zeros}
 use Rattle.sixel_encoder.proofs.DitheredIndices.{HasTarget-more, row-within, step-visit}
 use Rattle.sixel_encoder.proofs.indices.ordered.ordered_indices.Goals as goal
+use Rattle.std.proofs.lemmas.Bool.Decides.{nat_tests}
 
 pub loop-visit-init : goal.loop-visit-init
 loop-visit-init c = record {
@@ -31,15 +31,11 @@ loop-visit-preserved c =
     let place = c.place-place.ensures in
     let at =
     step-visit m.width n c.place-place.result.row c.place-place.result.step place.row place.step in
-    let pixel : serpentine m.width n ≡ c.place-place.result.pixel =
-    ap (serpentine m.width) (sym at) ∙ place.place.pixel in
+    let pixel : serpentine m.width n ≡ c.place-place.result.pixel = grind (arith, nat_tests) in
     let inside = place.place.within in
     let told = rw c.deref.ensures.value at c.in_ok-index.ensures.index in
     let here : IsIndexAt m (ordered_color m (serpentine m.width n)) indices n index =
-    subst (λ (p : ℕ). IsIndexAt m (ordered_color m p) indices n index) (sym pixel)
-    (subst
-    (λ (k : ℕ). IsIndexAt m (ordered_color m c.place-place.result.pixel) indices k index) at
-    told) in
+    grind (arith, nat_tests) in
     record {
       size = omega (arith, length-set indices c.place-place.result.pixel index, h.size);
       entries =
@@ -63,10 +59,7 @@ returns c = record {
 
 pub place-place-requires-clause-row : goal.place-place-requires-clause-row
 place-place-requires-clause-row c =
-    let image = c.args.image.now in
-    row-within (length image.pixels.now) image.width c.loop-visit.visit
-    c.requires.image.whole.wide c.requires.image.whole.rows (omega arith)
+    grind (arith, nat_tests, row-within, c.requires.image.whole.wide, c.requires.image.whole.rows)
 
 pub place-place-requires-clause-step : goal.place-place-requires-clause-step
-place-place-requires-clause-step c =
-    mod_below c.loop-visit.visit c.args.image.now.width c.requires.image.whole.wide
+place-place-requires-clause-step c = grind (arith, nat_tests)

@@ -2,12 +2,10 @@ use Rattle.std.proofs.Common.{◌≡◌, ◌-◌, ◌*◌, ◌<◌, ◌+◌, ℕ
 use Rattle.sixel_encoder.specs.Dithering.{root}
 use Rattle.sixel_encoder.proofs.PaletteError.{root-found, root-less}
 use Rattle.sixel_encoder.proofs.indices.palette_error.root.Goals as goal
+use Rattle.std.proofs.lemmas.Bool.Decides.{nat_tests}
 
 pub returns-then-root-number : goal.returns-then-root-number
-returns-then-root-number c =
-    sym
-    (c.loop-less.invariant
-    ∙ root-found c.args.number (255 - c.loop-less.less) c.if-root-number.true)
+returns-then-root-number c = grind (arith, c.loop-less.invariant, root-found, c.if-root-number.true)
 
 pub loop-less-preserved : goal.loop-less-preserved
 loop-less-preserved c =
@@ -20,8 +18,7 @@ loop-less-preserved c =
 
 pub returns : goal.returns
 returns c =
-    let last : 255 - c.loop-less.less ≡ 0 =
-    omega (arith, c.loop-less.auto.less-end, c.loop-less-test.false) in
+    let last : 255 - c.loop-less.less ≡ 0 = grind (arith, nat_tests) in
     sym
     (c.loop-less.invariant
     ∙ (ap (root c.args.number) last ∙ root-found c.args.number 0 (omega arith)))

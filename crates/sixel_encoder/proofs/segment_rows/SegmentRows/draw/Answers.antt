@@ -25,14 +25,12 @@ loop-column-preserved c =
     let row = c.loop-column.self.row in
     let was : List ℕ = c.loop-column.self.blocked.items in
     let high : column < segment.end = c.loop-column-test.true in
-    let inside : column < length was =
-    omega (arith, high, c.requires.wide, c.requires.within.wide, is.blocked.wide) in
+    let inside : column < length was = grind (arith, nat_tests) in
     let sixel : c.sixel-own.result ≡ own column = c.sixel-own.ensures in
     let ban : c.index-blocked.result.now ≡ slice_index old column =
     grind (arith, nat_tests, get_or_default, c.index-blocked.ensures, is.blocked.past) in
     let value : bit_or c.index-blocked.result.now c.sixel-own.result
-    ≡ bit_or (slice_index old column) (own column) =
-    ap (λ b. bit_or b c.sixel-own.result) ban ∙ ap (bit_or (slice_index old column)) sixel in
+    ≡ bit_or (slice_index old column) (own column) = grind (arith, nat_tests) in
     let blocking : IsBlocking old own segment.first (column + 1)
     (set was column (bit_or c.index-blocked.result.now c.sixel-own.result)) =
     blocked-more old was own segment.first column _ inside c.loop-column.auto.column value
@@ -62,13 +60,7 @@ returns-clause-row c =
     let segment = c.args.segment.now in
     let entries = c.args.entries.now in
     let row = c.loop-column.self.row in
-    let all : c.loop-column.column ≡ segment.end =
-    omega (
-      arith,
-      c.loop-column-test.false,
-      c.loop-column.auto.column-end,
-      c.requires.within.some,
-    ) in
+    let all : c.loop-column.column ≡ segment.end = grind (arith, nat_tests) in
     fill-end (sixel_of (drawing_of entries.image.now) entries.band segment.entry)
     (slice_index c.args.self.now.blocked.items) row.items c.resize-2.new.self.items _
     c.loop-column.bits c.loop-column.ban c.args.from segment.end (segment.end - c.args.from)

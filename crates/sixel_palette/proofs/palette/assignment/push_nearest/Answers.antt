@@ -15,8 +15,7 @@ loop-code-preserved c =
       squares = omega (arith, length_push squares near.squared, h.squares);
       indices = omega (arith, length_push indices near.index, h.indices);
       near = λ colors numbered.
-          near_pushed colors c.args.codes.now squares indices c.loop-code.code-index near h.squares
-          h.indices (h.near colors numbered)
+          near_pushed _ _ _ _ _ _ h.squares h.indices (h.near colors numbered)
           (c.in_ok-near.ensures.nearest colors (rw h.entries numbered));
     })
 

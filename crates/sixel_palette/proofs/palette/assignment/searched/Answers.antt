@@ -1,8 +1,5 @@
 use Rattle.sixel_palette.proofs.palette.assignment.searched.Goals as goal
 
-pub push_nearest-requires-clause-search : goal.push_nearest-requires-clause-search
-push_nearest-requires-clause-search c = c.in_ok-search.ensures.lists
-
 pub returns-clause-relaxed : goal.returns-clause-relaxed
 returns-clause-relaxed c =
     rw (c.in_ok-traversal.ensures.squares, c.in_ok-traversal.ensures.indices)

@@ -1,5 +1,4 @@
 use Rattle.std.proofs.Common.{◌+◌, arith}
-use Rattle.std.proofs.lemmas.List.{take_all}
 use Rattle.sixel_palette.proofs.PaletteCounts.{dot-nil, dot-more, dot-take-le}
 use Rattle.sixel_palette.proofs.palette.assignment.summed.Goals as goal
 
@@ -13,22 +12,14 @@ overflow_add-sum c =
     let position = c.loop-position.position in
     rw (c.from.ensures, c.from-in-loop-position.ensures) (omega (
       arith,
-      c.loop-position.invariant,
       dot-more counts squares position (omega arith) (omega arith),
       dot-take-le counts squares (position + 1),
-      c.requires.small,
     ))
 
 pub loop-position-preserved : goal.loop-position-preserved
 loop-position-preserved c =
     rw (c.from.ensures, c.from-in-loop-position.ensures) (omega (
       arith,
-      c.loop-position.invariant,
       dot-more c.args.counts.now c.args.squares.now c.loop-position.position (omega arith)
           (omega arith),
     ))
-
-pub returns : goal.returns
-returns c =
-    rw (take_all c.loop-position.position c.args.counts.now (omega arith)) at
-    c.loop-position.invariant

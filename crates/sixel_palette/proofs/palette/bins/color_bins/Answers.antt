@@ -1,4 +1,4 @@
-use Rattle.std.proofs.Common.{◌≡◌, refl, get_or, length, sym, ◌∙◌, arith, cond}
+use Rattle.std.proofs.Common.{refl, get_or, length, sym, ◌∙◌, arith, cond}
 use Rattle.std.proofs.lemmas.List.{map_more, map_push, take_all}
 use Rattle.std.proofs.lemmas.List.Sums.{sum_by_more, sum_by_push, sum_by-take-le, get_or-le-sum_by}
 use Rattle.sixel_palette.specs.declared.palette.bins.Bin.{Bin}
@@ -8,16 +8,11 @@ use Rattle.sixel_palette.proofs.PaletteBins.{colors_distinct, corner-one, counte
 use Rattle.sixel_palette.proofs.PaletteBins.{counted_none, whole_bins}
 use Rattle.sixel_palette.proofs.PaletteBoxes.{weighed-sum}
 use Rattle.sixel_palette.proofs.palette.bins.color_bins.Goals as goal
+use Rattle.std.proofs.lemmas.Bool.Decides.{nat_tests}
 
 pub of-sums-requires : goal.of-sums-requires
 of-sums-requires c =
-    let counts = c.args.counts.now in
-    omega (
-      arith,
-      get_or-le-sum_by (λ n. n) counts c.loop-index.index 0
-          (omega (arith, c.requires.weighed.same)),
-      weighed-sum c.args.codes.now counts c.requires.weighed,
-    )
+    grind (arith, get_or-le-sum_by, c.requires.weighed.same, weighed-sum, c.requires.weighed)
 
 pub loop-index-init : goal.loop-index-init
 loop-index-init c =
@@ -42,8 +37,6 @@ loop-index-preserved c =
           omega (
             arith,
             sum_by_push (λ (b : Bin). b.sums.count) bins bin,
-            h.pixels,
-            c.of-sums.ensures.count,
             sum_by_more (λ n. n) counts index 0 (omega (arith, c.requires.weighed.same)),
           );
       sums = λ contains k.
@@ -57,23 +50,14 @@ loop-index-preserved c =
 
 pub returns-clause-few : goal.returns-clause-few
 returns-clause-few c =
-    let counts = c.args.counts.now in
-    omega (
-      arith,
-      sum_by-take-le (λ n. n) counts c.loop-index.index,
-      weighed-sum c.args.codes.now counts c.requires.weighed,
-      c.loop-index.invariant.pixels,
-    )
+    grind (arith, sum_by-take-le, weighed-sum, c.requires.weighed, c.loop-index.invariant.pixels)
 
 pub returns-clause-bins : goal.returns-clause-bins
-returns-clause-bins c = λ contains k.
-    let all : c.loop-index.index ≡ length c.args.codes.now = omega arith in
-    rw all at (c.loop-index.invariant.sums contains k)
+returns-clause-bins c = grind (arith, nat_tests)
 
 pub returns-clause-whole : goal.returns-clause-whole
 returns-clause-whole c =
     let codes = c.args.codes.now in
-    whole_bins (first_counted 1 codes c.args.counts.now (length codes)) c.loop-index.bins.items
-    (returns-clause-bins c)
-    (colors_distinct codes _ c.requires.ascending
+    whole_bins (first_counted 1 codes c.args.counts.now (length codes)) _ (returns-clause-bins c)
+    (colors_distinct _ _ c.requires.ascending
     (rw (take_all c.loop-index.index codes (omega arith)) at c.loop-index.invariant.corners))

@@ -13,13 +13,7 @@ use Rattle.sixel_palette.proofs.palette.bins.push_bins.Goals as goal
 
 pub of-sums-requires : goal.of-sums-requires
 of-sums-requires c =
-    let counts = c.args.counts.now in
-    omega (
-      arith,
-      get_or-le-sum_by (λ n. n) counts c.loop-index.index 0
-          (omega (arith, c.requires.weighed.same)),
-      weighed-sum c.args.codes.now counts c.requires.weighed,
-    )
+    grind (arith, get_or-le-sum_by, c.requires.weighed.same, weighed-sum, c.requires.weighed)
 
 pub add_color-requires-clause-few : goal.add_color-requires-clause-few
 add_color-requires-clause-few c =
@@ -28,24 +22,11 @@ add_color-requires-clause-few c =
       arith,
       sum_by_more_le (λ n. n) counts c.loop-index.index 0 (omega (arith, c.requires.weighed.same)),
       weighed-sum c.args.codes.now counts c.requires.weighed,
-      c.loop-index.invariant.pixels,
-      c.of-sums.ensures.count,
     )
 
 pub returns-clause-few : goal.returns-clause-few
 returns-clause-few c =
-    let counts = c.args.counts.now in
-    omega (
-      arith,
-      sum_by-take-le (λ n. n) counts c.loop-index.index,
-      weighed-sum c.args.codes.now counts c.requires.weighed,
-      c.loop-index.invariant.pixels,
-    )
-
-pub add_color-requires-clause-table : goal.add_color-requires-clause-table
-add_color-requires-clause-table c =
-    rw c.color_of-color.ensures
-    (c.loop-index.invariant.table c.loop-index.index (omega arith) (omega arith))
+    grind (arith, sum_by-take-le, weighed-sum, c.requires.weighed, c.loop-index.invariant.pixels)
 
 pub loop-index-init : goal.loop-index-init
 loop-index-init c =
@@ -71,20 +52,16 @@ loop-index-preserved c =
       pixels =
           omega (
             arith,
-            added.pixels,
-            h.pixels,
-            c.of-sums.ensures.count,
             sum_by_more (λ n. n) counts index 0 (omega (arith, c.requires.weighed.same)),
           );
       sums = λ contains k.
           added.sums contains k
           ∙ rw (h.sums contains k, c.of-sums.ensures.sums k, c.color_of-color.ensures)
-          (sym (counted_more 4 codes counts index contains k));
+          (sym (counted_more 4 codes _ index contains k));
       table = λ k l m.
           added.table (get_or (corner 4 (color_of (get_or codes k 0))) 0 0)
           (rw c.color_of-color.ensures
-          (red-le (get_or codes index 0) (get_or codes k 0)
-          (increasing-le codes c.requires.ascending index k (omega arith) m)))
+          (red-le _ _ (increasing-le _ c.requires.ascending _ _ (omega arith) m)))
           (h.table k (omega arith) m);
       distinct =
           (added.table (get_or (corner 4 color) 0 0) (rw c.color_of-color.ensures (omega arith))
@@ -98,7 +75,5 @@ returns-clause-bins c = λ contains k.
 
 pub returns-clause-whole : goal.returns-clause-whole
 returns-clause-whole c =
-    whole_bins
-    (first_counted 4 c.args.codes.now c.args.counts.now (length c.args.codes.now))
-    c.loop-index.bins.items
+    whole_bins (first_counted 4 c.args.codes.now c.args.counts.now (length c.args.codes.now)) _
     (returns-clause-bins c) c.loop-index.invariant.distinct

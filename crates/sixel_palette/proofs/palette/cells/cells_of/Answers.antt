@@ -9,8 +9,7 @@ loop-cell-preserved c =
     rw c.in_ok-push.ensures.items (record {
       size = omega (arith, length_push cells c.cell_of.result, c.loop-cell.invariant.size);
       each = λ squares far.
-          cells_more c.args.codes.now squares cells c.loop-cell.cell c.cell_of.result
-          c.loop-cell.invariant.size (c.loop-cell.invariant.each squares far)
+          cells_more _ _ _ _ _ c.loop-cell.invariant.size (c.loop-cell.invariant.each squares far)
           (c.cell_of.ensures squares far);
     })
 

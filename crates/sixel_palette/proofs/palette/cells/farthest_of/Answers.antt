@@ -1,4 +1,4 @@
-use Rattle.std.proofs.Common.{ℕ, ◌<◌, ◌≤◌, length, get_or, arith, ⊎_elim}
+use Rattle.std.proofs.Common.{ℕ, ◌≤◌, get_or, arith}
 use Rattle.sixel_palette.specs.inside.PaletteCells.{IsInCell}
 use Rattle.sixel_palette.proofs.PaletteCells.{greatest_cell, first_greatest, none}
 use Rattle.sixel_palette.proofs.palette.cells.farthest_of.Goals as goal
@@ -10,26 +10,14 @@ loop-cell-preserved c =
     c.loop-cell-test.true c.loop-cell.invariant.upper c.loop-cell.invariant.reached in
     rw c.max-greatest.ensures (record { upper = more.0; reached = more.1 })
 
-pub cells-init : goal.cells-init
-cells-init c =
-    let some : 0 < length c.args.cells.now =
-    omega (arith, c.requires.cells.all, c.requires.some) in
-    record {
-      some =
-          ⊎_elim (λ z. (0, some, omega arith, omega arith))
-          (λ r. (r.0, r.1, omega arith, omega (arith, r.2)))
-          c.loop-cell.invariant.reached;
-      first = λ j l. absurd (omega arith);
-    }
-
+-- the cell has a position with the greatest number
 -- the cell has a position with the greatest number
 held : (c : goal.After-cells)
     → (k : ℕ) × IsInCell c.args.codes.now c.cells.best k
     × (c.loop-cell.greatest ≤ get_or c.args.squares.now k 0)
 held c =
     let some = c.cells.invariant.some in
-    let within : c.cells.best < length c.args.cells.now = omega (arith, some.1, some.2) in
-    let reached = (c.requires.cells.each c.cells.best none within).greatest.reached in
+    let reached = (c.requires.cells.each _ none (omega (arith, some.1, some.2))).greatest.reached in
     (reached.0, reached.1, omega (arith, reached.2, c.cells-test.false))
 
 pub positions-init : goal.positions-init
@@ -46,13 +34,8 @@ pub returns : goal.returns
 returns c =
     let at = c.positions.invariant.some in
     let inside = at.1 in
-    first_greatest c.args.codes.now c.args.squares.now c.args.cells.now c.loop-cell.greatest
-    c.cells.best c.positions.farthest c.requires.squares c.requires.cells
-    (record {
+    first_greatest _ _ _ _ _ _ c.requires.squares c.requires.cells (record {
       upper = λ j l. c.loop-cell.invariant.upper j (omega arith);
       first = c.cells.invariant.first;
     }) (omega (arith, inside.within, at.2)) c.positions.invariant.first
     (omega (arith, c.positions-test.false))
-
-pub cells-preserved : goal.cells-preserved
-cells-preserved c = grind arith

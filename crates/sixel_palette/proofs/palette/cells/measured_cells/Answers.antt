@@ -10,36 +10,21 @@ use Rattle.sixel_palette.proofs.palette.cells.measured_cells.Goals as goal
 pub loop-position-preserved : goal.loop-position-preserved
 loop-position-preserved c =
     let codes = c.args.codes.now in
-    let squares = c.args.squares.now in
-    let position = c.loop-position.position in
-    let cells = c.loop-position.cells.items in
     let cell = c.cell_of-cell.result in
-    let n = length codes in
+    let h = c.loop-position.invariant in
     let bare =
-    c.cell_of-cell.ensures (replicate n no_entry)
-    (all_replicated (replicate n no_entry) n no_entry refl) in
+    c.cell_of-cell.ensures (replicate (length codes) no_entry) (all_replicated _ _ _ refl) in
     let new : Cell = record {
       red = cell.red;
       green = cell.green;
       blue = cell.blue;
       greatest = c.greatest_in-greatest.result;
     } in
-    let here : IsCell codes squares position new = record {
-      box = λ k i.
-          let box = bare.box k i in
-          record { red = box.red; green = box.green; blue = box.blue };
+    let here : IsCell codes c.args.squares.now c.loop-position.position new = record {
+      box = grind (arith, bare.box);
       greatest = c.greatest_in-greatest.ensures;
     } in
     rw c.in_ok-push.ensures.items (record {
-      size = omega (arith, length_push cells new, c.loop-position.invariant.size);
-      each =
-          cells_more codes squares cells position new c.loop-position.invariant.size
-          c.loop-position.invariant.each here;
+      size = omega (arith, length_push c.loop-position.cells.items new, h.size);
+      each = cells_more _ _ _ _ _ h.size h.each here;
     })
-
-pub returns : goal.returns
-returns c = record {
-  all = omega (arith, c.div_ceil-count.ensures, c.loop-position.invariant.size);
-  each = λ j d l.
-      c.loop-position.invariant.each j d (omega (arith, c.loop-position.invariant.size));
-}

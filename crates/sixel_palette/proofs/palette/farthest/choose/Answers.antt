@@ -1,6 +1,6 @@
 use Rattle.std.proofs.Common.{◌≡◌, ◌<◌, [], ◌∷◌, ◌++◌, length, get_or, refl, arith}
 use Rattle.std.proofs.lemmas.List.{length_push}
-use Rattle.sixel_palette.specs.inside.PaletteCodes.{color_of, IsListed}
+use Rattle.sixel_palette.specs.inside.PaletteCodes.{color_of}
 use Rattle.sixel_palette.proofs.PaletteOrder.{order_more}
 use Rattle.sixel_palette.proofs.PaletteFarthest.{farthest_of_none, farthest_from_position}
 use Rattle.sixel_palette.proofs.palette.farthest.choose.Goals as goal
@@ -21,7 +21,6 @@ loop-index-preserved c =
     let codes = c.args.codes.now in
     let color = color_of (get_or codes c.loop-index.farthest 0) in
     let h = c.loop-index.invariant in
-    let new = c.relax-farthest.new.self in
     let some : 0 < length codes = omega arith in
     let pushed : c.push.new.self.items ≡ c.loop-index.colors.items ++ color ∷ [] =
     rw (← c.color_of-color.ensures) c.in_ok-push.ensures.items in
@@ -31,39 +30,11 @@ loop-index-preserved c =
     let whole = c.relax-farthest.ensures.whole in
     let first = c.relax-farthest.ensures.farthest in
     rw pushed (record {
-      order = order_more (IsListed codes) c.loop-index.colors.items color h.order (h.farthest some);
+      order = order_more _ _ _ h.order (h.farthest some);
       size = omega (arith, length_push c.loop-index.colors.items color);
       whole = whole;
       relaxed = relaxed;
       within = λ _. omega (arith, whole.squares, first.within);
       farthest = λ _.
-          farthest_from_position (c.loop-index.colors.items ++ color ∷ []) codes new.squares.items
-          new.indices.items c.relax-farthest.result c.requires.ascending whole.squares relaxed
-          first;
+          farthest_from_position _ _ _ _ _ c.requires.ascending whole.squares relaxed first;
     })
-
-pub returns-clause-nearest : goal.returns-clause-nearest
-returns-clause-nearest c =
-    (c.loop-index.traversal.squares.items, c.loop-index.invariant.relaxed)
-
-pub returns-clause-indices_len : goal.returns-clause-indices_len
-returns-clause-indices_len c = c.loop-index.invariant.whole.indices
-
-pub color_of-color-requires : goal.color_of-color-requires
-color_of-color-requires c =
-    c.requires.small c.loop-index.farthest 0 (c.loop-index.invariant.within (omega arith))
-
-pub relax-farthest-requires-clause-small : goal.relax-farthest-requires-clause-small
-relax-farthest-requires-clause-small c = c.requires.small
-
-pub relax-farthest-requires-clause-whole : goal.relax-farthest-requires-clause-whole
-relax-farthest-requires-clause-whole c = c.loop-index.invariant.whole
-
-pub returns-clause-order : goal.returns-clause-order
-returns-clause-order c = c.loop-index.invariant.order
-
-pub returns-clause-farthest : goal.returns-clause-farthest
-returns-clause-farthest c = c.loop-index.invariant.farthest
-
-pub returns-clause-within : goal.returns-clause-within
-returns-clause-within c = c.loop-index.invariant.within

@@ -1,4 +1,4 @@
-use Rattle.std.proofs.Common.{◌<◌, [], ◌∷◌, ◌++◌, length, get_or, map, ap, sym, ◌∙◌}
+use Rattle.std.proofs.Common.{◌<◌, ◌++◌, length, get_or, map, sym}
 use Rattle.std.proofs.Common.{append_assoc, append-nil, inl, inr, arith}
 use Rattle.std.proofs.lemmas.List.{get_or_read, length_push, map_push}
 use Rattle.std.proofs.lemmas.List.Elements.{All-push}
@@ -8,57 +8,47 @@ use Rattle.sixel_palette.proofs.PaletteFarthest.{farthest_from_position}
 use Rattle.sixel_palette.proofs.PaletteRefined.{register_color-shown}
 use Rattle.sixel_palette.proofs.PaletteTops.{far_off_more}
 use Rattle.sixel_palette.proofs.palette.farthest_on_top.push_farthest.Goals as goal
-use Rattle.sixel_palette.proofs.palette.farthest_on_top.push_farthest.Goals.{else-loop-index-test}
-use Rattle.sixel_palette.proofs.palette.farthest_on_top.push_farthest.Goals.{then-loop-index-test+then-index-le-NEAR_ENOUGH}
 
 pub loop-index-init : goal.loop-index-init
 loop-index-init c =
-    let codes = c.args.codes.now in
-    let colors = c.args.colors.now.items in
-    let old = c.args.traversal.now in
     let whole = c.requires.whole in
     let first = c.farthest-farthest.ensures in
-    let within : c.farthest-farthest.result < length codes =
+    let within : c.farthest-farthest.result < length c.args.codes.now =
     omega (arith, first.within, whole.squares) in
     rw c.new-witnesses.ensures.items (record {
       whole = whole;
       relaxed = c.requires.relaxed;
       size = omega (arith, c.len-index.ensures, c.args.colors.now.ok.0);
       shown = c.requires.shown;
-      tops = sym (append-nil colors);
+      tops = sym (append-nil c.args.colors.now.items);
       order = λ i d l. absurd (omega arith);
       within = within;
       farthest =
-          farthest_from_position colors codes old.squares.items old.indices.items
-          c.farthest-farthest.result c.requires.ascending whole.squares c.requires.relaxed first;
+          farthest_from_position c.args.colors.now.items _ _ _ _ c.requires.ascending whole.squares
+          c.requires.relaxed first;
       square = (c.requires.relaxed c.farthest-farthest.result within).gap;
     })
 
 pub loop-index-preserved : goal.loop-index-preserved
 loop-index-preserved c =
-    let codes = c.args.codes.now in
     let base = c.args.colors.now.items in
     let colors = c.loop-index.colors.items in
     let witnesses = c.loop-index.witnesses.items in
     let color = c.color_of-color.result in
     let entry = c.register_color.result in
     let h = c.loop-index.invariant in
-    let new = c.relax-farthest.new.self in
     let whole = c.relax-farthest.ensures.whole in
     let relaxed = c.relax-farthest.ensures.relaxed colors h.size h.relaxed in
     let first = c.relax-farthest.ensures.farthest in
-    let squares = c.loop-index.traversal.squares.items in
     let read =
-    get_or_read squares c.loop-index.farthest _ (omega (arith, h.within, h.whole.squares))
-    c.index.ensures 0 in
-    let within : c.relax-farthest.result
-    < length codes = omega (arith, first.within, whole.squares) in
-    let far : IsFarOff (IsListed codes) (base ++ map register_color witnesses) color =
-    rw (← h.tops, c.color_of-color.ensures)
-    (record {
+    get_or_read c.loop-index.traversal.squares.items c.loop-index.farthest _
+    (omega (arith, h.within, h.whole.squares)) c.index.ensures 0 in
+    let within : c.relax-farthest.result < length c.args.codes.now =
+    omega (arith, first.within, whole.squares) in
+    let far : IsFarOff (IsListed c.args.codes.now) (base ++ map register_color witnesses) color =
+    rw (← h.tops, c.color_of-color.ensures) (record {
       farthest = h.farthest;
-      far =
-          omega (arith, h.square, read, c.if-index-le-NEAR_ENOUGH.false);
+      far = omega (arith, h.square, read, c.if-index-le-NEAR_ENOUGH.false);
     }) in
     rw (c.in_ok-push.ensures.items, c.in_ok-push-2.ensures.items) (record {
       whole = whole;
@@ -68,45 +58,32 @@ loop-index-preserved c =
           All-push IsRegisterColor colors entry h.shown
           (rw c.register_color.ensures (register_color-shown color));
       tops =
-          ap (λ xs. xs ++ entry ∷ []) h.tops
-          ∙ (append_assoc base (map register_color witnesses) (entry ∷ [])
-          ∙ ap (λ ys. base ++ ys)
-          (ap (λ x. map register_color witnesses ++ x ∷ []) c.register_color.ensures
-          ∙ sym (map_push register_color witnesses color)));
-      order = far_off_more (IsListed codes) base witnesses color h.order far;
+          rw (h.tops, c.register_color.ensures, map_push register_color witnesses color)
+          (append_assoc base (map register_color witnesses) _);
+      order = far_off_more _ base witnesses color h.order far;
       within = within;
-      farthest =
-          farthest_from_position (colors ++ entry ∷ []) codes new.squares.items new.indices.items
-          c.relax-farthest.result c.requires.ascending whole.squares relaxed first;
+      farthest = farthest_from_position _ _ _ _ _ c.requires.ascending whole.squares relaxed first;
       square = (relaxed c.relax-farthest.result within).gap;
     })
 
 pub returns-clause-top : goal.returns-clause-top
 returns-clause-top c =
     let codes = c.args.codes.now in
-    let colors = c.loop-index.colors.items in
-    let witnesses = c.loop-index.witnesses.items in
     let h = c.loop-index.invariant in
     record {
-      tops = witnesses;
+      tops = c.loop-index.witnesses.items;
       whole = h.tops;
       order = h.order;
       full =
           elim c.loop-index-test.branch [
-            | else-loop-index-test w ↦ inl
+            | goal.else-loop-index-test w ↦ inl
                 (omega (arith, h.size, w.loop-index-test.false, c.loop-index.auto.index-end))
-            | then-loop-index-test+then-index-le-NEAR_ENOUGH w ↦
+            | goal.then-loop-index-test+then-index-le-NEAR_ENOUGH w ↦
                 let read =
                 get_or_read c.loop-index.traversal.squares.items c.loop-index.farthest _
                 (omega (arith, h.within, h.whole.squares)) w.index.ensures 0 in
-                inr (λ d m.
-                omega (
-                  arith,
-                  h.farthest.farthest d m,
-                  h.square,
-                  read,
-                  w.if-index-le-NEAR_ENOUGH.true,
-                ))
+                let near = w.if-index-le-NEAR_ENOUGH.true in
+                inr (λ d m. omega (arith, h.farthest.farthest d m, h.square, read, near))
           ];
       none = c.in_ok-all.ensures.none;
       some = λ some. (

@@ -4,7 +4,6 @@ use Rattle.sixel_palette.specs.declared.palette.gain_cut.Channel.TheVariants.{Re
 use Rattle.sixel_palette.specs.declared.palette.gain_cut.ColorBox.{ColorBox}
 use Rattle.sixel_palette.proofs.PaletteBestBox.{first_greatest-next}
 use Rattle.sixel_palette.proofs.palette.gain_cut.best_of.Goals as goal
-use Rattle.sixel_palette.proofs.palette.gain_cut.best_of.Goals.{then-boxes-best, else-boxes-best}
 use Rattle.sixel_palette.specs.GainCut.{first_greatest}
 
 pub loop-position-init : goal.loop-position-init
@@ -22,39 +21,27 @@ loop-position-preserved c =
       end = 0;
       cut = record { channel = Red; value = 0; gain = 0 };
     } in
-    let same : (k : ℕ) (d : ColorBox) → k < length boxes
-    → (get_or boxes k d).cut.gain ≡ (get_or boxes k none).cut.gain =
-    λ k d l. ap (λ (b : ColorBox). b.cut.gain) (get_or_default boxes k d none l) in
-    let f : ColorBox → ℕ → ℕ = λ d k. (get_or boxes k d).cut.gain in
+    let same = λ (k : ℕ) (d : ColorBox) (l : k < length boxes).
+    ap (λ (b : ColorBox). b.cut.gain) (get_or_default boxes k d none l) in
     let here : position < length boxes = c.loop-position-test.true in
+    let next = λ (d : ColorBox) (new : ℕ).
+    first_greatest-next (λ k. (get_or boxes k d).cut.gain) _ _ new (omega arith) (h.first d) in
     elim c.if-boxes-best.branch [
-      | then-boxes-best w ↦
+      | goal.then-boxes-best w ↦
           rw w.best-is (record {
             within = here;
             first = λ d.
-                first_greatest-next (f d) position best position (omega arith) (h.first d)
-                (inl (
-                  omega (
-                    arith,
-                    same best d h.within,
-                    same position d here,
-                    w.if-boxes-best.true,
-                  ),
+                next d position (inl (
+                  omega (arith, same best d h.within, same position d here, w.if-boxes-best.true),
                   refl,
                 ));
           })
-      | else-boxes-best w ↦
+      | goal.else-boxes-best w ↦
           rw w.best-is (record {
             within = h.within;
             first = λ d.
-                first_greatest-next (f d) position best best (omega arith) (h.first d)
-                (inr (
-                  omega (
-                    arith,
-                    same best d h.within,
-                    same position d here,
-                    w.if-boxes-best.false,
-                  ),
+                next d best (inr (
+                  omega (arith, same best d h.within, same position d here, w.if-boxes-best.false),
                   refl,
                 ));
           })
@@ -62,6 +49,5 @@ loop-position-preserved c =
 
 pub returns-clause-first : goal.returns-clause-first
 returns-clause-first c = λ d.
-    let all : c.loop-position.position ≡ length c.args.boxes.now =
-    omega (arith, c.requires, c.loop-position-test.false, c.loop-position.auto.position-end) in
+    let all : c.loop-position.position ≡ length c.args.boxes.now = omega arith in
     rw all at (c.loop-position.invariant.first d)

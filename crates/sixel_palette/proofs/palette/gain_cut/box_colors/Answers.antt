@@ -5,8 +5,6 @@ use Rattle.std.proofs.lemmas.List.{get_or-map, get_or_append_left, get_or_at, ge
 use Rattle.std.proofs.lemmas.List.{length-map, length_push, same_lists}
 use Rattle.std.proofs.lemmas.List.Elements.{All-push}
 use Rattle.sixel_base.specs.Color.{rgb}
-use Rattle.sixel_palette.specs.declared.palette.gain_cut.Channel.TheVariants.{Red}
-use Rattle.sixel_palette.specs.declared.palette.gain_cut.ColorBox.{ColorBox}
 use Rattle.sixel_palette.specs.ColorSums.{mean_or}
 use Rattle.sixel_palette.specs.GainCut.{Box, box_at, box_sums}
 use Rattle.sixel_palette.specs.Refined.{IsRegisterColor}
@@ -22,11 +20,6 @@ loop-position-preserved c =
     let position = c.loop-position.position in
     let mean = c.mean_of.result in
     let h = c.loop-position.invariant in
-    let none : ColorBox = record {
-      start = 0;
-      end = 0;
-      cut = record { channel = Red; value = 0; gain = 0 };
-    } in
     rw c.in_ok-push.ensures.items (record {
       shown = All-push IsRegisterColor colors mean h.shown c.mean_of.ensures.shown;
       size = omega (arith, length_push colors mean, h.size);
@@ -39,8 +32,7 @@ loop-position-preserved c =
           get_or_at colors mean [] [] k (omega (arith, e, h.size))
           ∙ rw (← e)
           (c.mean_of.ensures.mean pixels (box_at model position)
-          (are.bins_of position none (omega arith))))
-          (cases_lt k position);
+          (are.bins_of position _ (omega arith)))) (cases_lt k position);
     })
 
 pub returns-clause-means : goal.returns-clause-means

@@ -6,25 +6,15 @@ use Rattle.sixel_palette.proofs.palette.gain_cut.cut_along.Goals as goal
 
 pub returns : goal.returns
 returns c = λ pixels box are.
-    let bins = c.args.bins.now in
-    let channel = c.args.channel in
     let sides = c.sides_of-sides.result in
-    let within = c.sides_of-sides.ensures.within in
-    let sums = c.gather.new.sums in
-    let size : length sums ≡ sides.high + 1 - sides.low =
+    let is = c.sides_of-sides.ensures in
+    let size : length c.gather.new.sums ≡ sides.high + 1 - sides.low =
     omega (
       arith,
-      c.gather.ensures.size,
       length-take (sides.high + 1 - sides.low) (drop sides.low c.args.lower.now),
       length-drop sides.low c.args.lower.now,
-      c.requires.lower,
-      c.sides_of-sides.ensures.high,
-      c.sides_of-sides.ensures.order,
     ) in
-    let gains =
-    gains_of_box pixels box bins channel sides sums are within c.sides_of-sides.ensures.order size
-    c.gather.ensures.sums in
-    c.best_cut.ensures (cut_gain pixels box channel) gains
-    ∙ sym (best_to-same (cut_gain pixels box channel) channel sides.high 255 c.args.cut
-    (omega (arith, c.sides_of-sides.ensures.high))
-    (λ value l m. no_gain_above pixels box bins channel sides value are within l))
+    let gains = gains_of_box pixels box _ _ _ _ are is.within is.order size c.gather.ensures.sums in
+    c.best_cut.ensures (cut_gain pixels box c.args.channel) gains
+    ∙ sym (best_to-same _ _ _ _ _ (omega (arith, is.high))
+    (λ value l m. no_gain_above pixels box _ _ _ _ are is.within l))

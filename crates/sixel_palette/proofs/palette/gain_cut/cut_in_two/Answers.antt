@@ -4,16 +4,11 @@ use Rattle.sixel_palette.proofs.palette.gain_cut.cut_in_two.Goals as goal
 
 pub returns-clause-boxes : goal.returns-clause-boxes
 returns-clause-boxes c = λ pixels model h.
-    let old = c.args.bins.now in
-    let new = c.divide-middle.new.bins in
-    let boxes = c.args.boxes.now.items in
-    let whole = c.index-whole.result.now in
     let divided = c.divide-middle.ensures in
     let first = c.box_of.ensures in
     let rest = c.box_of-rest.ensures in
     rw c.in_ok-push.ensures.items
-    (boxes_cut pixels old new boxes model c.args.position whole c.box_of.result c.box_of-rest.result
-    h c.requires.position c.index-whole.ensures (record {
+    (boxes_cut _ _ _ _ _ _ _ _ _ h c.requires.position c.index-whole.ensures (record {
       size = omega (arith, c.divide-middle.auto.bins);
       start = first.start;
       middle = omega (arith, first.end, rest.start);

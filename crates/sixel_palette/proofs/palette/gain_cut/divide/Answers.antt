@@ -1,35 +1,15 @@
-use Rattle.std.proofs.Common.{◌≡◌, ℕ, ◌+◌, ◌<◌, ◌≤◌, drop, get_or, refl, ap, sym, ◌∙◌, arith}
+use Rattle.std.proofs.Common.{◌≡◌, ℕ, ◌+◌, ◌<◌, ◌≤◌, drop, get_or, ap, sym, ◌∙◌, arith}
 use Rattle.std.specs.List.{sum_by, swap}
 use Rattle.std.proofs.lemmas.List.{drop-drop, get_or-drop}
-use Rattle.std.proofs.lemmas.List.Sorted.{IsPermutation-refl, IsPermutation-trans}
-use Rattle.std.proofs.lemmas.List.Sorted.{sum_by-IsPermutation}
+use Rattle.std.proofs.lemmas.List.Sorted.{IsPermutation-trans, sum_by-IsPermutation}
 use Rattle.std.proofs.lemmas.List.Sums.{sum_by-take-drop}
 use Rattle.sixel_palette.specs.declared.palette.bins.Bin.{Bin}
 use Rattle.sixel_palette.specs.GainCut.{side}
 use Rattle.sixel_palette.specs.inside.PaletteBoxes.{low_part, range_of}
 use Rattle.sixel_palette.proofs.PaletteDivide.{low_above, low_below, range_after, range_more}
-use Rattle.sixel_palette.proofs.PaletteDivide.{range_none, sums_of_parts, swap_back, swap_front}
-use Rattle.sixel_palette.proofs.PaletteDivide.{swap_taken}
+use Rattle.sixel_palette.proofs.PaletteDivide.{sums_of_parts, swap_back, swap_front, swap_taken}
 use Rattle.sixel_palette.proofs.palette.gain_cut.divide.Goals as goal
-use Rattle.sixel_palette.proofs.palette.gain_cut.divide.Goals.{then-side_of-from, else-side_of-from}
-
-pub loop-position-init : goal.loop-position-init
-loop-position-init c =
-    let bins = c.args.bins.now in
-    let start = c.args.start in
-    record {
-      from = omega arith;
-      to = omega arith;
-      size = refl;
-      moved = IsPermutation-refl bins;
-      front = refl;
-      rest = refl;
-      lower = λ number.
-          omega (
-            arith,
-            range_none (low_part c.args.cut.channel c.args.cut.value number) bins start,
-          );
-    }
+use Rattle.std.proofs.lemmas.Bool.Decides.{nat_tests}
 
 pub loop-position-preserved : goal.loop-position-preserved
 loop-position-preserved c =
@@ -42,23 +22,20 @@ loop-position-preserved c =
     let value = c.args.cut.value in
     let h = c.loop-position.invariant in
     let d = c.index-bins-position.result in
-    let same : (k : ℕ) → get_or bins position d ≡ get_or old position d = λ k.
     let at : position + 0 ≡ position = omega arith in
+    let same : get_or bins position d ≡ get_or old position d =
     rw at at (sym (get_or-drop position bins 0 d) ∙ (ap (λ xs. get_or xs 0 d) h.rest
     ∙ get_or-drop position old 0 d)) in
-    let bin : get_or old position d ≡ d = sym (same 0) ∙ sym c.index-bins-position.is in
+    let bin : get_or old position d ≡ d = sym same ∙ sym c.index-bins-position.is in
     let rest : drop (position + 1) bins ≡ drop (position + 1) old =
     sym (drop-drop 1 position bins) ∙ (ap (drop 1) h.rest ∙ drop-drop 1 position old) in
-    let more : (number : Bin → ℕ)
-    → sum_by (low_part channel value number) (range_of old start (position + 1))
-    ≡ sum_by (low_part channel value number) (range_of old start position)
-    + low_part channel value number d = λ number.
+    let more = λ (number : Bin → ℕ).
     range_more (low_part channel value number) old start position d (omega arith) (omega arith)
     ∙ ap (λ b. sum_by (low_part channel value number) (range_of old start position)
     + low_part channel value number b) bin in
     let sided = rw (sym c.index-bins-position.is) at c.side_of.ensures.value in
     elim c.if-side_of-from.branch [
-      | then-side_of-from w ↦
+      | goal.then-side_of-from w ↦
           let below : side channel d.corner ≤ value =
           omega (arith, w.if-side_of-from.true, sided, c.from.ensures) in
           let swapped : w.swap.new.self ≡ swap bins middle position = w.swap.ensures.after in
@@ -71,8 +48,7 @@ loop-position-preserved c =
                 ∙ h.front);
             rest = rw swapped (swap_back bins middle position d h.to (omega arith) ∙ rest);
             lower = λ number.
-                rw swapped
-                (omega (
+                rw swapped (omega (
                   arith,
                   swap_taken number bins middle position d h.to (omega arith),
                   h.lower number,
@@ -81,7 +57,7 @@ loop-position-preserved c =
                   ap number c.index-bins-position.is,
                 ));
           })
-      | else-side_of-from w ↦
+      | goal.else-side_of-from w ↦
           let above : value < side channel d.corner =
           omega (arith, w.if-side_of-from.false, sided, c.from.ensures) in
           rw (w.bins-is, w.middle-is) (record {
@@ -97,37 +73,22 @@ loop-position-preserved c =
     ]
 
 pub returns-clause-lower : goal.returns-clause-lower
-returns-clause-lower c = λ number.
-    let new = c.loop-position.bins in
-    let old = c.args.bins.now in
-    let start = c.args.start in
-    let middle = c.loop-position.middle in
-    let h = c.loop-position.invariant in
-    let all : c.loop-position.position ≡ c.args.end = omega arith in
-    omega (
-      arith,
-      range_after number new start middle h.from,
-      ap (sum_by number) h.front,
-      rw all at (h.lower number),
-    )
+returns-clause-lower c = grind (arith, nat_tests, c.loop-position.invariant, range_after)
 
 pub returns-clause-upper : goal.returns-clause-upper
 returns-clause-upper c = λ number.
-    let new = c.loop-position.bins in
     let old = c.args.bins.now in
-    let start = c.args.start in
+    let new = c.loop-position.bins in
     let end = c.args.end in
-    let middle = c.loop-position.middle in
     let h = c.loop-position.invariant in
     let all : c.loop-position.position ≡ end = omega arith in
-    omega (
+    grind (
       arith,
-      range_after number new middle end (omega arith),
-      range_after number old start end (omega arith),
+      range_after,
       sum_by-take-drop number new end,
       sum_by-take-drop number old end,
-      ap (sum_by number) (rw all at h.rest),
+      rw all at h.rest,
       sum_by-IsPermutation number old new h.moved,
       rw all at (h.lower number),
-      sums_of_parts c.args.cut.channel c.args.cut.value number (range_of old start end),
+      sums_of_parts,
     )

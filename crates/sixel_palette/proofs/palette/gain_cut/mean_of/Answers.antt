@@ -1,15 +1,12 @@
 use Rattle.std.proofs.Common.{◌≡◌, ℕ, ap, ◌∙◌, arith}
 use Rattle.std.proofs.lemmas.List.{take_all}
-use Rattle.std.proofs.lemmas.List.Sums.{sum_by_more, sum_by_more_le}
+use Rattle.std.proofs.lemmas.List.Sums.{sum_by_more_le}
 use Rattle.sixel_palette.specs.declared.palette.bins.Bin.{Bin}
 use Rattle.sixel_palette.specs.ColorSums.{mean_or}
 use Rattle.sixel_palette.specs.GainCut.{box_sums}
 use Rattle.sixel_palette.specs.inside.PaletteSums.{total}
 use Rattle.sixel_palette.proofs.PaletteSums.{all_sums, mean_or-same}
 use Rattle.sixel_palette.proofs.palette.gain_cut.mean_of.Goals as goal
-
-pub loop-bin-init : goal.loop-bin-init
-loop-bin-init c = λ k. c.none-sums.ensures.sums k
 
 pub plus-sums-requires : goal.plus-sums-requires
 plus-sums-requires c =
@@ -19,18 +16,6 @@ plus-sums-requires c =
       sum_by_more_le (λ (b : Bin). b.sums.count) c.args.bins.now c.loop-bin.bin-index
           c.bin-item.result (omega arith),
       ap (λ (b : Bin). b.sums.count) c.bin-item.is,
-      c.requires,
-    )
-
-pub loop-bin-preserved : goal.loop-bin-preserved
-loop-bin-preserved c = λ k.
-    omega (
-      arith,
-      c.plus-sums.ensures.sums k,
-      c.loop-bin.invariant k,
-      sum_by_more (λ (b : Bin). total b.sums k) c.args.bins.now c.loop-bin.bin-index
-          c.bin-item.result (omega arith),
-      ap (λ (b : Bin). total b.sums k) c.bin-item.is,
     )
 
 pub returns-clause-mean : goal.returns-clause-mean

@@ -1,6 +1,5 @@
 use Rattle.std.proofs.Common.{◌≡◌, ◌+◌, ◌-◌, ◌<◌, [], ◌∷◌, ◌++◌, true, false, List, length, ap}
 use Rattle.std.proofs.Common.{refl, ◌∙◌, arith}
-use Rattle.std.specs.Prelude.{◌≢◌}
 use Rattle.std.proofs.lemmas.Bool.Decides.{nat_tests}
 use Rattle.std.proofs.lemmas.List.{nil_from_length}
 use Rattle.std.proofs.lemmas.List.Sorted.{IsPermutation-refl, IsPermutation-trans}
@@ -12,8 +11,8 @@ use Rattle.sixel_palette.proofs.palette.gain_cut.push_boxes.Goals as goal
 
 pub loop-count-init : goal.loop-count-init
 loop-count-init c =
-    let bins = c.args.bins.now in
     let box = c.box_of.result in
+    let made = c.box_of.ensures in
     let one : c.push.new.self.items ≡ box ∷ [] =
     c.in_ok-push.ensures.items
     ∙ ap (λ (xs : List ColorBox). xs ++ box ∷ [])
@@ -22,29 +21,20 @@ loop-count-init c =
       boxes = refl;
       ranges = λ k d l.
           let e : k ≡ 0 = omega arith in
-          rw e
-          (record {
-            order = omega (arith, c.box_of.ensures.start);
-            within = omega (arith, c.box_of.ensures.end);
-          });
+          rw e (record { order = omega (arith, made.start); within = omega (arith, made.end) });
       lower = omega (arith, c.box_of.auto.lower, c.requires.lower);
       upper = omega (arith, c.box_of.auto.upper, c.requires.upper);
-      moved = IsPermutation-refl bins;
-      model = λ pixels are.
-          boxes_start pixels bins box c.box_of.ensures.start c.box_of.ensures.end
-          (c.box_of.ensures.cut pixels (λ _. true)) are;
+      moved = IsPermutation-refl c.args.bins.now;
+      model = λ pixels are. boxes_start _ _ _ made.start made.end (made.cut pixels (λ _. true)) are;
     })
 
 pub loop-count-preserved : goal.loop-count-preserved
 loop-count-preserved c =
-    let bins = c.loop-count.bins in
-    let boxes = c.loop-count.boxes.items in
     let n = c.loop-count._count - 1 in
     let h = c.loop-count.invariant in
-    let best = c.best_of-best.result in
     let item = c.index.result.now in
     let cut = c.in_ok-cut_in_two.ensures in
-    let some : 0 < length boxes = omega (arith, h.boxes) in
+    let some : 0 < length c.loop-count.boxes.items = omega (arith, h.boxes) in
     let next : c.loop-count._count + 1 - 1 ≡ n + 1 = omega arith in
     let first = rw c.deref.ensures.value at (c.best_of-best.ensures.first item) in
     record {
@@ -52,18 +42,16 @@ loop-count-preserved c =
       ranges = rw c.cut_in_two.auto.bins cut.ranges;
       lower = omega (arith, c.cut_in_two.auto.lower, h.lower);
       upper = omega (arith, c.cut_in_two.auto.upper, h.upper);
-      moved = IsPermutation-trans c.args.bins.now bins c.cut_in_two.new.bins h.moved cut.moved;
+      moved = IsPermutation-trans _ _ _ h.moved cut.moved;
       model = λ pixels are.
           let model = boxes_after pixels n in
           let old = h.model pixels are in
           let gained : gain_at pixels model (best_box pixels model) ≡ item.cut.gain =
-          best_gain pixels bins boxes model best item old some first
+          best_gain _ _ _ _ _ _ old some first
           (omega (arith, c.best_of-best.ensures.within, c.deref.ensures.len)) c.index.ensures in
           let more : is_final pixels model ≡ false =
-          let positive : item.cut.gain ≢ 0 = c.if-index-eq0.false in
-          grind (arith, nat_tests, gained, positive) in
-          let place : best ≡ best_box pixels model =
-          first ∙ best_of_boxes pixels bins boxes model item old some in
+          grind (arith, nat_tests, gained, c.if-index-eq0.false) in
+          let place = first ∙ best_of_boxes _ _ _ _ _ old some in
           rw (next, boxes_more pixels n more, ← place) (cut.boxes pixels model old);
     }
 
@@ -74,8 +62,6 @@ returns-after-loop-count-clause-boxes c = λ pixels are.
 
 pub returns-then-index-eq0-clause-boxes : goal.returns-then-index-eq0-clause-boxes
 returns-then-index-eq0-clause-boxes c = λ pixels are.
-    let bins = c.loop-count.bins in
-    let boxes = c.loop-count.boxes.items in
     let n = c.loop-count._count - 1 in
     let h = c.loop-count.invariant in
     let model = boxes_after pixels n in
@@ -83,9 +69,8 @@ returns-then-index-eq0-clause-boxes c = λ pixels are.
     let item = c.index.result.now in
     let first = rw c.deref.ensures.value at (c.best_of-best.ensures.first item) in
     let gained : gain_at pixels model (best_box pixels model) ≡ item.cut.gain =
-    best_gain pixels bins boxes model c.best_of-best.result item old (omega (arith, h.boxes)) first
+    best_gain _ _ _ _ _ _ old (omega (arith, h.boxes)) first
     (omega (arith, c.best_of-best.ensures.within, c.deref.ensures.len)) c.index.ensures in
     let final : is_final pixels model ≡ true =
-    let none : item.cut.gain ≡ 0 = c.if-index-eq0.true in
-    grind (arith, nat_tests, gained, none) in
+    grind (arith, nat_tests, gained, c.if-index-eq0.true) in
     rw (boxes_final pixels n (c.args.room - 1) (omega arith) final) old

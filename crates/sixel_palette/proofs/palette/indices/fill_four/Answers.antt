@@ -5,8 +5,7 @@ use Rattle.sixel_palette.proofs.palette.indices.fill_four.Goals as goal
 pub indices_of_four-four-requires-clause-listed : goal.indices_of_four-four-requires-clause-listed
 indices_of_four-four-requires-clause-listed c = λ k l o.
     let word = c.requires.words k l in
-    Contains-word c.args.pixels.now c.args.look_up.now.codes.now (c.args.pixel + k)
-    (get_or c.args.words k 0) word.code (omega (arith, l, c.requires.within))
+    Contains-word _ _ _ _ word.code (omega (arith, l, c.requires.within))
     (omega (arith, o, word.alpha)) c.requires.shown.listed
 
 pub returns-clause-last : goal.returns-clause-last

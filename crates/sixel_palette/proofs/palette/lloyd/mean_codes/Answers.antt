@@ -12,7 +12,6 @@ pub loop-bin-preserved : goal.loop-bin-preserved
 loop-bin-preserved c =
     let codes = c.loop-bin.codes.items in
     let index = c.loop-bin.bin-index in
-    let bin = c.bin-item.result in
     let code = c.mean_code.result in
     let h = c.loop-bin.invariant in
     rw c.in_ok-push.ensures.items (record {
@@ -27,6 +26,6 @@ loop-bin-preserved c =
           rw (get_or_at codes code [] 0 k (omega (arith, e, h.size)), ← e)
           (c.mean_code.ensures.mean
           ∙ ap (λ (b : Bin). mean_bytes (total b.sums))
-          (c.bin-item.is ∙ get_or_default c.args.bins.now index bin d (omega arith))))
+          (c.bin-item.is ∙ get_or_default c.args.bins.now index _ d (omega arith))))
           (cases_lt k index);
     })

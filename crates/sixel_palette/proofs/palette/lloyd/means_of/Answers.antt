@@ -5,12 +5,9 @@ use Rattle.std.proofs.lemmas.List.Elements.{All-push}
 use Rattle.sixel_palette.specs.declared.palette.color_sums.ColorSums.{ColorSums}
 use Rattle.sixel_palette.specs.ColorSums.{mean_or}
 use Rattle.sixel_palette.specs.Refined.{IsRegisterColor}
-use Rattle.sixel_palette.specs.inside.PaletteSums.{entry_sums, total}
+use Rattle.sixel_palette.specs.inside.PaletteSums.{total}
 use Rattle.sixel_palette.proofs.PaletteSums.{mean_or-same}
 use Rattle.sixel_palette.proofs.palette.lloyd.means_of.Goals as goal
-
-pub mean_or-requires : goal.mean_or-requires
-mean_or-requires c = c.requires.shown c.loop-position.position [] (omega arith)
 
 pub loop-position-preserved : goal.loop-position-preserved
 loop-position-preserved c =
@@ -41,9 +38,7 @@ loop-position-preserved c =
 
 pub returns-clause-means : goal.returns-clause-means
 returns-clause-means c = λ entry are k l.
-    let sums = c.add_bins.new.sums in
     let d = c.none-sums.result in
     c.loop-position.invariant.means k d (omega arith)
-    ∙ mean_or-same (total (get_or sums k d)) (entry_sums entry c.args.bins.now k)
-    (get_or c.args.colors.now k [])
+    ∙ mean_or-same _ _ _
     (λ j. c.add_bins.ensures.sums entry are k j d (omega (arith, l, c.requires.few)))

@@ -1,6 +1,5 @@
-use Rattle.std.proofs.Common.{◌<◌, get_or, length, ap, ◌∙◌, arith}
+use Rattle.std.proofs.Common.{◌<◌, length, ap, ◌∙◌, arith}
 use Rattle.sixel_palette.specs.Lloyd.{nearest_index}
-use Rattle.sixel_palette.specs.inside.PaletteCodes.{color_of}
 use Rattle.sixel_palette.specs.inside.PaletteSums.{AreIndicesBy}
 use Rattle.sixel_palette.proofs.PaletteColors.{IsColor-color_of}
 use Rattle.sixel_palette.proofs.PaletteLloyd.{entry_of, moved_is, nearest_index-is}
@@ -14,12 +13,10 @@ returns-clause-moved c = λ pixels are whole.
     let bins = c.args.bins.now in
     let indices = c.in_ok-traversal.traversal.indices.items in
     let by : AreIndicesBy (entry_of colors) bins indices = λ k d l.
-    let color = color_of (get_or codes k 0) in
     let inside : k < length codes = omega (arith, l, c.requires.size) in
-    nearest_index-is colors color _
-    (nearest_entry-lt colors color c.requires.some c.requires.shown
-    (IsColor-color_of (get_or codes k 0) (c.requires.small k 0 inside)))
-    (c.in_ok-traversal.ensures.relaxed k inside)
+    nearest_index-is _ _ _
+    (nearest_entry-lt _ _ c.requires.some c.requires.shown
+    (IsColor-color_of _ (c.requires.small k 0 inside))) (c.in_ok-traversal.ensures.relaxed k inside)
     ∙ ap (nearest_index colors) (c.requires.means k d l) in
-    moved_is pixels colors c.in_ok-moved.moved.items bins are whole c.in_ok-moved.ensures.size
+    moved_is pixels _ _ _ are whole c.in_ok-moved.ensures.size
     (c.in_ok-moved.ensures.means (entry_of colors) (rw c.deref.ensures.value by))

@@ -1,5 +1,3 @@
-use Rattle.std.proofs.Common.{ap, ◌∙◌}
-use Rattle.sixel_palette.specs.Lloyd.{moved_entries}
 use Rattle.sixel_palette.proofs.palette.lloyd.moved_twice.Goals as goal
 
 pub moved_once-requires-clause-means : goal.moved_once-requires-clause-means
@@ -10,9 +8,3 @@ moved_once-requires-2-clause-means c = rw c.deref-2.ensures.value c.in_ok-codes.
 
 pub moved_once-requires-2-clause-shown : goal.moved_once-requires-2-clause-shown
 moved_once-requires-2-clause-shown c = rw c.deref-3.ensures.value c.in_ok-once.ensures.shown
-
-pub returns-clause-moved : goal.returns-clause-moved
-returns-clause-moved c = λ pixels are whole.
-    c.in_ok-twice.ensures.moved pixels are whole
-    ∙ ap (moved_entries pixels)
-    (c.deref-3.ensures.value ∙ c.in_ok-once.ensures.moved pixels are whole)

@@ -1,5 +1,5 @@
 use Rattle.std.proofs.Common.{take, get_or, sym, arith}
-use Rattle.std.proofs.lemmas.List.{take_more, take_all}
+use Rattle.std.proofs.lemmas.List.{take_more}
 use Rattle.sixel_palette.specs.inside.PaletteCodes.{color_of}
 use Rattle.sixel_palette.proofs.PaletteKeys.{none, least_key-nil, least_key-push}
 use Rattle.sixel_palette.proofs.palette.nearest.least_key.Goals as goal
@@ -12,14 +12,4 @@ loop-entry-preserved c =
     let entries = c.args.entries.now in
     let i = c.loop-entry.entry-index in
     rw (take_more entries i none (omega arith))
-    (omega (
-      arith,
-      least_key-push (take i entries) (get_or entries i none) (color_of c.args.code),
-      c.distance_to.ensures.value,
-      c.loop-entry.invariant,
-    ))
-
-pub returns : goal.returns
-returns c =
-    rw (take_all c.loop-entry.entry-index c.args.entries.now (omega arith)) at
-    c.loop-entry.invariant
+    (omega (arith, least_key-push (take i entries) (get_or entries i none) (color_of c.args.code)))

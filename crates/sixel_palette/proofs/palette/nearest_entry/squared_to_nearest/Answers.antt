@@ -11,10 +11,4 @@ loop-index-preserved c =
     let entries = c.args.entries.now in
     let index = c.loop-index.index in
     rw (take_more entries index [] (omega arith))
-    (omega (
-      arith,
-      nearest-push (take index entries) (get_or entries index []) c.args.color,
-      c.loop-index.invariant,
-      c.distance.ensures.value,
-      c.min-least.ensures,
-    ))
+    (omega (arith, nearest-push (take index entries) (get_or entries index []) c.args.color))

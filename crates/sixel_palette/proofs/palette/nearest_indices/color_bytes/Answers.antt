@@ -1,11 +1,8 @@
 use Rattle.std.proofs.Common.{◌<◌, [], take, get_or, arith}
 use Rattle.std.specs.Prelude.{All}
-use Rattle.std.proofs.lemmas.List.{get_or_default, take_all, take_more}
-use Rattle.std.proofs.lemmas.List.Elements.{All-nil, All-push}
+use Rattle.std.proofs.lemmas.List.{get_or_default, take_more}
+use Rattle.std.proofs.lemmas.List.Elements.{All-push}
 use Rattle.sixel_palette.proofs.palette.nearest_indices.color_bytes.Goals as goal
-
-pub loop-index-init : goal.loop-index-init
-loop-index-init c = All-nil (All (λ byte. byte < 256))
 
 pub loop-index-preserved : goal.loop-index-preserved
 loop-index-preserved c =
@@ -14,14 +11,8 @@ loop-index-preserved c =
     rw (take_more colors index [] (omega arith))
     (All-push (All (λ byte. byte < 256)) (take index colors) (get_or colors index [])
     c.loop-index.invariant
-    (λ k d l.
-    let three = c.told-colors index (omega arith) in
-    omega (
+    (λ k d l. omega (
       arith,
       get_or_default (get_or colors index []) k d 0 l,
       c.channel_bytes.ensures k (omega arith),
     )))
-
-pub returns : goal.returns
-returns c =
-    rw (take_all c.loop-index.index c.args.colors.now (omega arith)) at c.loop-index.invariant

@@ -12,17 +12,13 @@ returns c =
     let colors = c.args.colors.now in
     let near = rw c.deref.ensures.value at c.in_ok-color_indices.ensures.nearest in
     let some : 0 < length colors = c.requires.some in
-    let three = c.told-colors 0 some in
     let first : IsColor (get_or colors 0 []) = record {
-      three = three;
+      three = c.told-colors 0 some;
       bytes = λ k l. c.color_bytes.ensures 0 [] some k 0 (omega arith);
     } in
     c.in_ok-indices_of.ensures colors near.0
     (rw (c.deref-2.ensures.value, c.deref-3.ensures.value) near.1)
     (λ color shown.
-    omega (
-      arith,
-      nearest-le colors color 0 [] some,
-      distance-lt (get_or colors 0 []) color first
-          (IsColor-shown c.args.pixels.now color (λ k. omega (arith, c.type_inv.pixels k)) shown),
-    ))
+    let small = distance-lt _ _ first (IsColor-shown _ _ (λ k. omega (arith, c.type_inv.pixels k))
+    shown) in
+    omega (arith, nearest-le colors color 0 [] some, small))

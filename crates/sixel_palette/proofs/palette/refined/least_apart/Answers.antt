@@ -1,40 +1,21 @@
-use Rattle.std.proofs.Common.{◌≡◌, ℕ, ◌<◌, List, [], length, get_or, take, sym, ⊎_elim, arith}
+use Rattle.std.proofs.Common.{◌≡◌, ◌<◌, [], get_or, take, ⊎_elim, arith}
 use Rattle.std.proofs.lemmas.Bool.{cases_lt}
 use Rattle.std.proofs.lemmas.List.{get_or_default, get_or-take, length-take}
-use Rattle.sixel_palette.specs.Palette.{distance}
 use Rattle.sixel_palette.proofs.PaletteNearest.{nearest-le, nearest-reached}
 use Rattle.sixel_palette.proofs.palette.refined.least_apart.Goals as goal
 
 pub loop-position-init : goal.loop-position-init
 loop-position-init c =
-    let colors = c.args.colors.now in
-    let own : (d : List ℕ)
-    → distance (get_or colors 0 d) (get_or colors 1 d) ≡ c.distance-least.result =
-    λ d.
-    rw (get_or_default colors 0 d [] (omega arith), get_or_default colors 1 d [] (omega arith))
-    (sym c.distance-least.ensures.value) in
-    record {
-      small = c.distance-least.ensures.small;
-      apart = λ i j d l m.
-          let first : i ≡ 0 = omega arith in
-          let second : j ≡ 1 = omega arith in
-          rw (first, second) (omega (arith, own d));
-      reached = λ d. (0, 1, omega arith, omega arith, own d);
-    }
+    grind (arith, get_or_default, c.distance-least.ensures.value, c.distance-least.ensures.small)
 
 pub loop-position-preserved : goal.loop-position-preserved
 loop-position-preserved c =
     let colors = c.args.colors.now in
     let position = c.loop-position.position in
-    let old = c.loop-position.least in
-    let near = c.squared_to_nearest.result in
     let front = take position colors in
     let h = c.loop-position.invariant in
     let last = get_or colors position [] in
-    let at : (i : ℕ) (d : List ℕ) → i < position → get_or front i d ≡ get_or colors i d =
-    λ i d l. get_or-take position colors i d l in
-    let within : (i : ℕ) → i < position → i < length front = λ i l.
-    rw (length-take position colors) (omega arith) in
+    let at = get_or-take position colors in
     record {
       small = omega (arith, h.small, c.min-least.ensures);
       apart = λ i j d l m.
@@ -42,21 +23,16 @@ loop-position-preserved c =
           (λ here.
           let e : j ≡ position = omega arith in
           let m : i < position = omega arith in
+          let near = nearest-le front last i d (rw (length-take position colors) (omega arith)) in
           rw (e, get_or_default colors position d [] (omega arith), ← at i d m)
-          (omega (
-            arith,
-            nearest-le front last i d (within i m),
-            c.squared_to_nearest.ensures,
-            c.min-least.ensures,
-          )))
+          (omega (arith, near, c.squared_to_nearest.ensures, c.min-least.ensures)))
           (cases_lt j position);
       reached = λ d.
           ⊎_elim (λ less.
           let some =
           nearest-reached front last d
           (omega (arith, c.squared_to_nearest.ensures, less, h.small)) in
-          let m : some.0 < position =
-          omega (arith, some.1, length-take position colors) in (
+          let m : some.0 < position = omega (arith, some.1, length-take position colors) in (
             some.0,
             position,
             m,
@@ -67,7 +43,7 @@ loop-position-preserved c =
           (λ more.
           let w = h.reached d in
           (w.0, w.1, w.2, omega (arith, w.3), omega (arith, w.4, c.min-least.ensures, more)))
-          (cases_lt near old);
+          (cases_lt c.squared_to_nearest.result c.loop-position.least);
     }
 
 pub returns : goal.returns

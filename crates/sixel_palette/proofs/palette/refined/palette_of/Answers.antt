@@ -1,5 +1,4 @@
 use Rattle.std.proofs.Common.{◌≡◌, length, arith}
-use Rattle.std.proofs.lemmas.Result.{IfOk-weaker}
 use Rattle.sixel_palette.proofs.palette.refined.palette_of.Goals as goal
 
 pub transparent-requires : goal.transparent-requires
@@ -8,10 +7,6 @@ transparent-requires c = λ c' m.
     let l = h.1 in
     let e : length c.in_ok-codes.codes.items ≡ 0 = grind arith in
     absurd (omega (arith, l, e))
-
-pub returns-then-is_empty : goal.returns-then-is_empty
-returns-then-is_empty c =
-    IfOk-weaker c.transparent.result _ _ (λ v made. made c.args.room) c.transparent.ensures
 
 pub counts_of-requires-clause-listed : goal.counts_of-requires-clause-listed
 counts_of-requires-clause-listed c = λ c' m.

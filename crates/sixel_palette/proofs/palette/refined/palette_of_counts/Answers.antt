@@ -1,15 +1,13 @@
-use Rattle.std.proofs.Common.{◌≡◌, ℕ, ◌<◌, length, get_or, map, ap, sym, ◌∙◌, arith}
+use Rattle.std.proofs.Common.{ℕ, ◌<◌, length, get_or, map, ap, sym, ◌∙◌, arith, List}
 use Rattle.std.specs.List.{All}
 use Rattle.std.proofs.lemmas.List.{length-map}
 use Rattle.std.proofs.lemmas.Simd.{map-map}
 use Rattle.sixel_palette.specs.Palette.{IsShown}
 use Rattle.sixel_palette.specs.Refined.{base_entries, cut_entries, opaque_bins, register_color}
-use Rattle.sixel_palette.specs.Refined.{summed_error}
 use Rattle.sixel_palette.specs.inside.PaletteCodes.{IsListed, color_of}
-use Rattle.sixel_palette.specs.inside.PaletteCounts.{counted_error}
 use Rattle.sixel_palette.proofs.PaletteChoices.{members_from_codes, IsColor-shown}
-use Rattle.sixel_palette.proofs.PaletteCounts.{weighed_from_counts, error_from_counts}
-use Rattle.sixel_palette.proofs.PaletteCounts.{error-small, pixels_from_counts, squares_mapped}
+use Rattle.sixel_palette.proofs.PaletteCounts.{weighed_from_counts, error_from_counts, error-small}
+use Rattle.sixel_palette.proofs.PaletteCounts.{pixels_from_counts, squares_mapped}
 use Rattle.sixel_palette.proofs.PaletteRefined.{nearest_entry-lt, bound_of_shown}
 use Rattle.sixel_palette.proofs.PaletteTops.{near_listed, tops_alike, tops_fall, tops_longer}
 use Rattle.sixel_palette.proofs.PaletteTops.{tops_none, tops_occur}
@@ -17,107 +15,77 @@ use Rattle.sixel_palette.proofs.palette.refined.palette_of_counts.Goals as goal
 
 pub start_of-requires-clause-weighed : goal.start_of-requires-clause-weighed
 start_of-requires-clause-weighed c =
-    rw c.deref-counts.ensures.value (weighed_from_counts c.args.pixels.now c.args.codes.now
-    c.args.counted.now.counts.items c.requires.counts c.requires.area)
+    rw c.deref-counts.ensures.value (weighed_from_counts _ _ _ c.requires.counts c.requires.area)
 
 pub summed-error-requires-clause-small : goal.summed-error-requires-clause-small
 summed-error-requires-clause-small c =
     let topped = c.in_ok-topped.topped in
     let mapped =
-    squares_mapped topped.colors.items c.args.codes.now topped.traversal.squares.items
-    topped.traversal.indices.items c.in_ok-topped.ensures.whole.squares
-    c.in_ok-topped.ensures.relaxed in
-    rw (c.deref-counts.ensures.value, c.deref.ensures.value, mapped)
-    (omega (
+    squares_mapped _ _ _ _ c.in_ok-topped.ensures.whole.squares c.in_ok-topped.ensures.relaxed in
+    rw (c.deref-counts.ensures.value, c.deref.ensures.value, mapped) (omega (
       arith,
       error-small topped.colors.items c.args.codes.now c.args.counted.now.counts.items
-          (weighed_from_counts c.args.pixels.now c.args.codes.now c.args.counted.now.counts.items
-          c.requires.counts c.requires.area),
+          (weighed_from_counts _ _ _ c.requires.counts c.requires.area),
     ))
-
-pub indices_by-requires-clause-listed : goal.indices_by-requires-clause-listed
-indices_by-requires-clause-listed c = c.requires.shown
 
 pub returns : goal.returns
 returns c =
     let pixels = c.args.pixels.now in
     let codes = c.args.codes.now in
-    let counts = c.args.counted.now.counts.items in
+    let room = c.args.room in
     let start = c.in_ok-start.ensures in
-    let initial = c.in_ok-start.start.initial.items in
     let topped = c.in_ok-topped.topped in
+    let made = c.in_ok-topped.ensures in
     let colors = topped.colors.items in
-    let squares = topped.traversal.squares.items in
-    let bytes : (k : ℕ) → get_or pixels k 0 < 256 = λ k. omega (arith, c.type_inv.pixels k) in
-    let own : counted_error colors codes counts ≡ summed_error colors pixels =
-    error_from_counts colors pixels codes counts bytes c.requires.counts in
-    let first : counted_error initial codes counts ≡ summed_error initial pixels =
-    error_from_counts initial pixels codes counts bytes c.requires.counts in
     let base = c.in_ok-start.start.assignment.colors.items in
+    let bytes : (k : ℕ) → get_or pixels k 0 < 256 = λ k. omega (arith, c.type_inv.pixels k) in
+    let weighed = λ (entries : List (List ℕ)).
+    error_from_counts entries pixels codes c.args.counted.now.counts.items bytes
+    c.requires.counts in
     let same_pixels =
-    pixels_from_counts pixels codes counts bytes c.requires.counts
+    pixels_from_counts _ _ _ bytes c.requires.counts
     ∙ ap (opaque_bins pixels) (sym (length-map codes color_of)) in
-    let top = c.in_ok-topped.ensures.top in
     let some : 0 < length colors =
-    omega (
-      arith,
-      tops_longer (IsListed codes) c.args.room base colors topped.witnesses.items top,
-      start.size,
-      start.initial_some c.requires.some,
-    ) in
-    let mapped =
-    squares_mapped colors codes squares topped.traversal.indices.items
-    c.in_ok-topped.ensures.whole.squares c.in_ok-topped.ensures.relaxed in
-    let apart = rw c.deref-3.ensures.value at c.least_apart-apart.ensures in
-    let shown =
-    tops_alike (IsListed codes) (IsShown pixels) c.requires.listed c.requires.shown c.args.room base
-    colors topped.witnesses.items top in
-    let occur : All (IsShown pixels) topped.witnesses.items =
-    tops_occur (IsShown pixels) c.args.room base colors topped.witnesses.items shown in
+    omega (arith, tops_longer _ _ _ _ _ made.top, start.size, start.initial_some c.requires.some) in
+    let mapped = squares_mapped _ _ _ _ made.whole.squares made.relaxed in
+    let apart = rw c.deref-2.ensures.value at c.least_apart-apart.ensures in
+    let shown = tops_alike _ _ c.requires.listed c.requires.shown _ _ _ _ made.top in
+    let occur : All (IsShown pixels) topped.witnesses.items = tops_occur _ _ _ _ _ shown in
+    let long = length-map codes color_of in
     record {
-      shown = c.in_ok-topped.ensures.shown;
-      few = c.in_ok-topped.ensures.few;
+      shown = made.shown;
+      few = made.few;
       members = map color_of codes;
-      are =
-          members_from_codes (IsShown pixels) codes c.requires.ascending c.requires.shown
-          c.requires.listed;
+      are = members_from_codes _ _ c.requires.ascending c.requires.shown c.requires.listed;
       whole = λ l.
-          let w = start.whole (omega (arith, l, length-map codes color_of)) in
-          let members : map (λ code. register_color (color_of code)) codes
-          ≡ map register_color (map color_of codes) = sym
-          (map-map register_color color_of codes) in (
+          let w = start.whole (omega (arith, l, long)) in
+          let members = sym (map-map register_color color_of codes) in (
             w.0 ∙ members,
-            tops_none (IsShown pixels) c.args.room base colors topped.witnesses.items
+            tops_none _ _ _ _ _
                 (λ d m.
-                rw w.1
-                (near_listed codes d (IsColor-shown pixels d bytes m) (c.requires.shown d m)))
-                shown
+                rw w.1 (near_listed _ _ (IsColor-shown _ _ bytes m) (c.requires.shown d m))) shown
                 ∙ w.1 ∙ members,
           );
       base = base;
       cut = λ l.
-          let w =
-          rw c.deref-counts.ensures.value at
-          (start.cut (omega (arith, l, length-map codes color_of))) in (
-            w.0 ∙ ap (λ p. cut_entries p c.args.room) same_pixels,
-            w.1 ∙ ap (λ p. base_entries p c.args.room) same_pixels,
+          let w = rw c.deref-counts.ensures.value at (start.cut (omega (arith, l, long))) in (
+            w.0 ∙ ap (λ p. cut_entries p room) same_pixels,
+            w.1 ∙ ap (λ p. base_entries p room) same_pixels,
           );
       indices =
-          c.in_ok-indices.ensures colors squares
-          (rw c.deref-2.ensures.value c.in_ok-topped.ensures.relaxed)
-          (λ d m.
-          nearest_entry-lt colors d some c.in_ok-topped.ensures.shown
-          (IsColor-shown pixels d bytes m));
+          c.in_ok-indices.ensures colors topped.traversal.squares.items
+          (rw c.deref-color_indices.ensures.value made.relaxed)
+          (λ d m. nearest_entry-lt _ _ some made.shown (IsColor-shown _ _ bytes m));
       error =
           (rw (c.deref-counts.ensures.value, c.deref.ensures.value, mapped) at
-          c.summed-error.ensures) ∙ own;
+          c.summed-error.ensures) ∙ weighed colors;
       falls =
           omega (
             arith,
-            own,
-            first,
-            tops_fall (IsListed codes) c.args.room base colors topped.witnesses.items codes counts
-                top,
+            weighed colors,
+            weighed c.in_ok-start.start.initial.items,
+            tops_fall (IsListed codes) room base colors topped.witnesses.items codes
+                c.args.counted.now.counts.items made.top,
             rw c.deref-counts.ensures.value at start.falls,
           );
       initial_shown = start.initial_shown;
@@ -125,10 +93,5 @@ returns c =
       top = shown;
       witnesses = occur;
       apart = apart;
-      bound = λ n l.
-          bound_of_shown pixels topped.witnesses.items c.least_apart-apart.result n apart.apart
-          occur l;
+      bound = λ n l. bound_of_shown _ _ _ _ apart.apart occur l;
     }
-
-pub indices_by-requires-clause-positions : goal.indices_by-requires-clause-positions
-indices_by-requires-clause-positions c = rw c.deref-positions.ensures.value c.requires.positions

@@ -1,4 +1,4 @@
-use Rattle.std.proofs.Common.{◌/◌, [], length, inr, refl, ap, sym, arith}
+use Rattle.std.proofs.Common.{◌/◌, [], length, inr, refl, ap, sym, arith, rules}
 use Rattle.std.proofs.lemmas.List.Elements.{All-nil}
 use Rattle.sixel_palette.specs.Palette.{IsShown, color_at}
 use Rattle.sixel_palette.specs.Refined.{IsRegisterColor}
@@ -45,10 +45,6 @@ returns c = λ room.
         some = λ l. absurd (omega (arith, l));
       };
       witnesses = rw witnesses (All-nil (IsShown pixels));
-      apart = rw witnesses (record {
-        apart = λ i j d l m. absurd (omega arith);
-        none = λ _. refl;
-        reached = λ d l. absurd (omega arith);
-      });
+      apart = rw witnesses (search rules);
       bound = λ m l. absurd (omega (arith, l, ap length witnesses));
     }

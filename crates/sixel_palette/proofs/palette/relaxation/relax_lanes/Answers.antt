@@ -1,4 +1,4 @@
-use Rattle.std.proofs.Common.{◌≡◌, ◌+◌, ◌-◌, ◌<◌, ℕ, List, length, take, drop, get_or, replicate}
+use Rattle.std.proofs.Common.{◌≡◌, ◌+◌, ◌-◌, ◌<◌, ℕ, length, take, drop, get_or, replicate}
 use Rattle.std.proofs.Common.{refl, ap, cond, nat_lt, sym, ◌∙◌, arith}
 use Rattle.std.proofs.lemmas.Simd.{length-chunk, get_or-chunk, length-replicate, get_or-replicate}
 use Rattle.sixel_palette.specs.Palette.{distance}
@@ -29,9 +29,8 @@ returns-clause-squares c = λ k apart.
 
 pub returns-clause-indices : goal.returns-clause-indices
 returns-clause-indices c = λ k apart.
-    stored_outside c.args.indices.now _ c.args.at k
-    (length-chosen _ _ _
-    (length-narrow _ _ _ _ _ (far c) (was c) (length-replicate {A = ℕ} 8 0))
+    stored_outside _ _ _ _
+    (length-chosen _ _ _ (length-narrow _ _ _ _ _ (far c) (was c) (length-replicate {A = ℕ} 8 0))
     (length-replicate 8 c.args.entry.index)
     (length-chunk c.args.at 8 c.args.indices.now
     (omega (arith, c.requires.within, c.requires.indices)))) apart
@@ -42,6 +41,11 @@ returns-clause-lanes c = λ j l.
     (length-chosen _ _ _ (length-smaller _ _ (far c) (was c)) (far c) (was c))
     (omega (arith, c.requires.within, c.requires.squares)) l)
 
+own : (c : goal.After-row_known-1) → length (take 8 (drop c.args.at c.args.indices.now)) ≡ 8
+own c =
+    length-chunk c.args.at 8 c.args.indices.now
+    (omega (arith, c.requires.within, c.requires.indices))
+
 pub returns-clause-near : goal.returns-clause-near
 returns-clause-near c = λ entries k at from to near.
     let codes = c.args.codes.now in
@@ -51,34 +55,28 @@ returns-clause-near c = λ entries k at from to near.
     let ss = take 8 (drop c.args.at squares) in
     let ys = take 8 (drop c.args.at indices) in
     let index = c.args.entry.index in
-    let xs = replicate 8 index in
-    let zs : List ℕ = replicate 8 0 in
+    let color = c.args.entry.color in
     let j = k - c.args.at in
     let small : j < 8 = omega (arith, from, to) in
     let place : c.args.at + j ≡ k = omega (arith, from) in
-    let own : length ys ≡ 8 =
-    length-chunk c.args.at 8 indices (omega (arith, c.requires.within, c.requires.indices)) in
+    let zeros = length-replicate {A = ℕ} 8 0 in
     let least = length-chosen _ ds ss (length-smaller ds ss (far c) (was c)) (far c) (was c) in
     let ours =
-    length-chosen _ xs ys
-    (length-narrow _ _ ds ss zs (far c) (was c) (length-replicate {A = ℕ} 8 0))
-    (length-replicate 8 index) own in
-    let distance_is : get_or ds j 0 ≡ distance c.args.entry.color (color_of (get_or codes k 0)) =
-    c.distances_of_eight-distances.ensures j small
-    ∙ ap (λ i. distance c.args.entry.color (color_of (get_or codes i 0))) place in
-    let old_square : get_or ss j 0 ≡ get_or squares k 0 =
-    get_or-chunk c.args.at 8 squares j 0 small ∙ ap (λ i. get_or squares i 0) place in
-    let old_index : get_or ys j 0 ≡ get_or indices k 0 =
-    get_or-chunk c.args.at 8 indices j 0 small ∙ ap (λ i. get_or indices i 0) place in
-    near_stored entries c.args.entry.color (color_of (get_or codes k 0)) k (get_or ds j 0)
-    (get_or ss j 0) (get_or ys j 0) index _ _
+    length-chosen _ _ ys (length-narrow _ _ ds ss (replicate 8 0) (far c) (was c) zeros)
+    (length-replicate 8 index) (own c) in
+    let distance_is : get_or ds j 0 ≡ distance color (color_of (get_or codes k 0)) =
+    rw place at (c.distances_of_eight-distances.ensures j small) in
+    let old_square = rw place at (get_or-chunk c.args.at 8 squares j 0 small) in
+    let old_index = rw place at (get_or-chunk c.args.at 8 indices j 0 small) in
+    near_stored entries color (color_of (get_or codes k 0)) k (get_or ds j 0) (get_or ss j 0)
+    (get_or ys j 0) index _ _
     (stored_here squares _ c.args.at k least
     (omega (arith, c.requires.within, c.requires.squares)) from to
     ∙ least_at ds ss j (far c) (was c) small)
     (stored_here indices _ c.args.at k ours
     (omega (arith, c.requires.within, c.requires.indices)) from to
-    ∙ narrow_chosen _ _ ds ss zs xs ys j (far c) (was c) (length-replicate {A = ℕ} 8 0)
-    (length-replicate 8 index) own (get_or-replicate 8 j 0 0 small) refl refl small
+    ∙ narrow_chosen _ _ ds ss (replicate 8 0) _ ys j (far c) (was c) zeros
+    (length-replicate 8 index) (own c) (get_or-replicate 8 j 0 0 small) refl refl small
     ∙ ap (λ x. cond (nat_lt (get_or ds j 0) (get_or ss j 0)) x (get_or ys j 0))
     (get_or-replicate 8 j index 0 small))
     at (sym distance_is) (rw (old_square, old_index) near)

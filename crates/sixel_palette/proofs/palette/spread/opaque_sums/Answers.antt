@@ -1,18 +1,15 @@
 use Rattle.std.proofs.Common.{ℕ, ap, arith}
+use Rattle.std.proofs.lemmas.Bool.Decides.{nat_tests}
 use Rattle.sixel_palette.specs.ColorSums.{share}
 use Rattle.sixel_palette.specs.Refined.{opaque_number, sum_to}
 use Rattle.sixel_palette.specs.inside.PaletteCodes.{color_of}
 use Rattle.sixel_palette.proofs.PaletteCounts.{number-color, number_hidden, number_opaque}
 use Rattle.sixel_palette.proofs.PaletteCounts.{sum_to-more}
 use Rattle.sixel_palette.proofs.palette.spread.opaque_sums.Goals as goal
-use Rattle.sixel_palette.proofs.palette.spread.opaque_sums.Goals.{in-Some, in_default}
 
 pub loop-pixel-init : goal.loop-pixel-init
 unfolding sum_to
-loop-pixel-init c = record {
-  few = omega (arith, c.none-sums.ensures.count);
-  sums = λ k. c.none-sums.ensures.sums k;
-}
+loop-pixel-init c = grind (arith, nat_tests)
 
 pub loop-pixel-preserved : goal.loop-pixel-preserved
 loop-pixel-preserved c =
@@ -24,35 +21,22 @@ loop-pixel-preserved c =
     number-color (share k) pixels (λ i. omega (arith, c.type_inv.pixels i)) pixel in
     let more = λ (k : ℕ). sum_to-more (opaque_number (share k) pixels) pixel in
     elim c.match-shown_code.branch [
-      | in-Some w ↦
-          let code = w.in-Some.ensures.code in
+      | goal.in-Some w ↦
+          let sums = w.plus-sums.ensures in
           rw w.sums-is (record {
-            few = omega (arith, w.plus-sums.ensures.count, w.of.ensures.count, h.few);
+            few = omega (arith, sums.count, w.of.ensures.count, h.few);
             sums = λ k.
-                let own = ap (coded k) code in
+                let own = ap (coded k) w.in-Some.ensures.code in
                 let color = ap (share k) w.color_of.ensures in
-                omega (
-                  arith,
-                  w.plus-sums.ensures.sums k,
-                  w.of.ensures.sums k,
-                  h.sums k,
-                  more k,
-                  same k,
-                  number_opaque (coded k) pixels pixel w.in-Some.ensures.opaque,
-                  own,
-                  color,
-                );
+                let number = number_opaque (coded k) pixels pixel w.in-Some.ensures.opaque in
+                let here = w.of.ensures.sums k in
+                omega (arith, sums.sums k, here, h.sums k, more k, same k, number, own, color);
           })
-      | in_default w ↦
+      | goal.in_default w ↦
           rw w.sums-is (record {
             few = omega (arith, h.few);
             sums = λ k.
-                omega (
-                  arith,
-                  h.sums k,
-                  more k,
-                  same k,
-                  number_hidden (coded k) pixels pixel w.in_default.ensures.hidden,
-                );
+                let number = number_hidden (coded k) pixels pixel w.in_default.ensures.hidden in
+                omega (arith, h.sums k, more k, same k, number);
           })
     ]

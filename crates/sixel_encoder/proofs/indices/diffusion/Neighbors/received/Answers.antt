@@ -1,6 +1,7 @@
 use Rattle.std.proofs.Common.{arith}
 use Rattle.std.specs.Prelude.{slice_index}
-use Rattle.sixel_encoder.proofs.DiffusionLanes.{lanes, lanes-minus, lanes-plus, small-lanes}
+use Rattle.sixel_encoder.proofs.DiffusionLanes.{lanes, lanes-minus, lanes-plus}
+use Rattle.sixel_encoder.proofs.DiffusionLanes.{lanes-saturating, small-lanes}
 use Rattle.sixel_encoder.proofs.indices.diffusion.Neighbors.received.Goals as goal
 
 pub returns : goal.returns
@@ -18,15 +19,15 @@ returns c =
     (λ k l. omega arith) (λ k l. omega (arith, beyond k))) c.share-3.ensures
     (λ k l. omega arith) (λ k l. omega (arith, beyond k)) in
     let all =
-    lanes-plus _ _ _ _
+    lanes-saturating _ _ _ _
     (lanes-plus _ _ _ _
-    (lanes-plus _ _ _ _ c.share-next.ensures c.share-below_before.ensures
-    (λ k l. omega (arith, before k, behind k))) c.share-below.ensures
-    (λ k l. omega (arith, before k, behind k, above k))) rest
+    (lanes-plus _ _ _ _ c.share-below_before.ensures c.share-below.ensures
+    (λ k l. omega (arith, behind k, above k))) rest
+    (λ k l. omega (arith, behind k, above k, beyond k))) c.share-next.ensures
     (λ k l. omega (arith, before k, behind k, above k, beyond k)) in
     record {
       four = all.four;
-      value = λ k l. all.each k (omega (arith, l));
+      value = λ k l. omega (arith, all.each k (omega (arith, l)));
       small =
           small-lanes _ _ 8192 all
           (λ k l. omega (arith, before k, behind k, above k, beyond k));

@@ -1,32 +1,20 @@
-use Rattle.std.proofs.Common.{◌≡◌, ◌<◌, ◌+◌, ◌*◌, ◌∷◌, [], get_or, ap, sym, subst, ◌∙◌, arith}
+use Rattle.std.proofs.Common.{◌≡◌, ◌<◌, ◌+◌, ◌*◌, ◌∷◌, [], get_or, ap, subst, ◌∙◌, arith}
 use Rattle.std.specs.Prelude.{ℕ}
 use Rattle.std.proofs.lemmas.Nat.{mod-mul-add}
 use Rattle.sixel_encoder.specs.declared.indices.diffusion.Neighbors.{Neighbors}
 use Rattle.sixel_encoder.specs.Dithering.{column_of_step, error_above, error_beyond, errors_of}
-use Rattle.sixel_encoder.specs.inside.Diffusion.{AreVisited, IsLine, channels}
+use Rattle.sixel_encoder.specs.inside.Diffusion.{IsLine, channels}
 use Rattle.sixel_encoder.specs.inside.Mapped.{mapped_value}
 use Rattle.sixel_encoder.proofs.DiffusionErrors.{AreVisited-more, IsLine-more, IsLine-next_row}
 use Rattle.sixel_encoder.proofs.DiffusionErrors.{errors_of-more}
 use Rattle.sixel_encoder.proofs.DiffusionVisit.{AreReceived-neighbors, above-line, before-more}
-use Rattle.sixel_encoder.proofs.DiffusionVisit.{behind-more, beyond-line, beyond-lanes}
+use Rattle.sixel_encoder.proofs.DiffusionVisit.{behind-more, beyond-line}
 use Rattle.sixel_encoder.proofs.Serpentine.{serpentine-step}
 use Rattle.sixel_encoder.proofs.indices.mapped.MappedImage.diffuse_row.Goals as goal
+use Rattle.std.proofs.lemmas.Bool.Decides.{nat_tests}
 
 pub loop-step-init : goal.loop-step-init
-loop-step-init c =
-    let none : c.args.row * c.args.self.now.width + 0 ≡ c.args.row * c.args.self.now.width =
-    omega arith in
-    record {
-      size = c.requires.indices;
-      entries = c.requires.entries;
-      visited = rw none c.requires.visited;
-      line = rw none c.requires.line;
-      before = ap channels c.no_error-before.ensures.value;
-      behind = ap channels c.no_error-behind.ensures.value;
-      lanes_before = c.no_error-before.ensures.lanes;
-      lanes_behind = c.no_error-behind.ensures.lanes;
-      search = c.requires.search;
-    }
+loop-step-init c = grind (arith, nat_tests)
 
 pub loop-step-preserved : goal.loop-step-preserved
 loop-step-preserved c =
@@ -83,8 +71,7 @@ returns-clause-line c =
     let m = mapped_value c.args.self.now in
     let width = c.args.self.now.width in
     let row = c.args.row in
-    let last : c.loop-step.step ≡ width =
-    omega (arith, c.loop-step.auto.step-end, c.loop-step-test.false) in
+    let last : c.loop-step.step ≡ width = grind (arith, nat_tests) in
     IsLine-next_row m (errors_of m c.loop-step.indices (row * width + width)) c.loop-step.line row
     (subst (λ (step : ℕ).
     IsLine m (errors_of m c.loop-step.indices (row * width + step)) row step c.loop-step.line)
@@ -94,12 +81,7 @@ pub returns-clause-indices : goal.returns-clause-indices
 returns-clause-indices c = c.loop-step.invariant.size
 
 pub returns-clause-visited : goal.returns-clause-visited
-returns-clause-visited c =
-    let m = mapped_value c.args.self.now in
-    let width = c.args.self.now.width in
-    subst (λ (step : ℕ). AreVisited m c.loop-step.indices (c.args.row * width + step))
-    (omega (arith, c.loop-step.auto.step-end, c.loop-step-test.false))
-    c.loop-step.invariant.visited
+returns-clause-visited c = grind (arith, nat_tests)
 
 pub returns-clause-search : goal.returns-clause-search
 returns-clause-search c = c.loop-step.invariant.search
@@ -117,19 +99,10 @@ pub received-requires-clause-behind : goal.received-requires-clause-behind
 received-requires-clause-behind c = c.loop-step.invariant.lanes_behind
 
 pub received-requires-clause-above : goal.received-requires-clause-above
-received-requires-clause-above c =
-    c.loop-step.invariant.line.lanes c.column_of_step-column.result
-    c.column_of_step-column.ensures.within
+received-requires-clause-above c = grind (arith, nat_tests)
 
 pub received-requires-clause-beyond : goal.received-requires-clause-beyond
-received-requires-clause-beyond c =
-    let m = mapped_value c.args.self.now in
-    let row = c.args.row in
-    let step = c.loop-step.step in
-    beyond-lanes m (errors_of m c.loop-step.indices (row * m.width + step)) c.loop-step.line row
-    step c.error_beyond.result c.loop-step-test.true
-    (rw c.no_error-before.ensures.value at c.no_error-before.ensures.lanes)
-    c.loop-step.invariant.line c.error_beyond.ensures
+received-requires-clause-beyond c = grind (arith, nat_tests)
 
 pub visit-requires-clause-image : goal.visit-requires-clause-image
 visit-requires-clause-image c = c.requires.image
@@ -139,17 +112,13 @@ visit-requires-clause-indices c = c.loop-step.invariant.size
 
 pub visit-requires-clause-place : goal.visit-requires-clause-place
 visit-requires-clause-place c =
-    let width = c.args.self.now.width in
-    let row = c.args.row in
-    let column = c.column_of_step-column.ensures in
-    record {
-      step = c.loop-step-test.true;
-      row = c.requires.row;
-      pixel =
-          serpentine-step width row c.loop-step.step c.loop-step-test.true
-          ∙ ap (λ k. row * width + k) (sym column.value);
-      within = omega (arith, column.within, c.requires.row);
-    }
+    grind (
+      arith,
+      c.column_of_step-column.ensures,
+      c.loop-step-test.true,
+      c.requires.row,
+      serpentine-step,
+    )
 
 pub visit-requires-clause-entries : goal.visit-requires-clause-entries
 visit-requires-clause-entries c = c.loop-step.invariant.entries

@@ -1,9 +1,10 @@
-use Rattle.std.proofs.Common.{ap, sym, subst, ◌∙◌, arith}
+use Rattle.std.proofs.Common.{ap, sym, ◌∙◌, arith}
 use Rattle.std.specs.Prelude.{◌+◌, ◌*◌, ◌≡◌, ℕ}
 use Rattle.sixel_encoder.specs.Dithering.{entry_before, entry_of}
-use Rattle.sixel_encoder.specs.inside.Mapped.{IsInside, kept_value, mapped_value}
+use Rattle.sixel_encoder.specs.inside.Mapped.{kept_value, mapped_value}
 use Rattle.sixel_encoder.proofs.KeptEntries.{IsInside-none, before-none, before-some}
 use Rattle.sixel_encoder.proofs.indices.mapped.MappedImage.entry_before.Goals as goal
+use Rattle.std.proofs.lemmas.Bool.Decides.{nat_tests}
 
 pub returns-then-place-eq0-clause-value : goal.returns-then-place-eq0-clause-value
 returns-then-place-eq0-clause-value c =
@@ -37,9 +38,7 @@ same c =
     c.requires.place.step (omega (arith, c.if-place-eq0.false)))
 
 pub returns-clause-value : goal.returns-clause-value
-returns-clause-value c =
-    c.entry_at.ensures.value ∙ ap (kept_value c.args.self.now.colors.now c.args.target) (same c)
+returns-clause-value c = grind (arith, nat_tests, c.entry_at.ensures.value, same)
 
 pub returns-clause-inside : goal.returns-clause-inside
-returns-clause-inside c =
-    subst (IsInside c.args.self.now.colors.now c.args.target) (same c) c.entry_at.ensures.inside
+returns-clause-inside c = grind (arith, nat_tests, same, c.entry_at.ensures.inside)

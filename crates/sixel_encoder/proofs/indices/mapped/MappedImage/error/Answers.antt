@@ -11,7 +11,8 @@ returns c =
     let values = c.args.values in
     let entry = c.args.entry in
     let strength = c.from-strength.result in
-    let color = slice_index entry 0 ∷ slice_index entry 1 ∷ slice_index entry 2 ∷ 0 ∷ [] in
+    let color =
+    slice_index entry 0 ∷ slice_index entry 1 ∷ slice_index entry 2 ∷ c.args.index ∷ [] in
     let byte : (k : ℕ) → k < 4 → slice_index color k < 256 =
     each_of_four (λ k. slice_index color k < 256) c.element_fits.fits c.element_fits2.fits
     c.element_fits3.fits (omega arith) in

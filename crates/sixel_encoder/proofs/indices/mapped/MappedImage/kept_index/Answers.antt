@@ -1,42 +1,19 @@
-use Rattle.std.proofs.Common.{◌≡◌, ◌∙◌, ap, arith, refl, sym, subst}
-use Rattle.std.specs.Prelude.{List, Option, ℕ, ◌+◌, ◌*◌, ◌<◌, slice_index}
+use Rattle.std.proofs.Common.{◌≡◌, ◌∙◌, arith, sym, subst}
+use Rattle.std.specs.Prelude.{List, ℕ, ◌+◌, ◌*◌, slice_index}
 use Rattle.sixel_palette.specs.Palette.{IsNearest, IsOpaque, color_at}
-use Rattle.sixel_encoder.specs.Dithering.{IsIndex, entry_above, entry_distance, nearer_entry}
+use Rattle.sixel_encoder.specs.Dithering.{IsIndex, entry_distance}
 use Rattle.sixel_encoder.specs.Dithering.{neighbor_of}
 use Rattle.sixel_encoder.specs.inside.Mapped.{mapped_value}
-use Rattle.sixel_encoder.proofs.DitheredIndices.{IsIndexAt-dark, IsIndexAt-light}
-use Rattle.sixel_encoder.proofs.KeptEntries.{IsIndex-before, above-inside, nearest-distance}
+use Rattle.sixel_encoder.proofs.DitheredIndices.{IsIndexAt-light}
+use Rattle.sixel_encoder.proofs.KeptEntries.{nearest-distance}
 use Rattle.sixel_encoder.proofs.indices.mapped.MappedImage.kept_index.Goals as goal
+use Rattle.std.proofs.lemmas.Bool.Decides.{nat_tests}
 
 pub returns-then-not-is_opaque : goal.returns-then-not-is_opaque
-returns-then-not-is_opaque c =
-    let m = mapped_value c.args.self.now in
-    IsIndexAt-dark m (color_at m.pixels c.args.place.pixel) c.args.indices.now
-    (c.args.place.row * m.width + c.args.place.step) c.requires.image.some
-    (subst (λ (p : ℕ). slice_index m.pixels (4 * p + 3) < 128) (sym c.requires.place.pixel)
-    (c.is_opaque.ensures.transparent c.if-not-is_opaque.true))
+returns-then-not-is_opaque c = grind (arith, nat_tests)
 
 pub returns-then-is_before : goal.returns-then-is_before
-returns-then-is_before c =
-    let m = mapped_value c.args.self.now in
-    let n = c.args.place.row * m.width + c.args.place.step in
-    let index = slice_index c.args.indices.now c.args.place.pixel in
-    let target = color_at m.pixels c.args.place.pixel in
-    let light =
-    subst (IsOpaque m.pixels) (sym c.requires.place.pixel)
-    (c.is_opaque.ensures.opaque c.if-not-is_opaque.false) in
-    let near =
-    subst
-    (λ (p : ℕ). IsNearest m.colors (color_at m.pixels p) (slice_index c.args.indices.now p))
-    c.requires.place.pixel (c.requires.nearest.opaque light) in
-    IsIndexAt-light m target c.args.indices.now n index light
-    (subst
-    (λ (before : Option ℕ).
-    IsIndex m target (nearer_entry m.colors target before (entry_above m c.args.indices.now n))
-    index)
-    (sym (c.if-is_before.ensures refl))
-    (IsIndex-before m target (entry_above m c.args.indices.now n) index near
-    (above-inside m c.args.indices.now n c.requires.entries)))
+returns-then-is_before c = grind (arith, nat_tests)
 
 pub returns : goal.returns
 returns c =
@@ -52,8 +29,7 @@ returns c =
     (subst
     (λ (p : ℕ). IsNearest m.colors (color_at m.pixels p) (slice_index c.args.indices.now p))
     c.requires.place.pixel (c.requires.nearest.opaque light)) in
-    let at : c.distance.result ≡ entry_distance m.colors target index =
-    c.distance.ensures.value ∙ ap (entry_distance m.colors target) c.from.ensures in
+    let at : c.distance.result ≡ entry_distance m.colors target index = grind (arith, nat_tests) in
     let least =
     at
     ∙ nearest-distance m.colors target index near (omega (arith, at, c.distance.ensures.small)) in

@@ -11,15 +11,6 @@ returns-clause-greatest c x interval =
     let low = abs_diff c.from-own.result c.from.result in
     let high = abs_diff c.from-own.result c.from-2.result in
     ⊎_elim (λ (l : value < x).
-    omega (
-      arith,
-      c.wrapped_gap-2.ensures.value,
-      square-le gap high (high - gap) (omega (arith, interval.high)),
-    ))
+    omega (arith, square-le gap high (high - gap) (omega (arith, interval.high))))
     (λ (l : x ≤ value).
-    omega (
-      arith,
-      c.wrapped_gap.ensures.value,
-      square-le gap low (low - gap) (omega (arith, interval.low)),
-    ))
-    (cases_lt value x)
+    omega (arith, square-le gap low (low - gap) (omega (arith, interval.low)))) (cases_lt value x)

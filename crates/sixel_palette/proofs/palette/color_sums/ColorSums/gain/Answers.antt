@@ -2,16 +2,13 @@ use Rattle.std.proofs.Common.{sym, inl, inr, refl, arith}
 use Rattle.sixel_palette.specs.inside.PaletteSums.{total}
 use Rattle.sixel_palette.proofs.PaletteSums.{gain-none, gain-some}
 use Rattle.sixel_palette.proofs.palette.color_sums.ColorSums.gain.Goals as goal
-use Rattle.sixel_palette.proofs.palette.color_sums.ColorSums.gain.Goals.{}
-use Rattle.sixel_palette.proofs.palette.color_sums.ColorSums.gain.Goals.{then-self-eq0-via-then-self-eq0}
-use Rattle.sixel_palette.proofs.palette.color_sums.ColorSums.gain.Goals.{then-self-eq0-via-else-self-eq0+then-other-eq0}
 
 pub returns-then-self-eq0 : goal.returns-then-self-eq0
 returns-then-self-eq0 c =
     sym (gain-none (total c.args.self) (total c.args.other)
     (elim c.then-self-eq0.branch [
-      | then-self-eq0-via-then-self-eq0 w ↦ inl w.if-self-eq0.true
-      | then-self-eq0-via-else-self-eq0+then-other-eq0 w ↦ inr w.if-other-eq0.true
+      | goal.then-self-eq0-via-then-self-eq0 w ↦ inl w.if-self-eq0.true
+      | goal.then-self-eq0-via-else-self-eq0+then-other-eq0 w ↦ inr w.if-other-eq0.true
     ]))
 
 pub returns : goal.returns

@@ -1,17 +1,11 @@
 use Rattle.std.proofs.Common.{◌≡◌, ◌++◌, [], List, length, take, drop, ℕ, arith}
-use Rattle.std.proofs.lemmas.List.{take_at, take_all, take_more, length-take}
+use Rattle.std.proofs.lemmas.List.{take_at, take_more, length-take}
 use Rattle.sixel_palette.proofs.palette.farthest.Traversal.among.Goals as goal
 
 -- a list of the same length replaces an old one
 replaced : {X : Type 0} (new old : List X) (len : ℕ) → length new ≡ len
     → take len (new ++ drop (length new) old) ≡ new
 replaced new old len same = take_at new (drop (length new) old) len same
-
-pub loop-index-init : goal.loop-index-init
-loop-index-init c = record {
-  whole = c.in_ok-traversal.ensures.whole;
-  relaxed = c.in_ok-traversal.ensures.relaxed;
-}
 
 pub loop-index-preserved : goal.loop-index-preserved
 loop-index-preserved c =
@@ -34,8 +28,3 @@ loop-index-preserved c =
           (c.relax_cells.ensures.near (take index colors) (omega (arith, length-take index colors))
           (rw (c.deref_mut.ensures.value, c.deref_mut-in-loop-index.ensures.value) h.relaxed));
     }
-
-pub returns-clause-relaxed : goal.returns-clause-relaxed
-returns-clause-relaxed c =
-    rw (take_all c.loop-index.index c.args.colors.now (omega arith)) at
-    c.loop-index.invariant.relaxed

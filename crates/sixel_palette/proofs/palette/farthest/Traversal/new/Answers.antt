@@ -1,5 +1,4 @@
-use Rattle.sixel_palette.specs.Palette.{no_entry}
-use Rattle.std.proofs.Common.{length, arith}
+use Rattle.std.proofs.Common.{arith}
 use Rattle.sixel_palette.proofs.PaletteNearestEntry.{nearest_none}
 use Rattle.sixel_palette.proofs.PaletteLists.{all_replicated}
 use Rattle.sixel_palette.proofs.palette.farthest.Traversal.new.Goals as goal
@@ -7,9 +6,7 @@ use Rattle.sixel_palette.proofs.palette.farthest.Traversal.new.Goals as goal
 pub returns-clause-whole : goal.returns-clause-whole
 returns-clause-whole c =
     let squares = c.in_ok-squares in
-    let far =
-    all_replicated squares.squares.items (length c.args.codes.now) no_entry
-    (squares.ensures.items_if_clones_equal (λ y e. e)) in
+    let far = all_replicated _ _ _ (squares.ensures.items_if_clones_equal (λ y e. e)) in
     record {
       squares = omega (arith, squares.ensures.len);
       indices = omega (arith, c.in_ok-indices.ensures.len);
@@ -18,11 +15,7 @@ returns-clause-whole c =
 
 pub returns-clause-relaxed : goal.returns-clause-relaxed
 returns-clause-relaxed c =
-    let codes = c.args.codes.now in
     let squares = c.in_ok-squares in
     let indices = c.in_ok-indices in
-    nearest_none codes squares.squares.items indices.indices.items
-    (all_replicated squares.squares.items (length codes) no_entry
-    (squares.ensures.items_if_clones_equal (λ y e. e)))
-    (all_replicated indices.indices.items (length codes) 0
-    (indices.ensures.items_if_clones_equal (λ y e. e)))
+    nearest_none _ _ _ (all_replicated _ _ _ (squares.ensures.items_if_clones_equal (λ y e. e)))
+    (all_replicated _ _ _ (indices.ensures.items_if_clones_equal (λ y e. e)))

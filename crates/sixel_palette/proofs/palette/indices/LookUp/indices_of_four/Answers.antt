@@ -23,76 +23,14 @@ returns-then-are_opaque c = λ entries squares k near l.
     (λ below. first.ensures entries squares near (below (opaque 0 (omega arith))))
     (λ below. second.ensures entries squares near (below (opaque 1 (omega arith))))
     (λ below. third.ensures entries squares near (below (opaque 2 (omega arith))))
-    (λ below. fourth.ensures entries squares near (below (opaque 3 (omega arith))))
-    k l
+    (λ below. fourth.ensures entries squares near (below (opaque 3 (omega arith)))) k l
 
 pub returns-else-are_opaque : goal.returns-else-are_opaque
 returns-else-are_opaque c = λ entries squares k near l.
-    let first = c.index_of in
-    let second = c.index_of-else-are_opaque in
-    let third = c.index_of-else-are_opaque-2 in
-    let fourth = c.index_of-else-are_opaque-3 in
     four_cases (IsFoundAt entries c.args.words
-    (first.result ∷ second.result ∷ third.result ∷ fourth.result ∷ []))
-    (first.ensures entries squares near) (second.ensures entries squares near)
-    (third.ensures entries squares near) (fourth.ensures entries squares near) k l
-
-pub opaque_index_of-requires : goal.opaque_index_of-requires
-opaque_index_of-requires c =
-    let opaque = c.are_opaque.ensures c.if-are_opaque.true 0 (omega arith) in
-    record {
-      whole = c.requires.whole;
-      opaque = opaque;
-      listed = c.requires.listed 0 (omega arith) opaque;
-    }
-
-pub opaque_index_of-requires-then-are_opaque : goal.opaque_index_of-requires-then-are_opaque
-opaque_index_of-requires-then-are_opaque c =
-    let opaque = c.are_opaque.ensures c.if-are_opaque.true 1 (omega arith) in
-    record {
-      whole = c.requires.whole;
-      opaque = opaque;
-      listed = c.requires.listed 1 (omega arith) opaque;
-    }
-
-pub opaque_index_of-requires-then-are_opaque-2 : goal.opaque_index_of-requires-then-are_opaque-2
-opaque_index_of-requires-then-are_opaque-2 c =
-    let opaque = c.are_opaque.ensures c.if-are_opaque.true 2 (omega arith) in
-    record {
-      whole = c.requires.whole;
-      opaque = opaque;
-      listed = c.requires.listed 2 (omega arith) opaque;
-    }
-
-pub opaque_index_of-requires-then-are_opaque-3 : goal.opaque_index_of-requires-then-are_opaque-3
-opaque_index_of-requires-then-are_opaque-3 c =
-    let opaque = c.are_opaque.ensures c.if-are_opaque.true 3 (omega arith) in
-    record {
-      whole = c.requires.whole;
-      opaque = opaque;
-      listed = c.requires.listed 3 (omega arith) opaque;
-    }
-
-pub index_of-requires : goal.index_of-requires
-index_of-requires c = record {
-  whole = c.requires.whole;
-  listed = c.requires.listed 0 (omega arith);
-}
-
-pub index_of-requires-else-are_opaque : goal.index_of-requires-else-are_opaque
-index_of-requires-else-are_opaque c = record {
-  whole = c.requires.whole;
-  listed = c.requires.listed 1 (omega arith);
-}
-
-pub index_of-requires-else-are_opaque-2 : goal.index_of-requires-else-are_opaque-2
-index_of-requires-else-are_opaque-2 c = record {
-  whole = c.requires.whole;
-  listed = c.requires.listed 2 (omega arith);
-}
-
-pub index_of-requires-else-are_opaque-3 : goal.index_of-requires-else-are_opaque-3
-index_of-requires-else-are_opaque-3 c = record {
-  whole = c.requires.whole;
-  listed = c.requires.listed 3 (omega arith);
-}
+    (c.index_of.result ∷ c.index_of-else-are_opaque.result
+    ∷ c.index_of-else-are_opaque-2.result ∷ c.index_of-else-are_opaque-3.result ∷ []))
+    (c.index_of.ensures entries squares near)
+    (c.index_of-else-are_opaque.ensures entries squares near)
+    (c.index_of-else-are_opaque-2.ensures entries squares near)
+    (c.index_of-else-are_opaque-3.ensures entries squares near) k l

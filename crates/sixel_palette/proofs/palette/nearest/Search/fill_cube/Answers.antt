@@ -14,15 +14,13 @@ wider c other small same =
 
 pub returns-clause-nearest : goal.returns-clause-nearest
 returns-clause-nearest c =
-    let near =
-    c.in_ok-filled.ensures.span (color_of c.args.code)
-    (c.cube_around.ensures c.args.code c.requires.small refl) in
+    let small = c.requires.small in
+    let around = c.cube_around.ensures c.args.code small refl in
+    let near = c.in_ok-filled.ensures.span (color_of c.args.code) around in
     record {
       order = near.order;
       within = near.within;
-      nearest =
-          (rw c.deref.ensures.value at near.nearest)
-          ∙ (wider c c.args.code c.requires.small refl).nearest;
+      nearest = (rw c.deref.ensures.value at near.nearest) ∙ (wider c _ small refl).nearest;
     }
 
 pub returns-clause-search : goal.returns-clause-search

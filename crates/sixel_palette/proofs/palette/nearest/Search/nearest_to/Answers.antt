@@ -1,18 +1,16 @@
 use Rattle.sixel_palette.proofs.PaletteFarthest.{nearest_from_entry}
 use Rattle.sixel_palette.proofs.palette.nearest.Search.nearest_to.Goals as goal
+use Rattle.std.proofs.Common.{arith}
+use Rattle.std.proofs.lemmas.Bool.Decides.{nat_tests}
 
 pub returns-clause-search : goal.returns-clause-search
-returns-clause-search c = λ colors is. record {
-  lists = c.in_ok-near.ensures.search;
-  numbered = rw c.in_ok-near.ensures.entries is.numbered;
-  some = is.some;
-}
+returns-clause-search c =
+    grind (arith, nat_tests, c.in_ok-near.ensures.search, c.in_ok-near.ensures.entries)
 
 pub returns-clause-nearest : goal.returns-clause-nearest
 returns-clause-nearest c = λ colors some is.
     let code = c.code_of-code.ensures in
-    nearest_from_entry colors c.args.color c.in_ok-near.near
-    (rw code.color at (is.some some c.code_of-code.result code.small))
+    nearest_from_entry _ _ _ (rw code.color at (is.some some c.code_of-code.result code.small))
     (rw code.color at (c.in_ok-near.ensures.nearest colors is.numbered))
 
 pub returns-clause-squared : goal.returns-clause-squared

@@ -22,9 +22,6 @@ returns c =
             three = c.told-colors 0 some;
             bytes = λ k l. c.color_bytes.ensures 0 [] some k 0 (omega arith);
           } in
-          omega (
-            arith,
-            nearest-le colors (color_of code) 0 [] some,
-            distance-lt (get_or colors 0 []) (color_of code) first (IsColor-color_of code small),
-          );
+          let lt = distance-lt _ (color_of code) first (IsColor-color_of code small) in
+          omega (arith, nearest-le colors (color_of code) 0 [] some, lt);
     }

@@ -2,11 +2,11 @@ use Rattle.std.proofs.Common.{◌≤◌, arith}
 use Rattle.sixel_palette.specs.Palette.{distance}
 use Rattle.sixel_palette.proofs.PaletteNearestEntry.{near_taken, near_kept}
 use Rattle.sixel_palette.proofs.palette.nearest_entry.NearestEntry.with.Goals as goal
+use Rattle.std.proofs.lemmas.Bool.Decides.{nat_tests}
 
 pub returns-then-squared-self : goal.returns-then-squared-self
 returns-then-squared-self c entries p color at same h =
-    near_taken entries p color c.args.squared c.args.index c.args.self c.if-squared-self.true at
-    same h
+    grind (arith, nat_tests, near_taken, c.if-squared-self.true)
 
 pub returns-else-squared-self : goal.returns-else-squared-self
 returns-else-squared-self c entries p color at same h =

@@ -1,5 +1,5 @@
 use Rattle.std.proofs.Common.{take, get_or, arith}
-use Rattle.std.proofs.lemmas.List.{take_more, take_all}
+use Rattle.std.proofs.lemmas.List.{take_more}
 use Rattle.sixel_palette.proofs.PaletteKeys.{none, least_key-nil, least_key-push}
 use Rattle.sixel_palette.proofs.palette.nearest.cube.Cube.greatest_key.Goals as goal
 
@@ -10,15 +10,9 @@ pub loop-entry-preserved : goal.loop-entry-preserved
 loop-entry-preserved c = λ c' box.
     let entries = c.args.entries.now in
     let i = c.loop-entry.entry-index in
-    rw (take_more entries i none (omega arith))
-    (omega (
+    rw (take_more entries i none (omega arith)) (omega (
       arith,
       least_key-push (take i entries) (get_or entries i none) c',
       c.reach.ensures.greatest c' box,
       c.loop-entry.invariant c' box,
     ))
-
-pub returns : goal.returns
-returns c = λ c' box.
-    rw (take_all c.loop-entry.entry-index c.args.entries.now (omega arith)) at
-    (c.loop-entry.invariant c' box)
