@@ -1,13 +1,10 @@
 -- Final rows stay, in an image of either form.
-use Rattle.std.proofs.Common.{◌≡◌, ℕ, ◌<◌, ◌≤◌, List, ◌++◌, refl, ap, sym, ◌∙◌, subst, arith}
+use Rattle.std.proofs.Common.{◌≡◌, ℕ, ◌<◌, ◌≤◌, List, ◌++◌, refl, ap, sym, ◌∙◌, arith}
 use Rattle.sixel_base.specs.Decoder.{origin_of}
-use Rattle.sixel_base.specs.OneShot.{Found, Payload, NoPayload, IsFoundImage}
-use Rattle.sixel_base.specs.Clip.{clipped_width}
-use Rattle.sixel_base.specs.History.{History}
+use Rattle.sixel_base.specs.OneShot.{Found, IsFoundImage}
 use Rattle.sixel_base.specs.Limits.{Limit}
-use Rattle.sixel_base.specs.Payload.{Image, image_height, tokens}
+use Rattle.sixel_base.specs.Payload.{Image}
 use Rattle.sixel_base.specs.Picture.{picture}
-use Rattle.sixel_base.specs.Stroke.{Origin}
 use Rattle.sixel_base.specs.declared.state.DecoderState.{DecoderState}
 use Rattle.sixel_decoder.specs.FinalRows.{found_pixel, payload_final_rows, stage_final_rows}
 use Rattle.sixel_decoder.proofs.Clips.{clipped_picture}
@@ -17,12 +14,11 @@ use Rattle.sixel_decoder.proofs.FinalRows.{dcs_final_rows_stay, has_begun}
 use Rattle.sixel_decoder.proofs.Terminators.{stage_reading}
 use Rattle.icy_sixel.specs.FinalRows.{final_rows, pixel_so_far}
 use Rattle.icy_sixel.specs.Receiver.{Form, Nothing, OfPayload, OfString}
+use Rattle.std.proofs.lemmas.Bool.Decides.{nat_tests}
 
 pub rows_stay : (limit : Limit) (form : Form) (bytes more : List ℕ)
     → final_rows limit form bytes ≤ final_rows limit form (bytes ++ more)
-rows_stay limit Nothing bytes more = omega arith
-rows_stay limit (OfPayload settings) bytes more = final_rows_stay limit bytes more
-rows_stay limit OfString bytes more = dcs_final_rows_stay limit bytes more
+rows_stay limit form bytes more = grind (arith, nat_tests, final_rows_stay, dcs_final_rows_stay)
 
 pub pixels_stay : (start : DecoderState) (form : Form) (bytes more : List ℕ) (column row : ℕ)
     → row < final_rows start.pixel_limit form bytes
@@ -46,11 +42,4 @@ pixels_stay start OfString bytes more column row final =
 pub image_pixels : (start : DecoderState) (payload : Found) (image : Image)
     → IsFoundImage start payload image
     → image.pixels ≡ picture (found_pixel start payload) image.width image.height
-image_pixels start (Payload settings bytes) image is =
-    let origin : Origin = origin_of start settings in
-    let h : History = tokens start.pixel_limit bytes in
-    subst (λ (i : Image).
-    i.pixels ≡ picture (found_pixel start (Payload settings bytes)) i.width i.height) (sym is)
-    (sym (clipped_picture origin h (clipped_width start.pixel_limit h)
-    (image_height start.pixel_limit start.raster_crop h) (omega arith) (omega arith)))
-image_pixels start (NoPayload fault) image is = absurd is
+image_pixels start payload image is = grind (arith, nat_tests, clipped_picture)

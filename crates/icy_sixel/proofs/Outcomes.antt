@@ -1,28 +1,26 @@
 -- What a step comes to, by what the calls that it makes ensure.
-use Rattle.std.proofs.Common.{◌≡◌, ℕ, ◌++◌, true, false, List, refl, ap, sym, ◌∙◌, subst, inl, inr}
+use Rattle.std.proofs.Common.{◌≡◌, ℕ, ◌++◌, List, sym, ◌∙◌, subst}
 use Rattle.std.proofs.lemmas.List.{append-nil}
-use Rattle.std.proofs.Common.{Option, Some, None}
+use Rattle.std.proofs.Common.{Some, None}
 use Rattle.std.specs.Prelude.{Bool, IsTrue, nat_lt, ◌||◌, if◌then◌else◌, is_none, Result, Ok, Err}
 use Rattle.std.specs.Prelude.{MatchResult, IfOk, IfErr, OnOk, OnErr}
-use Rattle.std.specs.Option.{option_or}
 use Rattle.sixel_base.specs.declared.error.SixelError.{SixelError}
-use Rattle.sixel_base.specs.Fault.{Fault, Faults, Incomplete}
+use Rattle.sixel_base.specs.Fault.{Faults, Incomplete}
 use Rattle.sixel_base.specs.Decoder.{IsSetAs, origin_of}
 use Rattle.sixel_base.specs.declared.state.DecoderState.{DecoderState}
 use Rattle.sixel_base.specs.History.{history_of}
-use Rattle.sixel_base.specs.Payload.{Image, image_of, payload_fault}
+use Rattle.sixel_base.specs.Payload.{Image, image_of}
 use Rattle.sixel_base.specs.Lenient.{effective}
 use Rattle.sixel_base.specs.Stroke.{registers}
-use Rattle.sixel_base.specs.Dcs.{can_finish, dcs_status, dcs_fault, dcs_growths, has_ended}
-use Rattle.sixel_base.specs.Dcs as strings
+use Rattle.sixel_base.specs.Dcs.{dcs_status, has_ended}
 use Rattle.sixel_base.specs.OneShot.{Found, IsDecodedAs, IsFoundImage, AreFoundRegisters}
 use Rattle.sixel_base.specs.Limits.{Limit}
 use Rattle.sixel_base.specs.OneShot as one_shot
 use Rattle.icy_sixel.specs.declared.script.End.{End}
-use Rattle.icy_sixel.specs.declared.script.End.TheVariants.{Finish, Abort}
+use Rattle.icy_sixel.specs.declared.script.End.TheVariants.{Finish}
 use Rattle.icy_sixel.specs.declared.script.Outcome.{Outcome}
 use Rattle.icy_sixel.specs.declared.script.Outcome.TheVariants.{Failed, Finished, Decoded}
-use Rattle.icy_sixel.specs.declared.script.Status.{Status}
+use Rattle.sixel_decoder.specs.declared.received.Status.{Status}
 use Rattle.icy_sixel.specs.declared.sixel_image.SixelImage.{SixelImage}
 use Rattle.icy_sixel.specs.ImageView.{image_value}
 use Rattle.icy_sixel.specs.Receiver.{Form, Nothing, OfPayload, OfString, fault, growths, found}
@@ -34,6 +32,8 @@ use Rattle.sixel_decoder.specs.OneShotCalls.{IsDecoded}
 use Rattle.sixel_decoder.proofs.ParserSteps.{Faults-along}
 use Rattle.sixel_decoder.proofs.PayloadFaults.{or_right, payload_refused}
 use Rattle.icy_sixel.proofs.Chunks.{same, front_whole}
+use Rattle.std.proofs.Common.{arith}
+use Rattle.std.proofs.lemmas.Bool.Decides.{nat_tests}
 
 -- ---- a session that is rejected as it is fed
 
@@ -42,39 +42,16 @@ fed_fails : (e : SixelError) (limit : Limit) (form : Form) (bytes : List ℕ)
     → Faults e (nat_lt 0 (growths form bytes)) (fault limit form bytes)
     → Faults e (is_none (whole_fault limit form bytes) || nat_lt 0 (growths form bytes))
     (whole_fault limit form bytes)
-fed_fails e limit Nothing bytes refused =
-    Faults-along e (nat_lt 0 0) (nat_lt 0 0) None (whole_fault limit Nothing bytes) (λ may. may)
-    (λ f is. absurd cc) refused
-fed_fails e limit (OfPayload settings) bytes refused = payload_refused e limit bytes refused
-fed_fails e limit OfString bytes refused =
-    let grows : Bool = nat_lt 0 (dcs_growths bytes) in
-    let wrong : Option Fault = whole_fault limit OfString bytes in
-    Faults-along e grows (is_none wrong || grows) (dcs_fault limit bytes) wrong
-    (or_right (is_none wrong) grows)
-    (λ f is. ap (λ w. option_or w (strings.end_fault limit bytes)) is) refused
+fed_fails e limit form bytes refused = grind (arith, Faults-along, payload_refused, or_right)
 
 pub fails : (e : SixelError) (before after : DecoderState) (form : Form) (bytes : List ℕ)
     (ending : End)
     → Faults e (nat_lt 0 (growths form bytes)) (fault before.pixel_limit form bytes)
     → after ≡ before
     → IsSessionOutcome before (meaning before.pixel_limit form bytes) ending (Failed e) after
-fails e before after form bytes Finish refused kept = (
-  fed_fails e before.pixel_limit form bytes refused,
-  kept,
-)
-fails e before after form bytes Abort refused kept = (refused, kept)
+fails e before after form bytes ending refused kept = grind (arith, nat_tests, fed_fails)
 
 -- ---- a session that is finished
-
-or_left : (a b : Bool) → IsTrue a → IsTrue (a || b)
-or_left true b is = refl
-or_left false b is = absurd cc
-
--- an image is allocated where a sequence has ended
-ended_wants : (ended grows : Bool) → IsTrue ended
-    → IsTrue (is_none (if ended then None else Some Incomplete) || grows)
-ended_wants true grows is = refl
-ended_wants false grows is = absurd cc
 
 -- what is rejected as it is finished, though no feed was
 end_fails : (e : SixelError) (limit : Limit) (form : Form) (bytes : List ℕ)
@@ -82,45 +59,17 @@ end_fails : (e : SixelError) (limit : Limit) (form : Form) (bytes : List ℕ)
     → Faults e (end_wants limit form bytes) (end_fault limit form bytes)
     → Faults e (is_none (whole_fault limit form bytes) || nat_lt 0 (growths form bytes))
     (whole_fault limit form bytes)
-end_fails e limit Nothing bytes sound refused =
-    Faults-along e false (nat_lt 0 0) (end_fault limit Nothing bytes)
-    (whole_fault limit Nothing bytes) (λ may. absurd cc) (λ f is. is) refused
-end_fails e limit (OfPayload settings) bytes sound refused =
-    let wrong : Option Fault = payload_fault limit bytes in
-    let grows : Bool = nat_lt 0 (growths (OfPayload settings) bytes) in
-    Faults-along e (is_none wrong) (is_none wrong || grows) wrong wrong
-    (or_left (is_none wrong) grows) (λ f is. is) refused
-end_fails e limit OfString bytes sound refused =
-    let grows : Bool = nat_lt 0 (dcs_growths bytes) in
-    let wrong : Option Fault = strings.end_fault limit bytes in
-    let may : Faults e (is_none wrong || grows) wrong =
-    Faults-along e (can_finish limit bytes) (is_none wrong || grows) wrong wrong
-    (ended_wants (can_finish limit bytes) grows) (λ f is. is) refused in
-    subst
-    (λ (w : Option Fault). Faults e (is_none (option_or w wrong) || grows) (option_or w wrong))
-    (sym sound) may
+end_fails e limit form bytes sound refused = grind (arith, nat_tests)
 
 -- what is finished is sound
 end_sound : (limit : Limit) (form : Form) (bytes : List ℕ) → fault limit form bytes ≡ None
     → end_fault limit form bytes ≡ None → whole_fault limit form bytes ≡ None
-end_sound limit Nothing bytes sound ends = ends
-end_sound limit (OfPayload settings) bytes sound ends = ends
-end_sound limit OfString bytes sound ends =
-    ap (λ w. option_or w (strings.end_fault limit bytes)) sound ∙ ends
+end_sound limit form bytes sound ends = grind (arith, nat_tests)
 
 -- what follows the bytes fed of a DCS sequence that has ended makes up all bytes
 followed_whole : (fed bytes : List ℕ) (whole : IsWhole OfString fed bytes)
     → (if has_ended (dcs_status fed) then fed ++ whole.left else fed) ≡ bytes
-followed_whole fed bytes whole =
-    elim whole.over [
-      | inl none ↦
-          elim (has_ended (dcs_status fed)) as
-          (λ t. (if t then fed ++ whole.left else fed) ≡ bytes) [
-            | true ↦ whole.joined
-            | false ↦ sym (append-nil fed) ∙ ap (λ w. fed ++ w) (sym none) ∙ whole.joined
-          ]
-      | inr over ↦ ap (λ t. if t then fed ++ whole.left else fed) over ∙ whole.joined
-    ]
+followed_whole fed bytes whole = grind (arith, append-nil)
 
 -- the image and the registers of what was fed are those of all bytes
 drawn_whole : (before : DecoderState) (form : Form) (fed bytes : List ℕ) (image : Image)
@@ -188,8 +137,4 @@ pub decodes : (answer : Result SixelImage SixelError) (outcome : Outcome)
     → IsDecoded image_value before payload answer
     → OnOk answer (AreFoundRegisters before payload after.registers)
     → IsSetAs before after → OnErr answer (after ≡ before) → IsDecoding before payload outcome after
-decodes (Ok image) outcome before after payload is decoded defined set kept =
-    subst (λ (o : Outcome). IsDecoding before payload o after)
-    (sym is) (decoded.faultless, decoded.image, defined, set)
-decodes (Err e) outcome before after payload is decoded defined set kept =
-    subst (λ (o : Outcome). IsDecoding before payload o after) (sym is) (decoded.refused, kept)
+decodes answer outcome before after payload is decoded defined set kept = grind (arith, nat_tests)

@@ -1,9 +1,10 @@
 -- Registers that are set one after the other.
-use Rattle.std.proofs.Common.{◌≡◌, ℕ, suc, ◌+◌, ◌<◌, ◌≤◌, List, [], ◌∷◌, length, get_or, set, drop}
-use Rattle.std.proofs.Common.{refl, ap, sym, ◌∙◌, ◌⊎◌, inl, inr, arith}
+use Rattle.std.proofs.Common.{◌≡◌, ℕ, ◌+◌, ◌<◌, ◌≤◌, List, [], ◌∷◌, length, get_or, set, drop}
+use Rattle.std.proofs.Common.{refl, ap, ◌∙◌, ◌⊎◌, arith}
 use Rattle.std.proofs.lemmas.List.{drop_all}
 use Rattle.std.proofs.Math.Seq.{drop-cons, set_out}
 use Rattle.icy_sixel.specs.Registers.{with_colors}
+use Rattle.std.proofs.lemmas.Bool.Decides.{nat_tests}
 
 -- colors after the last register have no effect
 pub with_colors-past : (registers : List (List ℕ)) (first : ℕ) (colors : List (List ℕ))
@@ -21,23 +22,11 @@ pub with_colors-next : (registers : List (List ℕ)) (first place at : ℕ) (col
     ≡ with_colors (set registers at (get_or colors place [])) (first + (place + 1))
     (drop (place + 1) colors)
 unfolding with_colors
-with_colors-next registers first place at colors there inside =
-    let color = get_or colors place [] in
-    let after : suc place ≡ place + 1 = omega arith in
-    let next : first + place + 1 ≡ first + (place + 1) = omega arith in
-    ap (with_colors registers (first + place)) (drop-cons colors place [] inside)
-    ∙ ap (λ number. with_colors (set registers number color) (first + place + 1)
-    (drop (suc place) colors)) (sym there)
-    ∙ ap (λ number. with_colors (set registers at color) number (drop (suc place) colors)) next
-    ∙ ap (λ count. with_colors (set registers at color) (first + (place + 1)) (drop count colors))
-    after
+with_colors-next registers first place at colors there inside = grind (arith, nat_tests, drop-cons)
 
 -- nothing is left to set after as many colors as there are, or as there are registers
 pub with_colors-done : (registers : List (List ℕ)) (first place : ℕ) (colors : List (List ℕ))
     → (length registers ≤ first + place) ⊎ (length colors ≤ place)
     → with_colors registers (first + place) (drop place colors) ≡ registers
 unfolding with_colors
-with_colors-done registers first place colors (inl past) =
-    with_colors-past registers (first + place) (drop place colors) past
-with_colors-done registers first place colors (inr all) =
-    ap (with_colors registers (first + place)) (drop_all place colors all)
+with_colors-done registers first place colors h = grind (arith, with_colors-past, drop_all)

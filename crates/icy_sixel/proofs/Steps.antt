@@ -1,19 +1,17 @@
 -- A run of steps goes on with one step more.
-use Rattle.std.proofs.Common.{List, [], ◌∷◌, ◌++◌, refl, subst}
+use Rattle.std.proofs.Common.{List, [], ◌∷◌, ◌++◌}
 use Rattle.sixel_base.specs.declared.state.DecoderState.{DecoderState}
 use Rattle.icy_sixel.specs.declared.script.Step.{Step}
 use Rattle.icy_sixel.specs.declared.script.Outcome.{Outcome}
 use Rattle.icy_sixel.specs.Script.{IsOutcome, AreOutcomes}
+use Rattle.std.proofs.Common.{arith}
+use Rattle.std.proofs.lemmas.Bool.Decides.{nat_tests}
 
 pub AreOutcomes-push : (before between after : DecoderState) (steps : List Step)
     (outcomes : List Outcome) (step : Step) (outcome : Outcome)
     → AreOutcomes before steps outcomes between → IsOutcome between step outcome after
     → AreOutcomes before (steps ++ step ∷ []) (outcomes ++ outcome ∷ []) after
-AreOutcomes-push before between after [] [] step outcome are is = (
-  after,
-  subst (λ (w : DecoderState). IsOutcome w step outcome after) are is,
-  refl,
-)
+AreOutcomes-push before between after [] [] step outcome are is = grind (arith, nat_tests)
 AreOutcomes-push before between after [] (o ∷ outcomes) step outcome are is = absurd are
 AreOutcomes-push before between after (s ∷ steps) [] step outcome are is = absurd are
 AreOutcomes-push before between after (s ∷ steps) (o ∷ outcomes) step outcome are is =

@@ -1,6 +1,6 @@
 -- Without a clip the error, the size and the painted area are those of the whole picture.
 use Rattle.std.proofs.Common.{◌≡◌, ℕ, suc, zero, ◌+◌, ◌*◌, ◌≤◌, ◌<◌, Bool, true, false, cond, []}
-use Rattle.std.proofs.Common.{◌∷◌, ap, refl, subst, ◌∙◌, Option, Some, None, min, max, arith}
+use Rattle.std.proofs.Common.{◌∷◌, ap, refl, ◌∙◌, Option, Some, None, min, max, arith}
 use Rattle.std.specs.Prelude.{nat_le, nat_lt, ◌&&◌, ◌||◌}
 use Rattle.std.specs.Option.{option_or}
 use Rattle.std.proofs.lemmas.Bool.Decides.{nat_tests}
@@ -33,15 +33,12 @@ size_whole decoder h none faultless =
 
 -- the first of two faults
 either : (a b f g : Option Fault) → a ≡ b → (a ≡ None → f ≡ g) → option_or a f ≡ option_or b g
-either None b f g same then = subst (λ x. f ≡ option_or x g) same (then refl)
-either (Some fault) b f g same then =
-    subst (λ x. option_or (Some fault) f ≡ option_or x g) same refl
+either a b f g same then = grind (arith, nat_tests)
 
 -- a test before two faults
 tested : (t : Bool) (fault f g : Option Fault) → (t ≡ false → f ≡ g)
     → cond t fault f ≡ cond t fault g
-tested true fault f g same = refl
-tested false fault f g same = same refl
+tested t fault f g same = grind (arith, nat_tests)
 
 extent_whole : (limit : Limit) (right lower : ℕ) (h : History) → side_limit ≤ limit.columns
     → side_limit ≤ limit.rows
@@ -62,9 +59,7 @@ alike : (limit : Limit) (token : Token) (h : History)
     → first_fault limit h ≡ whole_first_fault limit.pixels h
     → fault_of limit token h ≡ whole_fault_of limit.pixels token h
     → first_fault limit (token ∷ h) ≡ whole_first_fault limit.pixels (token ∷ h)
-alike limit token h before here =
-    either (first_fault limit h) (whole_first_fault limit.pixels h) (fault_of limit token h)
-    (whole_fault_of limit.pixels token h) before (λ _. here)
+alike limit token h before here = grind (arith, nat_tests)
 
 first_whole : (limit : Limit) (h : History) → side_limit ≤ limit.columns
     → side_limit ≤ limit.rows → first_fault limit h ≡ whole_first_fault limit.pixels h
@@ -87,8 +82,7 @@ first_whole limit (Repeat text ∷ h) columns rows =
     alike limit (Repeat text) h (first_whole limit h columns rows) refl
 first_whole limit (Color text ∷ h) columns rows =
     alike limit (Color text) h (first_whole limit h columns rows) refl
-first_whole limit (Return ∷ h) columns rows =
-    alike limit Return h (first_whole limit h columns rows) refl
+first_whole limit (Return ∷ h) columns rows = grind (arith, alike, first_whole limit h columns rows)
 first_whole limit (Newline ∷ h) columns rows =
     alike limit Newline h (first_whole limit h columns rows) refl
 first_whole limit (Skip byte ∷ h) columns rows =
@@ -161,6 +155,4 @@ total_same f g (suc n) same = omega (arith, total_same f g n same, same n)
 pub area_whole : (decoder : DecoderState) (h : History) → HasNoClip decoder
     → first_fault decoder.pixel_limit h ≡ None
     → reached_area decoder.pixel_limit h ≡ whole_reached_area h
-area_whole decoder h none faultless =
-    total_same (row_reach decoder.pixel_limit h) (whole_row_reach h) (height h)
-    (λ row. reach_whole decoder.pixel_limit h row none.columns none.rows faultless)
+area_whole decoder h none faultless = grind (arith, nat_tests, total_same, reach_whole)

@@ -6,11 +6,11 @@ use Rattle.icy_sixel.specs.FinalRows.{rows_so_far}
 use Rattle.icy_sixel.specs.Receiver.{Receiver, has_ended}
 use Rattle.icy_sixel.specs.ReceiverCalls.{IsFed}
 use Rattle.icy_sixel.specs.declared.receiver.FailedFeed.{FailedFeed}
-use Rattle.icy_sixel.specs.declared.receiver.Received.{Received}
+use Rattle.sixel_decoder.specs.declared.received.Received.{Received}
 use Rattle.icy_sixel.specs.declared.receiver.rows.BandStatus.{BandStatus}
 use Rattle.icy_sixel.specs.declared.receiver.rows.BandStatus.TheVariants.{Rows, Image}
 use Rattle.icy_sixel.specs.declared.receiver.rows.ReceivedBand.{ReceivedBand}
-use Rattle.icy_sixel.specs.declared.script.Status.{Status}
+use Rattle.sixel_decoder.specs.declared.received.Status.{Status}
 
 -- the bytes up to and with the first graphics new line, or all
 abbrev pub band_of : List ℕ → List ℕ

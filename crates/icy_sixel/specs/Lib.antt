@@ -2,6 +2,7 @@ pub mod Bands
 pub mod ClippedImages
 pub mod FinalRows
 pub mod ImageView
+pub mod Lending
 pub mod Script
 pub mod ReceivedImages
 pub mod Receiver

@@ -14,8 +14,8 @@ use Rattle.icy_sixel.specs.declared.script.End.{End}
 use Rattle.icy_sixel.specs.declared.script.End.TheVariants.{Finish, Abort}
 use Rattle.icy_sixel.specs.declared.script.Step.{Step}
 use Rattle.icy_sixel.specs.declared.script.Step.TheVariants as steps
-use Rattle.icy_sixel.specs.declared.script.Status.{Status}
-use Rattle.icy_sixel.specs.declared.script.Status.TheVariants as statuses
+use Rattle.sixel_decoder.specs.declared.received.Status.{Status}
+use Rattle.sixel_decoder.specs.declared.received.Status.TheVariants as statuses
 use Rattle.icy_sixel.specs.declared.script.Outcome.{Outcome}
 use Rattle.icy_sixel.specs.declared.script.Outcome.TheVariants.{Reset, Changed, Failed, Finished}
 use Rattle.icy_sixel.specs.declared.script.Outcome.TheVariants.{Aborted, Decoded}

@@ -32,6 +32,7 @@ use sixel_base::state::DecoderState;
 pub use sixel_base::status::{
     SixelDcsFeedResult, SixelDcsFeedStatus, SixelFeedResult, SixelFeedStatus,
 };
+use sixel_decoder::{DcsReader, PayloadReader};
 use std::alloc::Global;
 use std::marker::Model;
 pub use stream::SixelStreamDecoder;
@@ -267,7 +268,11 @@ impl SixelDecoder {
         ensures session { IfOk result
             (λ session. payload session ≡ begun (origin_of self.old settings)) }
     {
-        Ok(SixelStreamDecoder::begin(alloc, self, settings))
+        let state = self.state;
+        Ok(SixelStreamDecoder {
+            owner: self,
+            reader: PayloadReader::new(alloc, state, settings),
+        })
     }
 
     /// Begins a DCS sequence that is decoded in chunks, from its introducer to its end.
@@ -288,7 +293,11 @@ impl SixelDecoder {
         ensures registers { (sequence_owner result).now ≡ self.old }
         ensures session { sequence result ≡ begun_dcs self.old }
     {
-        SixelDcsStreamDecoder::begin(alloc, self)
+        let state = self.state;
+        SixelDcsStreamDecoder {
+            owner: self,
+            reader: DcsReader::new(alloc, state),
+        }
     }
 
     /// Decodes one payload: the data between a DCS sequence's `q` and its terminator.

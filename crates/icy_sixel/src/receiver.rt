@@ -20,8 +20,7 @@ mod rows;
 mod settings;
 
 use crate::decoder::{
-    DcsSettings, SixelDcsFeedResult, SixelDcsFeedStatus, SixelDecoder, SixelFeedResult,
-    SixelFeedStatus,
+    DcsSettings, SixelDcsFeedResult, SixelDcsFeedStatus, SixelDecoder, SixelFeedStatus,
 };
 use crate::script::Status;
 use crate::sixel_image::SixelImage;
@@ -29,19 +28,11 @@ pub use received_image::{Height, ReceivedImage};
 pub use rows::{BandStatus, ReceivedBand, band_len, stable_rows};
 use sixel_base::{Result, SixelError};
 use sixel_canvas::band_canvas::BandCanvas;
+pub use sixel_decoder::Received;
 use sixel_decoder::{DcsReader, PayloadReader, SequenceEnd, payload_end};
 use std::alloc::Global;
 use std::marker::Model;
 use std::{mem, result};
-
-/// What a feed of a receiver did.
-#[derive(Clone, Copy, Debug, PartialEq, Eq)]
-pub struct Received {
-    /// How many bytes of the chunk belong to the image.
-    pub consumed: usize,
-    /// What the caller does next, as a session of that form returns it.
-    pub status: Status,
-}
 
 /// Why a feed of a receiver failed, and what it did all the same.
 #[derive(Debug, PartialEq, Eq, Drop)]
@@ -78,11 +69,12 @@ enum Open {
 /// [`finish`](Self::finish).
 ///
 /// ```rust
-/// let mut receiver = SixelReceiver::new();
-/// receiver.set_register(0, background);
-/// receiver.set_pixel_limit(width.saturating_mul(height));
-/// receiver.set_clip(width, usize::MAX);
-/// receiver.set_raster_crop(true);
+/// let mut decoder = SixelDecoder::new();
+/// decoder.set_register(0, background);
+/// decoder.set_pixel_limit(width.saturating_mul(height));
+/// decoder.set_clip(width, usize::MAX);
+/// decoder.set_raster_crop(true);
+/// let receiver = SixelReceiver::with_decoder(decoder);
 /// ```
 ///
 /// [`SixelStreamDecoder`]: crate::SixelStreamDecoder
@@ -189,7 +181,7 @@ impl SixelReceiver {
             Open::Payload(reader) => {
                 let terminator = reader.terminator();
                 match reader.feed(piece) {
-                    Ok(fed) => Ok(of_payload(fed)),
+                    Ok(fed) => Ok(Received::of_payload(fed)),
                     Err(error) => {
                         let fed = payload_end(terminator, piece);
                         Err(FailedFeed {
@@ -203,7 +195,7 @@ impl SixelReceiver {
             Open::ControlString(reader) => {
                 let end = reader.end();
                 match reader.feed(piece) {
-                    Ok(fed) => Ok(of_string(fed)),
+                    Ok(fed) => Ok(Received::of_sequence(fed)),
                     Err(error) => {
                         let fed = string_end(end, piece);
                         Err(FailedFeed {
@@ -316,32 +308,6 @@ fn string_end(end: SequenceEnd, piece: &[u8]) -> SixelDcsFeedResult
 {
     let mut now = end;
     now.add(piece)
-}
-
-/// Converts the result of feeding a payload.
-fn of_payload(fed: SixelFeedResult) -> Received
-    ensures { result ≡ record {
-      consumed = fed.consumed;
-      status = Status.Payload fed.status;
-    } }
-{
-    Received {
-        consumed: fed.consumed,
-        status: Status::Payload(fed.status),
-    }
-}
-
-/// Converts the result of feeding a DCS sequence.
-fn of_string(fed: SixelDcsFeedResult) -> Received
-    ensures { result ≡ record {
-      consumed = fed.consumed;
-      status = Status.Dcs fed.status;
-    } }
-{
-    Received {
-        consumed: fed.consumed,
-        status: Status::Dcs(fed.status),
-    }
 }
 
 impl Default for SixelReceiver {

@@ -5,20 +5,17 @@
 ghost use Rattle.std.specs.Prelude.{◌≡◌, ◌≤◌, [], length, vec_len, vec_capacity};
 ghost use Rattle.std.specs.Prelude.{OnErr, IfOk, IfErr, MatchResult};
 ghost use Rattle.sixel_base.specs.declared.error.SixelError.TheVariants.{OutOfMemory};
-ghost use Rattle.sixel_base.specs.Color.{default_registers};
-ghost use Rattle.sixel_base.specs.Decoder.{with_clip, with_pixel_limit};
-ghost use Rattle.sixel_base.specs.OneShot.{found, Payload};
-ghost use Rattle.icy_sixel.specs.Receiver.{has_ended};
-ghost use Rattle.icy_sixel.specs.Script.{AreOutcomes, IsOutcome, IsDecoding, IsSessionOutcome};
+ghost use Rattle.icy_sixel.specs.Script.{AreOutcomes, IsOutcome, IsSessionOutcome};
 ghost use Rattle.icy_sixel.specs.Script.{frame_meaning, string_meaning};
 
 mod session;
 
-use crate::decoder::{DcsSettings, SixelDcsFeedStatus, SixelDecoder, SixelFeedStatus};
+use crate::decoder::{DcsSettings, SixelDecoder};
 use crate::receiver::SixelReceiver;
 use crate::sixel_image::SixelImage;
 use session::Session;
 use sixel_base::{Result, SixelError};
+pub use sixel_decoder::Status;
 use std::alloc::Global;
 
 /// How a session ends after its bytes are fed.
@@ -65,27 +62,6 @@ pub enum Step<'a> {
     Decode(&'a [u8]),
     /// Decodes a payload in one call, as by [`SixelDecoder::decode_from_dcs`].
     DecodeFromDcs(&'a [u8], DcsSettings),
-}
-
-/// The last status of a session.
-#[derive(Clone, Copy, Debug, PartialEq, Eq)]
-pub enum Status {
-    /// The status of a payload.
-    Payload(SixelFeedStatus),
-    /// The status of a DCS sequence.
-    Dcs(SixelDcsFeedStatus),
-}
-
-impl Status {
-    /// Whether the image has ended, and no later byte belongs to it.
-    pub fn has_ended(self) -> bool
-        ensures { result ≡ has_ended self }
-    {
-        match self {
-            Self::Payload(status) => status.terminator().is_some(),
-            Self::Dcs(status) => status.has_ended(),
-        }
-    }
 }
 
 /// The outcome of a step.
@@ -172,10 +148,22 @@ fn take_step(alloc: Global, decoder: &mut SixelDecoder, step: &Step<'_>) -> Outc
     ensures { IsOutcome decoder.old step.now result decoder.new }
 {
     match step {
-        Step::Reset => reset(decoder),
-        Step::RasterCrop(on) => set_crop(decoder, *on),
-        Step::PixelLimit(pixels) => set_limit(decoder, *pixels),
-        Step::Clip { width, height } => set_clip(decoder, *width, *height),
+        Step::Reset => {
+            decoder.reset_palette();
+            Outcome::Reset
+        }
+        Step::RasterCrop(on) => {
+            decoder.set_raster_crop(*on);
+            Outcome::Changed
+        }
+        Step::PixelLimit(pixels) => {
+            decoder.set_pixel_limit(*pixels);
+            Outcome::Changed
+        }
+        Step::Clip { width, height } => {
+            decoder.set_clip(*width, *height);
+            Outcome::Changed
+        }
         Step::Frame {
             settings,
             bytes,
@@ -193,45 +181,11 @@ fn take_step(alloc: Global, decoder: &mut SixelDecoder, step: &Step<'_>) -> Outc
             let session = Session::new(bytes, cuts, *ending);
             play_dcs(alloc, decoder, &session)
         }
-        Step::Decode(bytes) => decode(alloc, decoder, bytes),
-        Step::DecodeFromDcs(bytes, settings) => decode_payload(alloc, decoder, bytes, *settings),
+        Step::Decode(bytes) => decoded(decoder.decode(alloc, bytes)),
+        Step::DecodeFromDcs(bytes, settings) => {
+            decoded(decoder.decode_from_dcs(alloc, bytes, *settings))
+        }
     }
-}
-
-/// Resets the registers.
-fn reset(decoder: &mut SixelDecoder) -> Outcome
-    ensures outcome { result ≡ Outcome.Reset }
-    ensures decoder { decoder.new ≡ record decoder.old { registers = default_registers } }
-{
-    decoder.reset_palette();
-    Outcome::Reset
-}
-
-/// Sets whether images are cropped.
-fn set_crop(decoder: &mut SixelDecoder, on: bool) -> Outcome
-    ensures outcome { result ≡ Outcome.Changed }
-    ensures decoder { decoder.new ≡ record decoder.old { raster_crop = on } }
-{
-    decoder.set_raster_crop(on);
-    Outcome::Changed
-}
-
-/// Sets how many pixels an image may have.
-fn set_limit(decoder: &mut SixelDecoder, pixels: usize) -> Outcome
-    ensures outcome { result ≡ Outcome.Changed }
-    ensures decoder { decoder.new ≡ with_pixel_limit decoder.old pixels }
-{
-    decoder.set_pixel_limit(pixels);
-    Outcome::Changed
-}
-
-/// Sets the columns and rows that an image may have.
-fn set_clip(decoder: &mut SixelDecoder, width: usize, height: usize) -> Outcome
-    ensures outcome { result ≡ Outcome.Changed }
-    ensures decoder { decoder.new ≡ with_clip decoder.old width height }
-{
-    decoder.set_clip(width, height);
-    Outcome::Changed
 }
 
 /// Plays the session of a payload.
@@ -263,25 +217,6 @@ fn play_dcs(alloc: Global, decoder: &mut SixelDecoder, session: &Session<'_>) ->
     });
     receiver.begin_dcs(alloc);
     session.play(receiver, decoder)
-}
-
-/// Decodes the first DCS sequence in the bytes, or all of them as a payload.
-fn decode(alloc: Global, decoder: &mut SixelDecoder, bytes: &[u8]) -> Outcome
-    ensures { IsDecoding decoder.old (found bytes.now) result decoder.new }
-{
-    decoded(decoder.decode(alloc, bytes))
-}
-
-/// Decodes a payload.
-fn decode_payload(
-    alloc: Global,
-    decoder: &mut SixelDecoder,
-    bytes: &[u8],
-    settings: DcsSettings,
-) -> Outcome
-    ensures { IsDecoding decoder.old (Payload settings bytes.now) result decoder.new }
-{
-    decoded(decoder.decode_from_dcs(alloc, bytes, settings))
 }
 
 /// The outcome of decoding in one call: the image, or the error.

@@ -2,7 +2,7 @@
 use mir.Syntax.{impl, tnil, dnil}
 use mathlib.Core.Path.{refl}
 use mathlib.Core.List.{[]}
-use mathlib.Core.Bool.{Bool, true, false, ◌&&◌}
+use mathlib.Core.Bool.{Bool, ◌&&◌}
 use lib.Dec.{T}
 use denote.Signature.{Slot, plain}
 use denote.Builtin.{u8}
@@ -14,6 +14,8 @@ use Rattle.std_alloc.proofs.VecSteps.El.{El}
 use Rattle.std_heap.specs.contracts.Global as Heap
 use Rattle.std_heap.specs.contracts.GlobalAllocator.TheImpl.{ghosts, dict}
 use Rattle.std_heap.proofs.Global.TheLaws as heap
+use Rattle.std.proofs.Common.{arith}
+use Rattle.std.proofs.lemmas.Bool.Decides.{nat_tests}
 
 abbrev pub E : El
 E = record {
@@ -33,5 +35,4 @@ FromHeap = plain (λ _. Heap.the_row)
 
 -- a machine value of several fields has its type where each of them has
 pub both : (y z : Bool) → T y → T z → T (y && z)
-both true z s t = t
-both false z s t = absurd s
+both y z s t = grind (arith, nat_tests)

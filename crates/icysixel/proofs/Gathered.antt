@@ -1,20 +1,14 @@
 -- Rows that are read from a buffer, one below the other.
-use Rattle.std.proofs.Common.{◌≡◌, ℕ, ◌+◌, ◌-◌, ◌*◌, ◌<◌, ◌≤◌, List, ◌++◌, ap, arith, add-one}
+use Rattle.std.proofs.Common.{◌≡◌, ℕ, ◌+◌, ◌*◌, ◌<◌, ◌≤◌, List, ◌++◌, ap, arith, add-one}
 use Rattle.std.specs.Prelude.{slice_range}
-use Rattle.std.proofs.Math.Nat.{mul_comm}
-use Rattle.std.proofs.lemmas.Nat.{mul-le}
 use Rattle.sixel_base.specs.Picture.{joined}
 use Rattle.icysixel.specs.Rows.{extent, rows_of}
+use Rattle.std.proofs.lemmas.Bool.Decides.{nat_tests}
 
 -- a row lies within what all of them take
 pub row_inside : (stride wide height row : ℕ) → row < height
     → row * stride + wide ≤ extent stride wide height
-row_inside stride wide height row below =
-    omega (
-      arith,
-      mul-le row stride (height - 1) stride (omega arith) (omega arith),
-      mul_comm stride (height - 1),
-    )
+row_inside stride wide height row below = grind (arith, nat_tests)
 
 -- all of them are the rows before the last one, and that one
 pub rows_more : (stride wide n : ℕ) (xs : List ℕ)

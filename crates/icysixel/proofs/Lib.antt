@@ -9,4 +9,3 @@ pub mod Known
 pub mod MissingCommand
 pub mod Stored
 pub mod Witnesses
-pub mod RowsCodes

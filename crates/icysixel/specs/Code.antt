@@ -1,7 +1,7 @@
 -- The numbers that C receives: a code for each cause of an error, and the status of a feed. They
 -- are this library's own, and include/icysixel.h names them. 8 is out of memory, 9 an overflow, and
 -- the codes from 10 on are errors of sizes and data.
-use Rattle.std.specs.Prelude.{◌≡◌, ◌≢◌, ℕ, nat_le, ℤ, pos, negsuc, Bool, IsTrue, if◌then◌else◌, ◌⊎◌}
+use Rattle.std.specs.Prelude.{◌≡◌, ℕ, nat_le, ℤ, pos, negsuc, Bool, IsTrue, if◌then◌else◌, ◌⊎◌}
 use Rattle.std.specs.Prelude.{List, Option, Some, None, IsSomeAnd, codes}
 use Rattle.sixel_base.specs.CallFault.{CallFault, Exactly, ColorCount, IndexRange, RowsNotFinal}
 use Rattle.sixel_base.specs.CallFault.{RowsReleased, ShortStride}
@@ -13,8 +13,8 @@ use Rattle.sixel_base.specs.declared.error.SixelError.{SixelError}
 use Rattle.sixel_base.specs.declared.error.SixelError.TheVariants as error
 use Rattle.sixel_base.specs.declared.status.SixelFeedStatus.TheVariants as payload
 use Rattle.sixel_base.specs.declared.status.SixelDcsFeedStatus.TheVariants as string
-use Rattle.icy_sixel.specs.declared.script.Status.{Status}
-use Rattle.icy_sixel.specs.declared.script.Status.TheVariants.{Payload, Dcs}
+use Rattle.sixel_decoder.specs.declared.received.Status.{Status}
+use Rattle.sixel_decoder.specs.declared.received.Status.TheVariants.{Payload, Dcs}
 
 -- the code of a fault of data
 abbrev pub fault_code : Fault → ℕ
@@ -51,12 +51,6 @@ IsCallCode code IndexRange = code ≡ 21
 IsCallCode code RowsNotFinal = ⊥
 IsCallCode code RowsReleased = ⊥
 IsCallCode code ShortStride = ⊥
-
--- A call with this fault returns its code, or out of memory if it first copies rows. A call with
--- none fails only by out of memory.
-abbrev pub ReturnsBy : Bool → Option CallFault → ℕ → Type 0
-ReturnsBy copies None code = code ≢ 0 → code ≡ 8
-ReturnsBy copies (Some fault) code = IsCallCode code fault ⊎ ((code ≡ 8) × IsTrue copies)
 
 -- a text of an error of invalid data: that of a fault, of a wrong palette or of a wrong index
 abbrev pub IsFaultText : List ℕ → Type 0

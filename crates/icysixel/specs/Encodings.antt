@@ -1,8 +1,11 @@
 -- How C says that an image is encoded, and what the call does that encodes one and stores its text.
 -- The numbers are this library's own, and include/icysixel.h names them.
 use Rattle.std.specs.Prelude.{◌≡◌, ◌≢◌, ◌*◌, ◌<◌, ◌≤◌, ◌==◌, ◌||◌, not, if◌then◌else◌, ℕ, nat_lt}
-use Rattle.std.specs.Prelude.{List, [], length, take, Bool, Option, Some, None, is_some, true}
+use Rattle.std.specs.Prelude.{List, [], length, take, Bool, Option, Some, None, is_some, IsTrue}
+use Rattle.std.specs.Prelude.{◌⊎◌, Result, Err, IfOk, IfErr, IsErrAnd, MatchResult, String}
+use Rattle.std.specs.Prelude.{string_bytes}
 use Rattle.std.specs.Option.{option_or}
+use Rattle.std.specs.declared.alloc.Global.{Global}
 use Rattle.sixel_base.specs.CallFault.{CallFault, color_count_fault}
 use Rattle.sixel_base.specs.Payload.{Image}
 use Rattle.sixel_base.specs.Size.{encode_fault}
@@ -23,9 +26,8 @@ use Rattle.sixel_encoder.specs.declared.form.TextForm.{TextForm}
 use Rattle.sixel_encoder.specs.declared.form.TextForm.TheVariants.{Plain, Compact}
 use Rattle.sixel_encoder.specs.declared.mapping.Mapping.{Mapping}
 use Rattle.sixel_encoder.specs.declared.mapping.Tolerance.TheVariants.{Auto, Squared}
-use Rattle.icysixel.specs.Code.{IsCodeOf, ReturnsBy}
+use Rattle.icysixel.specs.Code.{IsCallCode, IsCodeOf}
 use Rattle.icysixel.specs.Formats.{is_rgba, pixel_len, rgba_pixels}
-use Rattle.icysixel.specs.Kept.{IsImageKept, kept_text}
 use Rattle.icysixel.specs.Rows.{has_gaps, rows_of, stride_of, wanted}
 use Rattle.icysixel.specs.declared.encoding.Dithering.{Dithering}
 use Rattle.icysixel.specs.declared.encoding.Encoding.{Encoding}
@@ -163,34 +165,50 @@ abbrev pub IsRowsText : Encoding → List ℕ → List ℕ → Type 0
 IsRowsText encoding rows text =
     IsTextIn (mode_of encoding) encoding (image_of encoding rows) rows text
 
--- A call encodes these pixels, stores their text and writes the text's length. Its errors are those
--- of the sizes, of the stride, of rows that overflow, of too few pixels, and then of the colors.
+-- as a call with this fault returns: its code, or out of memory if it first copies rows; without a
+-- fault a call fails only by out of memory
+abbrev pub FailsByCode : {X : Type 0} → Bool → Option CallFault → Result X ℕ → Type 0
+FailsByCode copies None result = IfErr result (λ code. code ≡ 8)
+FailsByCode copies (Some fault) result =
+    IsErrAnd result (λ code. IsCallCode code fault ⊎ ((code ≡ 8) × IsTrue copies))
+
+-- These pixels are encoded, or the code is that of an error: of the sizes, of the stride, of rows
+-- that overflow, of too few pixels, and then of the colors.
+pub record IsEncoded (encoding : Encoding) (pixels : List ℕ)
+    (result : Result (String Global) ℕ) : Type 0 where
+  pub sizes : (fault : SixelError) → encode_fault encoding.width encoding.height ≡ Some fault
+      → IsErrAnd result (λ code. IsCodeOf code fault)
+  pub stride : encode_fault encoding.width encoding.height ≡ None
+      → row_stride encoding < row_len encoding → result ≡ Err 7
+  pub overflow : encode_fault encoding.width encoding.height ≡ None
+      → row_len encoding ≤ row_stride encoding → bytes_of encoding ≡ None → result ≡ Err 9
+  pub buffer : (size : ℕ) → encode_fault encoding.width encoding.height ≡ None
+      → bytes_of encoding ≡ Some size → length pixels < size → result ≡ Err 11
+  pub colors : (size : ℕ) → encode_fault encoding.width encoding.height ≡ None
+      → bytes_of encoding ≡ Some size → size ≤ length pixels
+      → FailsByCode (copies encoding) (rows_fault encoding (dense_rows encoding pixels)) result
+  pub refused : IfErr result (λ code. code ≢ 0)
+  pub text : IfOk result (λ text.
+      IsRowsText encoding (dense_rows encoding pixels) (string_bytes text))
+
+-- A text is stored with code 0, and its length written. An error is returned and stores none.
+abbrev pub IsTextStored : Result (String Global) ℕ → Option (String Global) → ℕ → ℕ → ℕ → Type 0
+IsTextStored result stored code old_length new_length =
+    MatchResult result
+    (λ text. (code ≡ 0) × (stored ≡ Some text) × (new_length ≡ length (string_bytes text)))
+    (λ error. (code ≡ error) × (stored ≡ None) × (new_length ≡ old_length))
+
+-- A call encodes these pixels, stores their text and writes the text's length.
+pub record HasEncoded (old new : State) (encoding : Encoding) (pixels : List ℕ)
+    (code old_length new_length : ℕ) : Type 0 where
+  pub result : Result (String Global) ℕ
+  pub encoded : IsEncoded encoding pixels result
+  pub stored : IsTextStored result new.text code old_length new_length
+  pub rest : new ≡ record old { text = new.text }
+
 pub record IsEncodeCall (before after : Option State) (encoding : Encoding) (pixels : List ℕ)
     (code old_length new_length : ℕ) : Type 0 where
   pub handle : is_some after ≡ is_some before
-  pub no_handle : before ≡ None → code ≡ 1
-  pub sizes : (state : State) (error : SixelError) → before ≡ Some state
-      → encode_fault encoding.width encoding.height ≡ Some error → IsCodeOf code error
-  pub bad_stride : (state : State) → before ≡ Some state
-      → encode_fault encoding.width encoding.height ≡ None
-      → row_stride encoding < row_len encoding → code ≡ 7
-  pub overflow : (state : State) → before ≡ Some state
-      → encode_fault encoding.width encoding.height ≡ None
-      → row_len encoding ≤ row_stride encoding → bytes_of encoding ≡ None → code ≡ 9
-  pub buffer : (state : State) (size : ℕ) → before ≡ Some state
-      → encode_fault encoding.width encoding.height ≡ None
-      → bytes_of encoding ≡ Some size → length pixels < size → code ≡ 11
-  pub colors : (state : State) (size : ℕ) → before ≡ Some state
-      → encode_fault encoding.width encoding.height ≡ None
-      → bytes_of encoding ≡ Some size → size ≤ length pixels
-      → ReturnsBy (copies encoding) (rows_fault encoding (dense_rows encoding pixels)) code
-  pub stored : (state : State) → after ≡ Some state → code ≡ 0 → is_some state.text ≡ true
-  pub text : (state : State) (text : List ℕ) → after ≡ Some state → kept_text state ≡ Some text
-      → IsRowsText encoding (dense_rows encoding pixels) text
-  pub text_length : (state : State) (text : List ℕ) → after ≡ Some state
-      → kept_text state ≡ Some text → new_length ≡ length text
-  pub discarded : (state : State) → after ≡ Some state → code ≢ 0 → state.text ≡ None
-  pub same_length : code ≢ 0 → new_length ≡ old_length
-  pub decoder : (old new : State) → before ≡ Some old → after ≡ Some new
-      → new.receiver ≡ old.receiver
-  pub same_image : (old new : State) → before ≡ Some old → after ≡ Some new → IsImageKept old new
+  pub no_handle : before ≡ None → (code ≡ 1) × (new_length ≡ old_length)
+  pub encoded : (old new : State) → before ≡ Some old → after ≡ Some new
+      → HasEncoded old new encoding pixels code old_length new_length

@@ -1,13 +1,16 @@
 -- Where the images of C end: the height that is set, and an image that ends there. The numbers are
 -- this library's own, and include/icysixel.h names them.
-use Rattle.std.specs.Prelude.{ℕ, ◌≡◌, ◌==◌, if◌then◌else◌}
-use Rattle.sixel_base.specs.OneShot.{Found, IsFoundImage}
-use Rattle.sixel_base.specs.declared.state.DecoderState.{DecoderState}
-use Rattle.icy_sixel.specs.ReceivedImages.{IsCropped, found_report, left_value, received_report}
+use Rattle.std.specs.Prelude.{ℕ, ◌≡◌, ◌≢◌, ◌==◌, if◌then◌else◌, Bool, Option, Some, None, Result}
+use Rattle.std.specs.Prelude.{MatchResult}
+use Rattle.sixel_base.specs.declared.error.SixelError.{SixelError}
+use Rattle.icy_sixel.specs.ReceivedImages.{IsCropped}
 use Rattle.icy_sixel.specs.declared.receiver.received_image.Height.{Height}
 use Rattle.icy_sixel.specs.declared.receiver.received_image.Height.TheVariants.{Bands, Raster}
 use Rattle.icy_sixel.specs.declared.receiver.received_image.Height.TheVariants.{Drawn}
 use Rattle.icy_sixel.specs.declared.receiver.received_image.ReceivedImage.{ReceivedImage}
+use Rattle.icysixel.specs.Code.{IsCodeOf}
+use Rattle.icysixel.specs.Shape.{shape_of}
+use Rattle.icysixel.specs.declared.shape.Shape.{Shape}
 
 -- 0 is the end of the last band, 1 the height in raster attributes, and any other number that
 -- height or the last row with a set pixel
@@ -19,16 +22,18 @@ number_of Bands = 0
 number_of Raster = 1
 number_of Drawn = 2
 
--- The image is one of this kind, ended at the height that is set.
-pub record IsEnded (height : Height) (IsWhole : ReceivedImage → Type 0) (image : ReceivedImage)
-    : Type 0 where
-  pub whole : ReceivedImage
-  pub is_whole : IsWhole whole
+-- The stored image is this one, ended at the height that is set, and its properties are reported.
+pub record IsEnded (height : Height) (is_complete : Bool) (whole : ReceivedImage)
+    (stored : Option ReceivedImage) (now : Shape) : Type 0 where
+  pub image : ReceivedImage
+  pub is_stored : stored ≡ Some image
   pub is_cropped : IsCropped whole image height
+  pub shape : now ≡ shape_of image is_complete
 
--- The image is that of a payload, with what is reported of it.
-pub record IsDecodedWhole (decoder : DecoderState) (payload : Found) (image : ReceivedImage)
-    : Type 0 where
-  pub first : image.first_row ≡ 0
-  pub is_image : IsFoundImage decoder payload (left_value image)
-  pub report : received_report image ≡ found_report decoder payload
+-- An image is stored with code 0. Any other code is that of the error, which stores none.
+abbrev pub IsStored : Height → Bool → Result ReceivedImage SixelError → Option ReceivedImage
+    → Shape → ℕ → Type 0
+IsStored height is_complete result stored now code =
+    MatchResult result
+    (λ whole. (code ≡ 0) × IsEnded height is_complete whole stored now)
+    (λ error. (code ≢ 0) × IsCodeOf code error × (stored ≡ None))

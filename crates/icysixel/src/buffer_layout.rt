@@ -1,11 +1,7 @@
 //! How rows lie in a buffer of the caller, and the codes of what is wrong with it.
 
-ghost use Rattle.std.specs.Prelude.{◌≡◌, ◌≢◌, ℕ};
-ghost use Rattle.sixel_base.specs.CallFault.{Exactly, IsCallFault, RowsNotFinal, RowsReleased};
-ghost use Rattle.sixel_base.specs.CallFault.{ShortStride};
-ghost use Rattle.sixel_base.specs.declared.error.SixelError.TheVariants.{BufferSizeMismatch};
-ghost use Rattle.sixel_base.specs.declared.error.SixelError.TheVariants.{IntegerOverflow};
-ghost use Rattle.icysixel.specs.FinalRows.{layout_of, order_of, rows_code};
+ghost use Rattle.std.specs.Prelude.{◌≡◌};
+ghost use Rattle.icysixel.specs.FinalRows.{IsRowsCode, layout_of, order_of};
 
 use crate::code::Code;
 use crate::rows::stride_of;
@@ -55,14 +51,7 @@ pub fn channel_order(order: u8) -> ChannelOrder
 
 /// The code of what is wrong with rows and a buffer for them.
 pub fn rows_code(error: &SixelError) -> u32
-    ensures not_final { IsCallFault error.now RowsNotFinal → result ≡ rows_code RowsNotFinal }
-    ensures released { IsCallFault error.now RowsReleased → result ≡ rows_code RowsReleased }
-    ensures short { IsCallFault error.now ShortStride → result ≡ rows_code ShortStride }
-    ensures overflow { error.now ≡ IntegerOverflow
-        → result ≡ rows_code (Exactly IntegerOverflow) }
-    ensures small { (expected actual : ℕ) → error.now ≡ BufferSizeMismatch expected actual
-        → result ≡ rows_code (Exactly (BufferSizeMismatch expected actual)) }
-    ensures refused { result ≢ 0 }
+    ensures { IsRowsCode error.now result }
 {
     match error {
         SixelError::BufferSizeMismatch { .. } => Code::BufferTooSmall as u32,

@@ -9,7 +9,7 @@ ghost use Rattle.icysixel.specs.declared.state.State.{State};
 
 use crate::buffer_layout::{BufferLayout, channel_order, rows_code};
 use crate::bytes::Bytes;
-use crate::code::{Code, code_of};
+use crate::code::Code;
 use crate::shape::Shape;
 use crate::slot::Slot;
 use crate::state::State;
@@ -37,19 +37,14 @@ fn finish(state: &mut State, shape: &mut Shape) -> u32
     ensures finished { IsFinished state.old state.new shape.new result }
     ensures told { result ≢ 0 → shape.new ≡ shape.old }
 {
-    state.store_image(None);
+    state.image = None;
     if !state.receiver.is_receiving() {
         state.receiver.abort();
         return Code::NoSession as u32;
     }
     let is_complete = state.receiver.has_ended();
-    match state.receiver.finish() {
-        Ok(image) => {
-            state.store_ended(image, is_complete, shape);
-            Code::Success as u32
-        }
-        Err(error) => code_of(&error),
-    }
+    let answer = state.receiver.finish();
+    state.store(answer, is_complete, shape)
 }
 
 /// Copies rows of the stored image to the buffer.
@@ -140,7 +135,7 @@ fn transfer(alloc: Global, state: &mut State, order: u8, bytes: &mut Bytes) -> u
     ensures text { state.new.text ≡ state.old.text }
     ensures height { state.new.height ≡ state.old.height }
 {
-    let Some(image) = state.take_image() else {
+    let Some(image) = state.image.take() else {
         return Code::NoImage as u32;
     };
     *bytes = Bytes::of(alloc, image.into_pixels(channel_order(order)));
@@ -166,6 +161,8 @@ pub extern "C" fn icysixel_discard_image(slot: &mut Slot)
         slot.old.handle.state slot.new.handle.state }
 {
     if slot.is_held() {
-        slot.state().discard();
+        let state = slot.state();
+        state.image = None;
+        state.text = None;
     }
 }

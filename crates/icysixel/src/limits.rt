@@ -123,7 +123,7 @@ pub extern "C" fn icysixel_set_limit(slot: &mut Slot, pixels: usize)
         slot.old.handle.state slot.new.handle.state }
 {
     if slot.is_held() {
-        slot.state().receiver.set_pixel_limit(pixels);
+        slot.state().receiver.decoder_mut().set_pixel_limit(pixels);
     }
 }
 
@@ -156,6 +156,6 @@ pub extern "C" fn icysixel_set_clip(slot: &mut Slot, width: usize, height: usize
         slot.old.handle.state slot.new.handle.state }
 {
     if slot.is_held() {
-        slot.state().receiver.set_clip(width, height);
+        slot.state().receiver.decoder_mut().set_clip(width, height);
     }
 }

@@ -10,11 +10,11 @@ ghost use Rattle.sixel_encoder.specs.IndexedDrawing.{index_count_fault};
 ghost use Rattle.icysixel.specs.Code.{IsCodeOf};
 ghost use Rattle.icysixel.specs.Encodings.{IsRowsText, IsTextIn, bytes_of, colors_fault, copies};
 ghost use Rattle.icysixel.specs.Encodings.{dense_rows, format_of, image_of, mode_of, row_len};
-ghost use Rattle.icysixel.specs.Encodings.{row_stride, rows_fault};
+ghost use Rattle.icysixel.specs.Encodings.{FailsByCode, IsEncoded, row_stride, rows_fault};
 ghost use Rattle.icysixel.specs.Formats.{is_rgba, rgba_pixels};
 ghost use Rattle.icysixel.specs.Rows.{extent};
 ghost use Rattle.icysixel.specs.declared.encoding.PaletteMode.TheVariants.{Indexed};
-ghost use Rattle.icysixel.specs.inside.Encoded.{FailsByCode, rows_layout};
+ghost use Rattle.icysixel.specs.inside.Encoded.{rows_layout};
 
 use crate::code::{Code, code_of};
 use crate::encoding::{Encoding, PaletteMode};
@@ -28,22 +28,7 @@ use std::alloc::Global;
 impl Encoding {
     /// The SIXEL output of pixels, or the code of the error.
     pub fn text_of(&self, alloc: Global, pixels: &[u8]) -> Result<String, u32>
-        ensures sizes { (fault : SixelError)
-            → encode_fault self.now.width self.now.height ≡ Some fault
-            → IsErrAnd result (λ code. IsCodeOf code fault) }
-        ensures stride { encode_fault self.now.width self.now.height ≡ None
-            → row_stride self.now < row_len self.now → result ≡ Err 7 }
-        ensures overflow { encode_fault self.now.width self.now.height ≡ None
-            → row_len self.now ≤ row_stride self.now → bytes_of self.now ≡ None → result ≡ Err 9 }
-        ensures buffer { (size : ℕ) → encode_fault self.now.width self.now.height ≡ None
-            → bytes_of self.now ≡ Some size → length pixels.now < size → result ≡ Err 11 }
-        ensures colors { (size : ℕ) → encode_fault self.now.width self.now.height ≡ None
-            → bytes_of self.now ≡ Some size → size ≤ length pixels.now
-            → FailsByCode (copies self.now)
-            (rows_fault self.now (dense_rows self.now pixels.now)) result }
-        ensures refused { IfErr result (λ code. code ≢ 0) }
-        ensures text { IfOk result (λ text.
-            IsRowsText self.now (dense_rows self.now pixels.now) (string_bytes text)) }
+        ensures { IsEncoded self.now pixels.now result }
     {
         match self.layout(pixels.len()) {
             Ok(layout) => self.text_in_layout(alloc, layout, pixels),

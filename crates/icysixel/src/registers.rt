@@ -43,7 +43,7 @@ pub extern "C" fn icysixel_get_register(slot: &mut Slot, register: u8, color: &m
     if !slot.is_held() {
         return Code::NoHandle as u32;
     }
-    *color = Color::of(slot.state().receiver.register(register));
+    *color = Color::of(slot.state().receiver.decoder().register(register));
     Code::Success as u32
 }
 
@@ -56,9 +56,8 @@ pub extern "C" fn icysixel_set_register(slot: &mut Slot, register: u8, red: u8, 
         slot.old.handle.state slot.new.handle.state }
 {
     if slot.is_held() {
-        slot.state()
-            .receiver
-            .set_register(register, [red, green, blue]);
+        let decoder = slot.state().receiver.decoder_mut();
+        decoder.set_register(register, [red, green, blue]);
     }
 }
 
@@ -75,7 +74,7 @@ pub extern "C" fn icysixel_get_registers(slot: &mut Slot, first: u8, colors: &mu
     if !slot.is_held() {
         return Code::NoHandle as u32;
     }
-    let registers = slot.state().receiver.registers();
+    let registers = slot.state().receiver.decoder().registers();
     copy_colors(colors, registers.split_at(usize::from(first)).1);
     Code::Success as u32
 }
@@ -98,7 +97,10 @@ pub extern "C" fn icysixel_set_registers(slot: &mut Slot, first: u8, colors: &[[
         slot.old.handle.state slot.new.handle.state }
 {
     if slot.is_held() {
-        slot.state().receiver.set_registers(first, colors);
+        slot.state()
+            .receiver
+            .decoder_mut()
+            .set_registers(first, colors);
     }
 }
 
@@ -109,6 +111,6 @@ pub extern "C" fn icysixel_reset_registers(slot: &mut Slot)
         slot.old.handle.state slot.new.handle.state }
 {
     if slot.is_held() {
-        slot.state().receiver.reset_palette();
+        slot.state().receiver.decoder_mut().reset_palette();
     }
 }

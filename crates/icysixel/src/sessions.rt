@@ -4,9 +4,8 @@ ghost use Rattle.std.specs.Prelude.{◌≡◌, ◌≢◌, Some, None, is_some, t
 ghost use Rattle.sixel_base.specs.Decoder.{new_decoder};
 ghost use Rattle.icy_sixel.specs.Receiver.{OfPayload, OfString, begun, idle, is_open, no_image};
 ghost use Rattle.icysixel.specs.Changes.{IsOpened};
-ghost use Rattle.icysixel.specs.Code.{settings_of, status_code as code_of_status};
-ghost use Rattle.icysixel.specs.Code.{status_byte as byte_of_status};
-ghost use Rattle.icysixel.specs.Feed.{IsBandFed, IsFed};
+ghost use Rattle.icysixel.specs.Code.{settings_of};
+ghost use Rattle.icysixel.specs.Feed.{IsBandFed, IsFed, fed_of};
 ghost use Rattle.icysixel.specs.declared.state.State.{State};
 
 use crate::code::{Code, FeedStatus, code_of, status_byte, status_code};
@@ -31,9 +30,7 @@ pub struct Fed {
 impl Fed {
     /// The result of a receiver's feed.
     fn of(received: Received) -> Fed
-        ensures consumed { result.consumed ≡ received.consumed }
-        ensures status { result.status ≡ code_of_status received.status }
-        ensures byte { result.byte ≡ byte_of_status received.status }
+        ensures { result ≡ fed_of received }
     {
         Fed {
             consumed: received.consumed,

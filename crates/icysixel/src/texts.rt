@@ -108,7 +108,7 @@ fn transfer(alloc: Global, state: &mut State, bytes: &mut Bytes) -> u32
     ensures receiver { state.new.receiver ≡ state.old.receiver }
     ensures image { IsImageKept state.old state.new }
 {
-    let Some(text) = state.take_text() else {
+    let Some(text) = state.text.take() else {
         return Code::NoText as u32;
     };
     *bytes = Bytes::of(alloc, text.into_bytes());

@@ -1,16 +1,14 @@
 -- What the runs of a history have cost a canvas of one band, against its sixels and its bands.
-use Rattle.std.proofs.Common.{◌≡◌, ℕ, suc, ◌+◌, ◌-◌, ◌*◌, ◌≤◌, ◌∷◌, [], max, min, None, refl}
-use Rattle.std.proofs.Common.{Some, inl, inr, ap, arith, cond, false, true}
+use Rattle.std.proofs.Common.{◌≡◌, ℕ, suc, ◌+◌, ◌*◌, ◌≤◌, ◌∷◌, [], min, None, refl}
+use Rattle.std.proofs.Common.{Some, arith, cond, false, true}
 use Rattle.std.proofs.lemmas.Nat.{mul-le}
-use Rattle.std.proofs.lemmas.Bool.{cases_lt, le-ltb, lt-ltb}
-use Rattle.std.specs.Prelude.{◌==◌, ◌&&◌, nat_lt, if◌then◌else◌}
 use Rattle.sixel_base.specs.History.{Sixel, Repeat, Raster, Color, Return, Newline, Skip, History}
 use Rattle.sixel_base.specs.Limits.{Limit}
 use Rattle.sixel_base.specs.Clip.{clipped_bits, clipped_height, clipped_width, is_inside}
 use Rattle.sixel_base.specs.Payload.{first_fault}
-use Rattle.sixel_base.specs.Place.{across, down, span, width, height}
+use Rattle.sixel_base.specs.Place.{across, down, span}
 use Rattle.sixel_base.specs.Reach.{size}
-use Rattle.sixel_canvas.specs.inside.BandCanvas.{AreMoved, BandCanvasState, IsPaid, least_width}
+use Rattle.sixel_canvas.specs.inside.BandCanvas.{AreMoved, BandCanvasState, IsPaid}
 use Rattle.sixel_canvas.specs.inside.Drawn.{drawn_columns, lowest_top, right_edge, run, runs_paint}
 use Rattle.sixel_canvas.specs.inside.Drawn.{band_edge as runs_edge}
 use Rattle.sixel_decoder.specs.Paints.{sixels, band_columns, band_edge, band_room}
@@ -18,24 +16,14 @@ use Rattle.sixel_decoder.specs.Paints.{area_of, most_row_writes, most_run_paints
 use Rattle.sixel_decoder.specs.inside.Runs.{named_width, runs_of}
 use Rattle.sixel_decoder.proofs.RowExtents.{both_none}
 use Rattle.sixel_decoder.proofs.RunCosts.{span-fits}
+use Rattle.std.proofs.lemmas.Bool.Decides.{nat_tests}
 
 -- the greatest right edge in a band
 band_edge-history : (limit : Limit) (h : History) (top : ℕ)
     → runs_edge (runs_of limit h) top ≡ band_edge limit h top
 band_edge-history limit [] top = refl
 band_edge-history limit (Sixel bits ∷ h) top =
-    let cut : ℕ = clipped_bits limit (down h) bits in
-    let right : ℕ = min (across h + span h) limit.columns in
-    elim (is_inside limit h) as
-    (λ t.
-    runs_edge (cond t (run (across h) right (down h) cut ∷ runs_of limit h) (runs_of limit h)) top
-    ≡ cond (t && down h == top && nat_lt 0 cut) (max (band_edge limit h top) right)
-    (band_edge limit h top)) [
-      | true ↦ ap
-          (λ (edge : ℕ). if down h == top && nat_lt 0 cut then max edge right else edge)
-          (band_edge-history limit h top)
-      | false ↦ band_edge-history limit h top
-    ]
+    grind (arith, nat_tests, band_edge-history limit h top)
 band_edge-history limit (Repeat _ ∷ h) top = band_edge-history limit h top
 band_edge-history limit (Raster _ ∷ h) top = band_edge-history limit h top
 band_edge-history limit (Color _ ∷ h) top = band_edge-history limit h top
@@ -48,20 +36,7 @@ band_columns-history : (limit : Limit) (h : History)
     → drawn_columns (runs_of limit h) ≡ band_columns limit h
 band_columns-history limit [] = refl
 band_columns-history limit (Sixel bits ∷ h) =
-    let cut : ℕ = clipped_bits limit (down h) bits in
-    let right : ℕ = min (across h + span h) limit.columns in
-    elim (is_inside limit h) as
-    (λ t.
-    drawn_columns (cond t (run (across h) right (down h) cut ∷ runs_of limit h) (runs_of limit h))
-    ≡ band_columns limit h
-    + (cond (t && down h == down h && nat_lt 0 cut) (max (band_edge limit h (down h)) right)
-    (band_edge limit h (down h)) - band_edge limit h (down h))) [
-      | true ↦ rw (
-        band_columns-history limit h,
-        band_edge-history limit h (down h),
-      ) refl
-      | false ↦ omega (arith, band_columns-history limit h)
-    ]
+    grind (arith, nat_tests, band_edge-history, band_columns-history limit h)
 band_columns-history limit (Repeat _ ∷ h) = band_columns-history limit h
 band_columns-history limit (Raster _ ∷ h) = band_columns-history limit h
 band_columns-history limit (Color _ ∷ h) = band_columns-history limit h
@@ -73,16 +48,7 @@ band_columns-history limit (Skip _ ∷ h) = band_columns-history limit h
 right_edge-history : (limit : Limit) (h : History)
     → right_edge (runs_of limit h) ≤ clipped_width limit h
 right_edge-history limit [] = omega arith
-right_edge-history limit (Sixel bits ∷ h) =
-    let cut : ℕ = clipped_bits limit (down h) bits in
-    let right : ℕ = min (across h + span h) limit.columns in
-    elim (is_inside limit h) as
-    (λ t.
-    right_edge (cond t (run (across h) right (down h) cut ∷ runs_of limit h) (runs_of limit h))
-    ≤ min (max (width h) (across h + span h)) limit.columns) [
-      | true ↦ omega (arith, right_edge-history limit h)
-      | false ↦ omega (arith, right_edge-history limit h)
-    ]
+right_edge-history limit (Sixel bits ∷ h) = grind (arith, nat_tests, right_edge-history limit h)
 right_edge-history limit (Raster _ ∷ h) = omega (arith, right_edge-history limit h)
 right_edge-history limit (Repeat _ ∷ h) = right_edge-history limit h
 right_edge-history limit (Color _ ∷ h) = right_edge-history limit h
@@ -124,10 +90,8 @@ pub band_cost : (limit : Limit) (cap painted reach tagged top : ℕ) (h : Histor
     → IsPaid cap painted reach tagged top (runs_of limit h)
     → (painted ≤ 2 * band_columns limit h + most_run_paints * sixels h)
     × (6 * cap ≤ band_room limit h)
-band_cost limit cap painted reach tagged top h faultless paid = (
-  omega (arith, paid.few, band_columns-history limit h, runs_paint-history limit h faultless),
-  omega (arith, paid.narrow, right_edge-history limit h),
-)
+band_cost limit cap painted reach tagged top h faultless paid =
+    grind (arith, nat_tests, band_columns-history, runs_paint-history, right_edge-history)
 
 -- the width after raster attributes
 named_width-history : (limit : Limit) (h : History) → named_width limit h ≤ clipped_width limit h
@@ -144,24 +108,7 @@ named_width-history limit (Skip _ ∷ h) = named_width-history limit h
 lowest_top-history : (limit : Limit) (h : History)
     → lowest_top (runs_of limit h) ≤ clipped_height limit h
 lowest_top-history limit [] = omega arith
-lowest_top-history limit (Sixel bits ∷ h) =
-    let cut : ℕ = clipped_bits limit (down h) bits in
-    let right : ℕ = min (across h + span h) limit.columns in
-    let more : clipped_height limit h ≤ min (max (height h) (down h + 6)) limit.rows =
-    omega arith in
-    elim (nat_lt (across h) limit.columns) as
-    (λ t.
-    lowest_top (cond (t && nat_lt (down h) limit.rows)
-    (run (across h) right (down h) cut ∷ runs_of limit h) (runs_of limit h))
-    ≤ min (max (height h) (down h + 6)) limit.rows) [
-      | true ↦ elim (cases_lt (down h) limit.rows) [
-        | inl above ↦ rw (lt-ltb (down h) limit.rows above)
-            (omega (arith, lowest_top-history limit h, more, above))
-        | inr below ↦ rw (le-ltb (down h) limit.rows below)
-            (omega (arith, lowest_top-history limit h, more))
-      ]
-      | false ↦ omega (arith, lowest_top-history limit h, more)
-    ]
+lowest_top-history limit (Sixel bits ∷ h) = grind (arith, nat_tests, lowest_top-history limit h)
 lowest_top-history limit (Raster _ ∷ h) = omega (arith, lowest_top-history limit h)
 lowest_top-history limit (Repeat _ ∷ h) = lowest_top-history limit h
 lowest_top-history limit (Color _ ∷ h) = lowest_top-history limit h
@@ -174,11 +121,4 @@ pub band_moved : (limit : Limit) (canvas : BandCanvasState) (h : History)
     → AreMoved canvas (named_width limit h) (runs_of limit h)
     → canvas.rows.moved ≤ most_row_writes * area_of (Some (size limit h))
 band_moved limit canvas h are =
-    let wide : least_width (named_width limit h) (runs_of limit h) ≤ clipped_width limit h =
-    omega (arith, named_width-history limit h, right_edge-history limit h) in
-    omega (
-      arith,
-      are.few,
-      mul-le (lowest_top (runs_of limit h)) (least_width (named_width limit h) (runs_of limit h))
-          (clipped_height limit h) (clipped_width limit h) (lowest_top-history limit h) wide,
-    )
+    grind (arith, nat_tests, named_width-history, right_edge-history, mul-le, lowest_top-history)

@@ -8,7 +8,7 @@ use Rattle.std.proofs.lemmas.List.{drop-drop, drop_all}
 use Rattle.std.proofs.lemmas.List.Sums.{fold-append}
 use Rattle.sixel_base.specs.declared.error.SixelError.{SixelError}
 use Rattle.sixel_base.specs.Fault.{Fault, Faults}
-use Rattle.sixel_base.specs.Bytes.{is_terminator, is_ignored, is_sixel, before_terminator, carrying}
+use Rattle.sixel_base.specs.Bytes.{is_terminator, is_ignored, is_sixel, before_terminator}
 use Rattle.sixel_base.specs.Bytes.{front, count, first_terminator, is_terminated}
 use Rattle.sixel_base.specs.History.{History, read}
 use Rattle.sixel_base.specs.Lenient.{fault}
@@ -34,11 +34,6 @@ pub splits_at : (piece : List ℕ) (index : ℕ) → index < length piece
     → drop index piece ≡ get_or piece index 0 ∷ drop (index + 1) piece
 splits_at piece index h = rw (add-one, drop-cons piece index 0) refl
 
--- what a byte at the front does to the facts of a chunk
-front-ignored : (byte : ℕ) (rest : List ℕ) → is_terminator byte ≡ false → is_ignored byte ≡ true
-    → front (byte ∷ rest) ≡ front rest
-front-ignored byte rest ends is = rw (ends, is) refl
-
 pub front-carried : (byte : ℕ) (rest : List ℕ) → is_terminator byte ≡ false → is_ignored byte
     ≡ false
     → front (byte ∷ rest) ≡ byte ∷ front rest
@@ -58,19 +53,7 @@ pub reaches_ignored : {C : Type 0} {canvas : Ghosts C} (o : Origin)
     → drop index piece ≡ byte ∷ drop (index + 1) piece → is_terminator byte ≡ false
     → is_ignored byte ≡ true
     → Reaches o parser h index piece → Reaches o parser h (index + 1) piece
-reaches_ignored o parser h index piece byte splits ends is r =
-    let rest : List ℕ = drop (index + 1) piece in
-    record {
-      now = r.now;
-      stands = r.stands;
-      ahead =
-          ap (λ w. fold read r.now w) (sym (ap front splits ∙ front-ignored byte rest ends is))
-          ∙ r.ahead;
-      terminator =
-          sym (ap first_terminator splits ∙ first_terminator-cons byte rest ends) ∙ r.terminator;
-      counted = omega (arith, r.counted, ap count splits, count-cons byte rest ends);
-      grown = r.grown;
-    }
+reaches_ignored o parser h index piece byte splits ends is r = grind (arith, nat_tests)
 
 pub reaches_pushed : {C : Type 0} {canvas : Ghosts C} (o : Origin)
     (parser parser' : PayloadParser C canvas) (h : History) (index : ℕ)
@@ -80,18 +63,7 @@ pub reaches_pushed : {C : Type 0} {canvas : Ghosts C} (o : Origin)
     → (r : Reaches o parser h index piece) → Stands o parser' (read r.now byte)
     → Reaches o parser' h (index + 1) piece
 reaches_pushed o parser parser' h index piece byte splits ends is r stands =
-    let rest : List ℕ = drop (index + 1) piece in
-    record {
-      now = read r.now byte;
-      stands = stands;
-      ahead =
-          ap (λ w. fold read r.now w) (sym (ap front splits ∙ front-carried byte rest ends is))
-          ∙ r.ahead;
-      terminator =
-          sym (ap first_terminator splits ∙ first_terminator-cons byte rest ends) ∙ r.terminator;
-      counted = omega (arith, r.counted, ap count splits, count-cons byte rest ends);
-      grown = omega (arith, r.grown, growths-read r.now byte);
-    }
+    grind (arith, nat_tests, front-carried, first_terminator-cons, count-cons, growths-read)
 
 -- a byte that a parser reads at once is printable
 pub reaches_printable : {C : Type 0} {canvas : Ghosts C} (o : Origin)
@@ -111,9 +83,7 @@ pub sixel_from_test : (byte : ℕ) → is_sixel byte ≡ true → IsSixelByte by
 sixel_from_test byte test = (grind (arith, nat_tests, test), grind (arith, nat_tests, test))
 
 pub printable_from_sixel : (byte : ℕ) → is_sixel byte ≡ true → IsPrintable byte
-printable_from_sixel byte test =
-    let is = sixel_from_test byte test in
-    (omega (arith, is.0), is.1)
+printable_from_sixel byte test = grind (arith, nat_tests)
 
 -- what printable bytes at the front do to the facts of a chunk
 front-run : (n : ℕ) (bytes : List ℕ) → ((k : ℕ) → k < n → IsPrintable (get_or bytes k 0))
@@ -193,13 +163,7 @@ pub reads_whole : {C : Type 0} {canvas : Ghosts C} (o : Origin) (parser : Payloa
     (h : History) (index : ℕ) (piece : List ℕ)
     → length piece ≤ index → Reaches o parser h index piece
     → (index ≡ count piece) × Stands o parser (after h piece)
-reads_whole o parser h index piece past r =
-    let gone : drop index piece ≡ [] = drop_all index piece past in
-    let whole : r.now ≡ after h piece =
-    sym (ap (λ (bs : List ℕ). fold read r.now (front bs)) gone) ∙ r.ahead in (
-      omega (arith, r.counted, ap count gone),
-      subst (λ (w : History). Stands o parser w) whole r.stands,
-    )
+reads_whole o parser h index piece past r = grind (arith, nat_tests, drop_all)
 
 -- and those that were read up to a terminator
 pub reads_before : {C : Type 0} {canvas : Ghosts C} (o : Origin) (parser : PayloadParser C canvas)
@@ -208,15 +172,7 @@ pub reads_before : {C : Type 0} {canvas : Ghosts C} (o : Origin) (parser : Paylo
     → drop index piece ≡ byte ∷ drop (index + 1) piece → is_terminator byte ≡ true
     → Reaches o parser h index piece
     → (index ≡ count piece) × Stands o parser (after h piece)
-reads_before o parser h index piece byte splits ends r =
-    let rest : List ℕ = drop (index + 1) piece in
-    let own : before_terminator (drop index piece) ≡ [] =
-    ap before_terminator splits ∙ ap (λ t. cond t [] (byte ∷ before_terminator rest)) ends in
-    let whole : r.now ≡ after h piece =
-    sym (ap (λ (bytes : List ℕ). fold read r.now (carrying bytes)) own) ∙ r.ahead in (
-      omega (arith, r.counted, ap length own),
-      subst (λ (w : History). Stands o parser w) whole r.stands,
-    )
+reads_before o parser h index piece byte splits ends r = grind (arith, nat_tests)
 
 -- a chunk that has no byte after those has no terminator
 no_terminator : (piece : List ℕ) → length piece ≤ count piece → first_terminator piece ≡ None
@@ -249,16 +205,12 @@ pub feeds_whole : {C : Type 0} {canvas : Ghosts C} (o : Origin) (parser : Payloa
     → length piece ≤ read → (read ≡ count piece) × Stands o parser (after h piece)
     → (read ≡ count piece) × (NeedMoreData ≡ status_of (first_terminator piece))
     × StandsAfter (is_terminated piece) o parser (after h piece)
-feeds_whole o parser h read piece past is =
-    let none = no_terminator piece (omega (arith, past, is.0)) in
-    (is.0, rw none refl, rw none is.1)
+feeds_whole o parser h read piece past is = grind (arith, nat_tests, no_terminator, is.0, is.1)
 
 -- the first terminator of a chunk with bytes after those that were read
 ending : (read : ℕ) (piece : List ℕ) → read < length piece → read ≡ count piece
     → first_terminator piece ≡ Some (get_or piece read 0)
-ending read piece more is =
-    terminator_after piece (omega (arith, more, is))
-    ∙ ap (λ (k : ℕ). Some (get_or piece k 0)) (sym is)
+ending read piece more is = grind (arith, nat_tests, terminator_after)
 
 -- a chunk that ends at its terminator, which ends the open command
 pub feeds_terminated : {C : Type 0} {canvas : Ghosts C}
@@ -327,12 +279,7 @@ pub feeds_refused : {C : Type 0} {canvas : Ghosts C} (e : SixelError) (o : Origi
     → Faults e (nat_lt (growths (closed h)) (growths (settled_after h piece)))
     (fault o.pixel_limit (settled_after h piece))
 feeds_refused e o parser h index piece byte splits ends is r refused =
-    let rest : List ℕ = front (drop (index + 1) piece) in
-    let next : History = read r.now byte in
-    let whole : fold read next rest ≡ after h piece =
-    ap (λ w. fold read r.now w)
-    (sym (ap front splits ∙ front-carried byte (drop (index + 1) piece) ends is)) ∙ r.ahead in
-    refused_settled e o.pixel_limit h r.now next rest piece whole r.grown refused
+    grind (arith, nat_tests, front-carried, refused_settled)
 
 -- and where the byte is printable
 pub feeds_refused_printable : {C : Type 0} {canvas : Ghosts C} (e : SixelError) (o : Origin)
@@ -354,7 +301,4 @@ feeds_refused_printable e o parser h index piece lt is r refused =
 -- and where bytes are read at once, what their first one is
 pub first_ahead : (index : ℕ) (piece bytes : List ℕ) → bytes ≡ drop index piece
     → get_or bytes 0 0 ≡ get_or piece index 0
-first_ahead index piece bytes is =
-    let place : index + 0 ≡ index = omega arith in
-    ap (λ (bs : List ℕ). get_or bs 0 0) is ∙ get_or-drop index piece 0 0
-    ∙ ap (λ (k : ℕ). get_or piece k 0) place
+first_ahead index piece bytes is = grind (arith, nat_tests, get_or-drop)

@@ -2,18 +2,16 @@
 use Rattle.std.proofs.Common.{◌≡◌, ℕ, ◌+◌, Bool, true, false, cond, List, [], ◌∷◌, ◌++◌, refl, ap}
 use Rattle.std.proofs.Common.{sym, ◌∙◌, subst, arith, Option, Some, None, Result, Ok, Err, length}
 use Rattle.std.proofs.Common.{length-append}
-use Rattle.std.specs.Prelude.{nat_lt, is_some}
+use Rattle.std.specs.Prelude.{is_some}
 use Rattle.std.proofs.lemmas.List.Sums.{fold-append}
 use Rattle.sixel_base.specs.declared.error.SixelError.{SixelError}
-use Rattle.sixel_base.specs.Fault.{Faults}
-use Rattle.sixel_base.specs.Bytes.{is_terminator, is_ignored, front, carrying, before_terminator}
+use Rattle.sixel_base.specs.Bytes.{is_terminator, front, carrying, before_terminator}
 use Rattle.sixel_base.specs.Bytes.{count, first_terminator, is_terminated}
 use Rattle.sixel_base.specs.History.{Sixel, Repeat, Raster, Color, Return, Newline, Skip, History}
-use Rattle.sixel_base.specs.History.{goes_on, read, history_of}
-use Rattle.sixel_base.specs.Lenient.{fault}
+use Rattle.sixel_base.specs.History.{goes_on, history_of}
 use Rattle.sixel_base.specs.Stroke.{Origin}
 use Rattle.sixel_base.proofs.ToleratedTokens.{effective-fault}
-use Rattle.sixel_base.specs.Payload.{closed, growths, settled, fed_fault}
+use Rattle.sixel_base.specs.Payload.{closed, settled}
 use Rattle.sixel_base.specs.declared.status.SixelFeedResult.{SixelFeedResult}
 use Rattle.sixel_canvas.specs.declared.drawing.Canvas.{Ghosts}
 use Rattle.sixel_decoder.specs.declared.payload_parser.PayloadParser.{PayloadParser}
@@ -25,6 +23,7 @@ use Rattle.sixel_base.specs.Status.{status_of}
 use Rattle.sixel_decoder.specs.inside.PayloadParser.{StandsIn, StandsAfter, Feeds, after}
 use Rattle.sixel_decoder.specs.inside.PayloadParser.{settled_after}
 use Rattle.sixel_decoder.specs.inside.PayloadReader.{HasRead, GoesOn}
+use Rattle.std.proofs.lemmas.Bool.Decides.{nat_tests}
 
 -- ---- where no terminator has come yet
 
@@ -67,28 +66,17 @@ first_terminator-append (byte ∷ bytes) piece none =
 
 pub carrying-append : (xs ys : List ℕ) → carrying (xs ++ ys) ≡ carrying xs ++ carrying ys
 carrying-append [] ys = refl
-carrying-append (byte ∷ xs) ys =
-    elim (is_ignored byte) as
-    (λ t.
-    cond t (carrying (xs ++ ys)) (byte ∷ carrying (xs ++ ys))
-    ≡ cond t (carrying xs) (byte ∷ carrying xs) ++ carrying ys) [
-      | true ↦ carrying-append xs ys
-      | false ↦ ap (λ w. byte ∷ w) (carrying-append xs ys)
-    ]
+carrying-append (byte ∷ xs) ys = grind (arith, nat_tests, carrying-append xs ys)
 
 pub front-append : (bytes piece : List ℕ) → first_terminator bytes ≡ None
     → front (bytes ++ piece) ≡ front bytes ++ front piece
 front-append bytes piece none =
-    ap carrying (before_terminator-append bytes piece none)
-    ∙ (carrying-append bytes (before_terminator piece)
-    ∙ ap (λ w. carrying w ++ front piece) (sym (before_terminator-whole bytes none)))
+    grind (arith, nat_tests, before_terminator-append, carrying-append, before_terminator-whole)
 
 pub count-append : (bytes piece : List ℕ) → first_terminator bytes ≡ None
     → count (bytes ++ piece) ≡ count bytes + count piece
 count-append bytes piece none =
-    ap length (before_terminator-append bytes piece none)
-    ∙ (length-append bytes (before_terminator piece)
-    ∙ ap (λ w. length w + count piece) (sym (before_terminator-whole bytes none)))
+    grind (arith, nat_tests, before_terminator-append, length-append, before_terminator-whole)
 
 -- ---- where one has come
 
@@ -134,18 +122,10 @@ closed-ended (Skip _ ∷ h) ended = refl
 stands_shown : {C : Type 0} {canvas : Ghosts C} (command : OpenCommand) (o : Origin)
     (parser : PayloadParser C canvas) (h : History)
     → StandsIn command o parser h → HasDrawn o parser.painter parser.ignored (closed h)
-stands_shown Ground o parser h is =
-    subst (λ (w : History). HasDrawn o parser.painter parser.ignored w)
-    (sym (closed-ended h is.ended)) is.shows
-stands_shown InRepeat o parser h is =
-    subst (λ (w : History). HasDrawn o parser.painter parser.ignored (closed w))
-    (sym is.newest) is.shows
-stands_shown InRaster o parser h is =
-    subst (λ (w : History). HasDrawn o parser.painter parser.ignored (closed w))
-    (sym is.newest) is.shows
-stands_shown InColor o parser h is =
-    subst (λ (w : History). HasDrawn o parser.painter parser.ignored (closed w))
-    (sym is.newest) is.shows
+stands_shown Ground o parser h is = grind (arith, nat_tests, closed-ended)
+stands_shown InRepeat o parser h is = grind (arith, nat_tests)
+stands_shown InRaster o parser h is = grind (arith, nat_tests)
+stands_shown InColor o parser h is = grind (arith, nat_tests)
 
 pub shown_after : {C : Type 0} {canvas : Ghosts C} (ended : Bool) (o : Origin)
     (parser : PayloadParser C canvas) (h : History)
@@ -156,24 +136,15 @@ shown_after false o parser h is = stands_shown parser.command o parser h is
 
 after_whole : (before piece : List ℕ) → first_terminator before ≡ None
     → after (history_of (front before)) piece ≡ history_of (front (before ++ piece))
-after_whole before piece none =
-    sym (fold-append read [] (front before) (front piece))
-    ∙ ap history_of (sym (front-append before piece none))
+after_whole before piece none = grind (arith, nat_tests, fold-append, front-append)
 
 pub settled_open : (before : List ℕ) → first_terminator before ≡ None
     → settled before ≡ closed (history_of (front before))
-settled_open before none =
-    ap (λ t. cond (is_some t) (history_of (front before)) (closed (history_of (front before)))) none
+settled_open before none = grind (arith, nat_tests)
 
 pub settled_whole : (before piece : List ℕ) → first_terminator before ≡ None
     → settled_after (history_of (front before)) piece ≡ settled (before ++ piece)
-settled_whole before piece none =
-    ap (λ (w : History). cond (is_terminated piece) w (closed w)) (after_whole before piece none)
-    ∙ ap
-    (λ t.
-    cond (is_some t) (history_of (front (before ++ piece)))
-    (closed (history_of (front (before ++ piece)))))
-    (sym (first_terminator-append before piece none))
+settled_whole before piece none = grind (arith, nat_tests, after_whole, first_terminator-append)
 
 -- what a parser read of a chunk, it read after the bytes before
 pub feeds_goes_on : {C : Type 0} {canvas : Ghosts C} (result : Result SixelFeedResult SixelError)
@@ -181,31 +152,19 @@ pub feeds_goes_on : {C : Type 0} {canvas : Ghosts C} (result : Result SixelFeedR
     (parser : PayloadParser C canvas) (before piece : List ℕ) → first_terminator before ≡ None
     → Feeds result o parser (history_of (front before)) piece → GoesOn result o parser before piece
 feeds_goes_on (Ok fed) o parser before piece none fed_to =
-    let bytes : List ℕ = before ++ piece in
-    let first = first_terminator-append before piece none in
-    let moved : StandsAfter (is_some (first_terminator piece)) o parser (history_of (front bytes)) =
-    subst (λ (w : History). StandsAfter (is_terminated piece) o parser w)
-    (after_whole before piece none) fed_to.2 in
-    let stands : StandsAfter (is_some (first_terminator bytes)) o parser
-    (history_of (front bytes)) =
-    subst (λ (w : Option ℕ). StandsAfter (is_some w) o parser (history_of (front bytes)))
-    (sym first) moved in (
-      omega (arith, fed_to.0, count-append before piece none),
-      fed_to.1 ∙ ap status_of (sym first),
-      (refl, stands),
-      sym (effective-fault o.pixel_limit (settled bytes))
-          ∙ (shown_after (is_terminated bytes) o parser
-          (history_of (front bytes)) stands).shows.faultless,
+    grind (
+      arith,
+      first_terminator-append,
+      after_whole,
+      fed_to.2,
+      fed_to.0,
+      count-append,
+      fed_to.1,
+      effective-fault,
+      shown_after,
     )
 feeds_goes_on (Err e) o parser before piece none refused =
-    subst (λ (w : History).
-    Faults e (nat_lt (growths w) (growths (settled (before ++ piece))))
-    (fed_fault o.pixel_limit (before ++ piece)))
-    (sym (settled_open before none))
-    (subst (λ (w : History).
-    Faults e (nat_lt (growths (closed (history_of (front before)))) (growths w))
-    (fault o.pixel_limit w))
-    (settled_whole before piece none) refused)
+    grind (arith, nat_tests, settled_open, settled_whole)
 
 -- once a payload has ended, its bytes stay what they are
 pub ended_goes_on : {C : Type 0} {canvas : Ghosts C} (o : Origin)
@@ -260,6 +219,4 @@ pub open_goes_on : {C : Type 0} {canvas : Ghosts C} (result : Result SixelFeedRe
     → Feeds result o new (history_of (front before)) chunk)
     → GoesOn result o new before chunk
 open_goes_on result o old new terminator before chunk none is feeds =
-    let stands : StandsAfter false o old (history_of (front before)) =
-    subst (λ (w : Option ℕ). StandsAfter (is_some w) o old (history_of (front before))) none is.1 in
-    feeds_goes_on result o new before chunk (is.0 ∙ none) (feeds stands)
+    grind (arith, nat_tests, is.1, feeds_goes_on, is.0)

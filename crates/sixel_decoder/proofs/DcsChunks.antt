@@ -1,5 +1,5 @@
 -- How a DCS sequence goes on in its payload, or up to where the payload begins.
-use Rattle.std.proofs.Common.{◌≡◌, ℕ, ◌+◌, ◌-◌, ◌≤◌, suc, Bool, true, false, cond, List, [], ◌∷◌}
+use Rattle.std.proofs.Common.{◌≡◌, ℕ, ◌+◌, ◌-◌, ◌≤◌, Bool, true, false, cond, List, [], ◌∷◌}
 use Rattle.std.proofs.Common.{◌++◌, refl, ap, sym, ◌∙◌, subst, arith, Option, None, Ok, length}
 use Rattle.std.proofs.Common.{take, drop, append_assoc, length-append}
 use Rattle.std.specs.Prelude.{nat_lt, ◌==◌, IsTrue}
@@ -7,7 +7,7 @@ use Rattle.std.proofs.lemmas.Bool.Decides.{nat_tests}
 use Rattle.std.proofs.lemmas.List.{take-append-drop, length-take-le, take_all}
 use Rattle.sixel_base.specs.declared.error.SixelError.{SixelError}
 use Rattle.sixel_base.specs.Fault.{Faults, Malformed, BadHeader}
-use Rattle.sixel_base.specs.Bytes.{is_terminator, first_terminator}
+use Rattle.sixel_base.specs.Bytes.{is_terminator}
 use Rattle.sixel_base.specs.Settings.{Settings}
 use Rattle.sixel_base.specs.Stroke.{Origin}
 use Rattle.sixel_base.specs.declared.state.DecoderState.{DecoderState}
@@ -17,18 +17,17 @@ use Rattle.sixel_base.specs.declared.status.SixelDcsFeedStatus.{SixelDcsFeedStat
 use Rattle.sixel_base.specs.declared.status.SixelDcsFeedStatus.TheVariants.{NeedMoreData}
 use Rattle.sixel_decoder.specs.declared.dcs_parser.DcsState.{DcsState}
 use Rattle.sixel_decoder.specs.declared.dcs_parser.DcsState.TheVariants as states
-use Rattle.sixel_base.specs.Header.{Begun, Faulty, headed_by, is_header, header_rest}
+use Rattle.sixel_base.specs.Header.{Begun, Faulty, headed_by, header_rest}
 use Rattle.sixel_decoder.specs.Session.{Session}
-use Rattle.sixel_base.specs.Dcs.{Introduced, Waiting, Absent, Entered, introduced, escaped, Stage}
-use Rattle.sixel_base.specs.Dcs.{Heading, Failing, Reading, stage_after, stage_by, stage}
+use Rattle.sixel_base.specs.Dcs.{Introduced, Waiting, Absent, Entered, introduced, Stage}
+use Rattle.sixel_base.specs.Dcs.{Heading, Reading, stage_after, stage_by, stage}
 use Rattle.sixel_base.specs.Dcs.{stage_status, stage_count, stage_fault, stage_growths}
-use Rattle.sixel_base.specs.Dcs.{payload_count, dcs_status, dcs_count, dcs_fault, dcs_growths}
-use Rattle.sixel_base.specs.Dcs.{after_terminator, ended_with}
+use Rattle.sixel_base.specs.Dcs.{payload_count, dcs_count, dcs_fault, dcs_growths}
+use Rattle.sixel_base.specs.Dcs.{ended_with}
 use Rattle.sixel_base.specs.Limits.{Limit}
 use Rattle.sixel_decoder.specs.inside.DcsParser.{IsInPayload, HasFollowed, is_head, is_failed}
 use Rattle.sixel_decoder.specs.inside.DcsParser.{IsStageFault, GoesTo, Follows}
 use Rattle.sixel_decoder.proofs.ParserSteps.{Faults-along}
-use Rattle.sixel_decoder.proofs.FoundPayloads.{Faults-named}
 use Rattle.sixel_decoder.proofs.Chunks.{before_terminator-whole}
 use Rattle.sixel_decoder.proofs.Terminators.{stage_reading}
 use Rattle.sixel_decoder.proofs.DcsEnds.{none_by, count_open}
@@ -110,34 +109,19 @@ pub heading : {C : Type 0}
     (bytes : List ℕ)
     → is_head state ≡ true
     → HasFollowed state decoder ended bytes → (stage bytes ≡ Heading) × (ended ≡ None)
-heading states.Start decoder ended bytes head is = (ap stage is.0, is.1)
-heading states.Escape decoder ended bytes head is = (ap stage is.0, is.1)
-heading (states.Header header) decoder ended bytes head is =
-    (ap stage_by is.0.entered ∙ ap (λ w. stage_after is.0.rest (headed_by w)) is.0.going, is.1)
-heading (states.Payload reader) decoder ended bytes head is = absurd cc
-heading states.Failed decoder ended bytes head is = absurd cc
+heading state decoder ended bytes head is = grind (arith, nat_tests)
 
 pub head_fine : {C : Type 0} (state : DcsState C) → is_head state ≡ true → is_failed state ≡ false
-head_fine states.Start head = refl
-head_fine states.Escape head = refl
-head_fine (states.Header header) head = refl
-head_fine (states.Payload reader) head = refl
-head_fine states.Failed head = absurd cc
+head_fine state head = grind (arith, nat_tests)
 
 pub head_or_payload : {C : Type 0} (state : DcsState C) → is_failed state ≡ false
     → ((reader : Session) → state ≡ states.Payload reader → ⊥) → is_head state ≡ true
-head_or_payload states.Start fine other = refl
-head_or_payload states.Escape fine other = refl
-head_or_payload (states.Header header) fine other = refl
-head_or_payload (states.Payload reader) fine other = absurd (other reader refl)
-head_or_payload states.Failed fine other = absurd cc
+head_or_payload state fine other = grind (arith, nat_tests)
 
 -- what an error names before a payload is what is wrong with the bytes
 pub stage_refuses : (e : SixelError) (may : Bool) (limit : Limit) (s : Stage) → IsStageFault e s
     → Faults e may (stage_fault limit s)
-stage_refuses e may limit Heading is = absurd is
-stage_refuses e may limit (Failing fault) is = Faults-named e may fault is
-stage_refuses e may limit (Reading settings payload) is = absurd is
+stage_refuses e may limit s is = grind (arith, nat_tests)
 
 -- all of the chunk stands before the payload
 pub head_follows : {C : Type 0} (state : DcsState C) (decoder : DecoderState)
@@ -169,12 +153,7 @@ head_follows state decoder ended before piece start from fine head all is =
 
 header_rest-fits : (bytes : List ℕ) → length (header_rest bytes) ≤ length bytes
 header_rest-fits [] = omega arith
-header_rest-fits (byte ∷ bytes) =
-    elim (is_header byte) as
-    (λ t. length (cond t (header_rest bytes) (byte ∷ bytes)) ≤ suc (length bytes)) [
-      | true ↦ omega (arith, header_rest-fits bytes)
-      | false ↦ omega arith
-    ]
+header_rest-fits (byte ∷ bytes) = grind (arith, nat_tests, header_rest-fits bytes)
 
 begun_fits : (rest h : List ℕ) (s : Settings) (payload : List ℕ) → header_rest rest ≡ h
     → stage_after rest (headed_by h) ≡ Reading s payload → length payload ≤ length rest
@@ -197,34 +176,9 @@ begun_fits rest (byte ∷ tail) s payload ends is =
           ]
     ]) is
 
-escaped_fits : (bytes rest : List ℕ) → escaped bytes ≡ Entered rest → length rest ≤ length bytes
-escaped_fits [] rest is = absurd cc
-escaped_fits (byte ∷ bytes) rest is =
-    (elim (byte == 80) as
-    (λ t. cond t (Entered bytes) Absent ≡ Entered rest → length rest ≤ suc (length bytes)) [
-      | true ↦ λ e.
-          let same : bytes ≡ rest = cc in
-          omega (arith, ap length same)
-      | false ↦ λ e. absurd cc
-    ]) is
-
 introduced_fits : (bytes rest : List ℕ) → introduced bytes ≡ Entered rest
     → length rest ≤ length bytes
-introduced_fits [] rest is = absurd cc
-introduced_fits (byte ∷ bytes) rest is =
-    (elim (byte == 0x90) as
-    (λ t.
-    cond t (Entered bytes) (cond (byte == 27) (escaped bytes) Absent) ≡ Entered rest
-    → length rest ≤ suc (length bytes)) [
-      | true ↦ λ e.
-          let same : bytes ≡ rest = cc in
-          omega (arith, ap length same)
-      | false ↦ elim (byte == 27) as
-          (λ t. cond t (escaped bytes) Absent ≡ Entered rest → length rest ≤ suc (length bytes)) [
-            | true ↦ λ e. omega (arith, escaped_fits bytes rest e)
-            | false ↦ λ e. absurd cc
-          ]
-    ]) is
+introduced_fits bytes rest is = grind (arith, nat_tests)
 
 pub reading_fits : (bytes : List ℕ) (i : Introduced) (s : Settings) (payload : List ℕ)
     → introduced bytes ≡ i → stage_by i ≡ Reading s payload → length payload ≤ length bytes
@@ -238,23 +192,11 @@ reading_fits bytes (Entered rest) s payload e is =
 pub all_counted : (reader : Session) (decoder : DecoderState) (bytes : List ℕ)
     → IsInPayload reader decoder None bytes → dcs_count bytes ≡ length bytes
 all_counted reader decoder bytes is =
-    let payload : List ℕ = reader.bytes in
-    let none = none_by (first_terminator payload) (after_terminator payload) (sym is.ending) in
-    let fits =
-    reading_fits bytes (introduced bytes) reader.origin.settings payload refl is.reading in
-    omega (
-      arith,
-      fits,
-      ap (stage_count bytes) is.reading,
-      count_open payload none,
-      ap length (before_terminator-whole payload none),
-    )
+    grind (arith, nat_tests, none_by, reading_fits, count_open, before_terminator-whole)
 
 cut_joins : (before piece : List ℕ) (start : ℕ)
     → (before ++ take start piece) ++ drop start piece ≡ before ++ piece
-cut_joins before piece start =
-    append_assoc before (take start piece) (drop start piece)
-    ∙ ap (λ w. before ++ w) (take-append-drop start piece)
+cut_joins before piece start = grind (arith, nat_tests, append_assoc, take-append-drop)
 
 pub entered_follows : {C : Type 0} (state : DcsState C) (decoder : DecoderState)
     (ended : Option SixelDcsFeedStatus) (before piece : List ℕ) (start consumed : ℕ)
@@ -266,21 +208,16 @@ pub entered_follows : {C : Type 0} (state : DcsState C) (decoder : DecoderState)
     → Follows (Ok (record { consumed = start + consumed; status = status })) state decoder ended
     before piece
 entered_follows state decoder ended before piece start consumed status within from counted follows =
-    let front : List ℕ = before ++ take start piece in
-    let joins = cut_joins before piece start in (
-      omega (
-        arith,
-        follows.0,
-        counted,
-        ap (stage_count before) from,
-        length-append before (take start piece),
-        length-take-le start piece within,
-        ap dcs_count joins,
-      ),
-      follows.1 ∙ ap dcs_status joins,
+    grind (
+      arith,
+      cut_joins,
+      follows.0,
+      length-append,
+      length-take-le,
+      follows.1,
       follows.2,
-      subst (λ (w : List ℕ). HasFollowed state decoder ended w) joins follows.3,
-      sym (ap (dcs_fault decoder.pixel_limit) joins) ∙ follows.4,
+      follows.3,
+      follows.4,
     )
 
 grows : (a b n : ℕ) → a ≡ 0 → IsTrue (nat_lt b n) → IsTrue (nat_lt a n)
@@ -294,15 +231,4 @@ pub entered_refuses : (e : SixelError) (limit : Limit) (before piece : List ℕ)
     → Faults e (nat_lt (dcs_growths before) (dcs_growths (before ++ piece)))
     (dcs_fault limit (before ++ piece))
 entered_refuses e limit before piece start from refused =
-    let none : dcs_growths before ≡ 0 = ap stage_growths from in
-    let front : List ℕ = before ++ take start piece in
-    let moved : Faults e (nat_lt (dcs_growths front) (dcs_growths (before ++ piece)))
-    (dcs_fault limit (before ++ piece)) =
-    subst
-    (λ (w : List ℕ). Faults e (nat_lt (dcs_growths front) (dcs_growths w)) (dcs_fault limit w))
-    (cut_joins before piece start) refused in
-    Faults-along e (nat_lt (dcs_growths front) (dcs_growths (before ++ piece)))
-    (nat_lt (dcs_growths before) (dcs_growths (before ++ piece)))
-    (dcs_fault limit (before ++ piece)) (dcs_fault limit (before ++ piece))
-    (λ may. grows (dcs_growths before) (dcs_growths front) (dcs_growths (before ++ piece)) none may)
-    (λ f is. is) moved
+    grind (arith, nat_tests, cut_joins, Faults-along, grows)

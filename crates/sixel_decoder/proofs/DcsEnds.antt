@@ -1,17 +1,17 @@
 -- Which bytes of a payload's chunk belong to the DCS sequence after its terminator.
-use Rattle.std.proofs.Common.{◌≡◌, ℕ, ◌+◌, ◌≤◌, suc, true, false, cond, List, [], ◌∷◌, ◌++◌, refl}
+use Rattle.std.proofs.Common.{◌≡◌, ℕ, ◌+◌, ◌≤◌, true, List, [], ◌∷◌, ◌++◌, refl}
 use Rattle.std.proofs.Common.{ap, sym, ◌∙◌, arith, Option, Some, None, length, drop}
 use Rattle.std.specs.Prelude.{◌==◌}
 use Rattle.std.proofs.lemmas.Bool.Decides.{nat_tests}
-use Rattle.sixel_base.specs.Bytes.{is_terminator, before_terminator, count, first_terminator}
+use Rattle.sixel_base.specs.Bytes.{count, first_terminator}
 use Rattle.sixel_base.specs.declared.status.SixelFeedStatus.TheVariants as fed
 use Rattle.sixel_base.specs.declared.status.SixelDcsFeedStatus.{SixelDcsFeedStatus}
 use Rattle.sixel_base.specs.declared.status.SixelDcsFeedStatus.TheVariants.{NeedMoreData, Complete}
 use Rattle.sixel_base.specs.declared.status.SixelDcsFeedStatus.TheVariants.{Cancelled, Interrupted}
 use Rattle.sixel_base.specs.Status.{status_of}
 use Rattle.sixel_base.specs.Dcs.{after_terminator, end_status, end_count, escape_status}
-use Rattle.sixel_base.specs.Dcs.{escape_count, payload_status, payload_status_by, payload_count}
-use Rattle.sixel_base.specs.Dcs.{payload_count_by, ended_with, ended_by}
+use Rattle.sixel_base.specs.Dcs.{escape_count, payload_status, payload_count}
+use Rattle.sixel_base.specs.Dcs.{ended_with, ended_by}
 use Rattle.sixel_decoder.specs.inside.DcsParser.{GoesTo}
 use Rattle.sixel_decoder.proofs.Chunks.{count-append, first_terminator-append}
 use Rattle.sixel_decoder.proofs.Chunks.{first_terminator-ended, before_terminator-ended}
@@ -21,97 +21,61 @@ use Rattle.sixel_decoder.proofs.Terminators.{drop-count, escape_waits, end_stays
 -- a payload has at most all bytes
 pub count-fits : (bytes : List ℕ) → count bytes ≤ length bytes
 count-fits [] = omega arith
-count-fits (byte ∷ bytes) =
-    elim (is_terminator byte) as
-    (λ t. length (cond t [] (byte ∷ before_terminator bytes)) ≤ suc (length bytes)) [
-      | true ↦ omega arith
-      | false ↦ omega (arith, count-fits bytes)
-    ]
+count-fits (byte ∷ bytes) = grind (arith, nat_tests, count-fits bytes)
 
 -- a chunk adds at most its bytes
 pub count-most : (bytes piece : List ℕ) → count (bytes ++ piece) ≤ count bytes + length piece
 count-most [] piece = omega (arith, count-fits piece)
-count-most (byte ∷ bytes) piece =
-    elim (is_terminator byte) as
-    (λ t.
-    length (cond t [] (byte ∷ before_terminator (bytes ++ piece)))
-    ≤ length (cond t [] (byte ∷ before_terminator bytes)) + length piece) [
-      | true ↦ omega arith
-      | false ↦ omega (arith, count-most bytes piece)
-    ]
+count-most (byte ∷ bytes) piece = grind (arith, nat_tests, count-most bytes piece)
 
 -- ---- how a payload has ended, by its first terminator
 
 pub none_by : (o : Option ℕ) (rest : List ℕ) → ended_by o rest ≡ None → o ≡ None
-none_by None rest is = refl
-none_by (Some t) rest is = absurd cc
+none_by o rest is = grind (arith, nat_tests)
 
 pub some_by : (o : Option ℕ) (rest : List ℕ) (status : SixelDcsFeedStatus)
     → ended_by o rest ≡ Some status → (t : ℕ) × (o ≡ Some t) × (end_status t rest ≡ status)
-some_by None rest status is = absurd cc
-some_by (Some t) rest status is = (t, refl, cc)
+some_by o rest status is = grind (arith, nat_tests)
 
 pub count_open : (payload : List ℕ) → first_terminator payload ≡ None
     → payload_count payload ≡ count payload
-count_open payload none =
-    let e = ap (λ o. count payload + payload_count_by o (after_terminator payload)) none in
-    e ∙ omega arith
+count_open payload none = grind (arith, nat_tests)
 
 pub count_at : (payload rest : List ℕ) (t : ℕ) → first_terminator payload ≡ Some t
     → after_terminator payload ≡ rest → payload_count payload ≡ count payload + end_count t rest
-count_at payload rest t first after =
-    ap (λ o. count payload + payload_count_by o (after_terminator payload)) first
-    ∙ ap (λ w. count payload + end_count t w) after
+count_at payload rest t first after = grind (arith, nat_tests)
 
 pub status_at : (payload rest : List ℕ) (t : ℕ) → first_terminator payload ≡ Some t
     → after_terminator payload ≡ rest → payload_status payload ≡ end_status t rest
-status_at payload rest t first after =
-    ap (λ o. payload_status_by o (after_terminator payload)) first ∙ ap (end_status t) after
+status_at payload rest t first after = grind (arith, nat_tests)
 
 pub ended_at : (payload : List ℕ) (t : ℕ) → first_terminator payload ≡ Some t
     → ended_with payload ≡ Some (payload_status payload)
-ended_at payload t first =
-    ap (λ o. ended_by o (after_terminator payload)) first
-    ∙ ap Some (sym (ap (λ o. payload_status_by o (after_terminator payload)) first))
+ended_at payload t first = grind (arith, nat_tests)
 
 pub terminated_by : (o : Option ℕ) (t : ℕ) → fed.Terminated t ≡ status_of o → o ≡ Some t
-terminated_by None t is = absurd cc
-terminated_by (Some s) t is = cc
+terminated_by o t is = grind (arith, nat_tests)
 
 pub waiting_by : (o : Option ℕ) → fed.NeedMoreData ≡ status_of o → o ≡ None
-waiting_by None is = refl
-waiting_by (Some s) is = absurd cc
+waiting_by o is = grind (arith, nat_tests)
 
 -- payloads of one status have one terminator
 pub terminator_same : (a b : Option ℕ) → status_of a ≡ status_of b → a ≡ b
-terminator_same a None same = waiting_by a (sym same)
-terminator_same a (Some t) same = terminated_by a t (sym same)
+terminator_same a b same = grind (arith, nat_tests)
 
 -- ---- how it goes on
 
 -- no terminator came
 open_before : (payload piece : List ℕ) (o : Option ℕ) → first_terminator payload ≡ o
     → first_terminator (payload ++ piece) ≡ None → first_terminator payload ≡ None
-open_before payload piece None is none = is
-open_before payload piece (Some t) is none =
-    let e = first_terminator-ended payload piece t is in
-    absurd cc
+open_before payload piece o is none = grind (arith, nat_tests, first_terminator-ended)
 
 pub goes_open : (payload piece : List ℕ) (consumed : ℕ) (ended : Option SixelDcsFeedStatus)
     → ended ≡ ended_with payload → first_terminator (payload ++ piece) ≡ None
     → count payload + consumed ≡ count (payload ++ piece)
     → GoesTo payload (payload ++ piece) (record { consumed = consumed; status = NeedMoreData })
     × (ended ≡ ended_with (payload ++ piece))
-goes_open payload piece consumed ended is none counted =
-    let before = open_before payload piece (first_terminator payload) refl none in (
-      (
-        omega (arith, count_open payload before, count_open (payload ++ piece) none, counted),
-        sym (ap (λ o. payload_status_by o (after_terminator (payload ++ piece))) none),
-      ),
-      is
-          ∙ (ap (λ o. ended_by o (after_terminator payload)) before
-          ∙ sym (ap (λ o. ended_by o (after_terminator (payload ++ piece))) none)),
-    )
+goes_open payload piece consumed ended is none counted = grind (arith, open_before, count_open)
 
 -- the terminator comes in the chunk, and the bytes after it are these
 pub goes_to_end :
@@ -147,9 +111,7 @@ goes_to_end payload piece rest t start consumed more status ended first counted 
 
 escape_ends : (t : ℕ) (rest : List ℕ) → (t == 27) ≡ true
     → (end_count t rest ≡ escape_count rest) × (end_status t rest ≡ escape_status rest)
-escape_ends t rest is =
-    let e : t ≡ 27 = grind (arith, nat_tests) in
-    (ap (λ n. end_count n rest) e, ap (λ n. end_status n rest) e)
+escape_ends t rest is = grind (arith, nat_tests)
 
 -- ESC was the last byte before the chunk
 goes_after_escape : (payload piece : List ℕ) (t consumed more : ℕ) (status : SixelDcsFeedStatus)

@@ -1,32 +1,30 @@
 -- What finishing a DCS sequence in its payload returns.
 use Rattle.std.proofs.Common.{◌≡◌, ℕ, Bool, true, false, List, ◌++◌, refl, ap, sym, ◌∙◌, Option}
-use Rattle.std.proofs.Common.{Some, None, Result, Ok, Err, subst}
-use Rattle.std.specs.Prelude.{◌&&◌, ◌||◌, is_none, is_some, if◌then◌else◌}
-use Rattle.std.specs.Prelude.{IfOk, IfErr, MatchBool, OnOk}
+use Rattle.std.proofs.Common.{Some, None, Result, Ok, Err}
+use Rattle.std.specs.Prelude.{◌&&◌, ◌||◌, is_some, if◌then◌else◌}
 use Rattle.sixel_base.specs.declared.error.SixelError.{SixelError}
-use Rattle.sixel_base.specs.Fault.{Fault, Faults, IsFault, StreamFailed}
 use Rattle.sixel_base.specs.Bytes.{front, first_terminator}
 use Rattle.sixel_base.specs.History.{history_of}
-use Rattle.sixel_base.specs.Payload.{closed, fed_fault, first_fault}
-use Rattle.sixel_base.specs.Payload.{Image, payload_fault, payload_image, payload_registers}
-use Rattle.sixel_base.specs.Stroke.{Origin}
+use Rattle.sixel_base.specs.Payload.{Image, closed, fed_fault, first_fault, payload_fault}
+use Rattle.sixel_base.specs.Settings.{Settings}
 use Rattle.sixel_base.specs.declared.state.DecoderState.{DecoderState}
 use Rattle.sixel_base.specs.declared.status.SixelDcsFeedStatus.{SixelDcsFeedStatus}
-use Rattle.sixel_decoder.specs.declared.decoded_payload.DecodedPayload.{DecodedPayload}
-use Rattle.sixel_base.specs.Dcs.{Stage, stage, stage_status, stage_in_payload, after_terminator}
+use Rattle.sixel_base.specs.Dcs.{Stage, stage_status, stage_in_payload, after_terminator}
 use Rattle.sixel_base.specs.Dcs.{payload_status_by, dcs_status, dcs_in_payload, ended_by, has_ended}
-use Rattle.sixel_base.specs.Dcs.{can_finish, end_fault, has_come, IsStringImage, AreStringRegisters}
+use Rattle.sixel_base.specs.Dcs.{can_finish, has_come}
 use Rattle.sixel_base.specs.Lenient.{fault}
 use Rattle.sixel_base.specs.Limits.{Limit}
+use Rattle.sixel_base.specs.OneShot.{Payload, IsDecodedAs}
+use Rattle.sixel_base.specs.OneShot as one_shot
+use Rattle.sixel_decoder.specs.FinalRows.{found_pixel}
+use Rattle.sixel_decoder.specs.FinishedImages.{IsFinished, IsTaken, found_followed}
+use Rattle.sixel_decoder.specs.Reception.{Form, IsPayloadOf, OfPayload, OfString, Reception, found}
+use Rattle.sixel_decoder.specs.Reception.{of_payload}
+use Rattle.sixel_decoder.specs.Session.{Session, decoder_of}
+use Rattle.sixel_decoder.specs.declared.decoded_payload.DecodedPayload.{DecodedPayload}
 use Rattle.sixel_decoder.specs.inside.DcsParser.{IsInPayload}
-use Rattle.sixel_base.specs.OneShot.{Found, found, found_fault, IsFoundImage, AreFoundRegisters}
-use Rattle.sixel_base.specs.OneShot.{IsDecodedAs}
-use Rattle.sixel_decoder.specs.Session.{Session}
 use Rattle.sixel_decoder.proofs.Finality.{found_fault_ended, found_image_ended}
 use Rattle.sixel_decoder.proofs.Finality.{found_registers_ended}
-use Rattle.sixel_decoder.proofs.DcsPayloads.{found_reading}
-use Rattle.sixel_decoder.specs.FinishedImages.{found_followed}
-use Rattle.sixel_decoder.specs.Reception.{OfString}
 
 has_come-ended : (o : Option ℕ) (rest : List ℕ)
     → has_ended (payload_status_by o rest) ≡ has_come (ended_by o rest)
@@ -90,88 +88,81 @@ finish_sound reader decoder ended bytes is =
           ∙ (sym (string_ended reader decoder ended bytes is) ∙ over)) is.faultless
     ]) refl
 
--- then its image fails only if an allocation fails
-pub string_refused_at_end : (result : Result DecodedPayload SixelError) (reader : Session)
-    (decoder : DecoderState) (ended : Option SixelDcsFeedStatus) (bytes : List ℕ)
-    → IsInPayload reader decoder ended bytes → can_finish decoder.pixel_limit bytes ≡ true
-    → IfErr result (λ error. MatchBool reader.is_refused (IsFault error StreamFailed)
-    (Faults error (is_none (payload_fault reader.origin.pixel_limit reader.bytes))
-    (payload_fault reader.origin.pixel_limit reader.bytes)))
-    → IfErr result (λ error. Faults error (can_finish decoder.pixel_limit bytes)
-    (end_fault decoder.pixel_limit bytes))
-string_refused_at_end (Ok picture) reader decoder ended bytes is finishes refused = tt
-string_refused_at_end (Err e) reader decoder ended bytes is finishes refused =
-    let limit = reader.origin.pixel_limit in
-    let fine : payload_fault limit reader.bytes ≡ None =
-    ap (λ (o : Origin). payload_fault o.pixel_limit reader.bytes) is.start
-    ∙ finish_sound reader decoder ended bytes is finishes in
-    let told : Faults e (is_none (payload_fault limit reader.bytes))
-    (payload_fault limit reader.bytes) =
-    subst (λ (b : Bool).
-    MatchBool b (IsFault e StreamFailed)
-    (Faults e (is_none (payload_fault limit reader.bytes)) (payload_fault limit reader.bytes)))
-    is.accepted refused in
-    rw finishes (subst (λ (f : Option Fault). Faults e (is_none f) f) fine told)
+-- ---- the image of a sequence is that of its payload
 
-pub string_image : (result : Result DecodedPayload SixelError)
-    (image_of : DecodedPayload → Image) (reader : Session)
-    (decoder : DecoderState) (ended : Option SixelDcsFeedStatus) (bytes : List ℕ)
-    → IsInPayload reader decoder ended bytes
-    → IfOk result (λ picture. image_of picture ≡ payload_image reader.origin reader.bytes)
-    → IfOk result (λ picture. IsStringImage decoder (stage bytes) (image_of picture))
-string_image (Ok picture) image_of reader decoder ended bytes is image =
-    subst (λ (w : Stage). IsStringImage decoder w (image_of picture)) (sym is.reading)
-    (image ∙ ap (λ (o : Origin). payload_image o reader.bytes) is.start)
-string_image (Err e) image_of reader decoder ended bytes is image = tt
-
-pub string_registers : (result : Result DecodedPayload SixelError) (reader : Session)
-    (decoder : DecoderState) (ended : Option SixelDcsFeedStatus) (bytes : List ℕ)
-    → IsInPayload reader decoder ended bytes
-    → IfOk result (λ picture. picture.registers ≡ payload_registers reader.origin reader.bytes)
-    → IfOk result (λ picture. AreStringRegisters decoder (stage bytes) picture.registers)
-string_registers (Ok picture) reader decoder ended bytes is defined =
-    subst (λ (w : Stage). AreStringRegisters decoder w picture.registers) (sym is.reading)
-    (defined ∙ ap (λ (o : Origin). payload_registers o reader.bytes) is.start)
-string_registers (Err e) reader decoder ended bytes is defined = tt
-
--- which is what is decoded at once, whatever follows the end
-pub string_decoded : (result : Result DecodedPayload SixelError)
-    (image_of : DecodedPayload → Image) (reader : Session)
-    (decoder : DecoderState) (ended : Option SixelDcsFeedStatus) (bytes more : List ℕ)
-    → IsInPayload reader decoder ended bytes → has_ended (dcs_status bytes) ≡ true
-    → OnOk result (payload_fault reader.origin.pixel_limit reader.bytes ≡ None)
-    → IfOk result (λ picture. image_of picture ≡ payload_image reader.origin reader.bytes)
-    → IfOk result (λ picture. picture.registers ≡ payload_registers reader.origin reader.bytes)
-    → IfOk result
-    (λ picture.
-    IsDecodedAs decoder (found (bytes ++ more)) (image_of picture) picture.registers)
-string_decoded (Ok picture) image_of reader decoder ended bytes more is over sound image defined =
-    let at = found_reading bytes reader.origin.settings reader.bytes is.reading in (
-      found_fault_ended decoder.pixel_limit bytes more over
-          ∙ (ap (found_fault decoder.pixel_limit) at
-          ∙ (ap (λ (o : Origin). payload_fault o.pixel_limit reader.bytes) (sym is.start)
-          ∙ sound)),
-      found_image_ended decoder bytes more (image_of picture) over
-          (subst (λ (w : Found). IsFoundImage decoder w (image_of picture))
-          (sym at) (image ∙ ap (λ (o : Origin). payload_image o reader.bytes) is.start)),
-      found_registers_ended decoder bytes more picture.registers over
-          (subst (λ (w : Found). AreFoundRegisters decoder w picture.registers)
-          (sym at) (defined ∙ ap (λ (o : Origin). payload_registers o reader.bytes) is.start)),
-    )
-string_decoded (Err e) image_of reader decoder ended bytes more is over sound image defined = tt
-
--- and without that end what is decoded at once is the same image
-pub string_followed : (result : Result DecodedPayload SixelError)
-    (image_of : DecodedPayload → Image) (decoder : DecoderState) (bytes more : List ℕ)
-    → (has_ended (dcs_status bytes) ≡ true → IfOk result (λ picture.
-    IsDecodedAs decoder (found (bytes ++ more)) (image_of picture) picture.registers))
-    → OnOk result (found_fault decoder.pixel_limit (found bytes) ≡ None)
-    → IfOk result (λ picture. IsFoundImage decoder (found bytes) (image_of picture))
-    → IfOk result (λ picture. AreFoundRegisters decoder (found bytes) picture.registers)
-    → IfOk result (λ picture. IsDecodedAs decoder (found_followed OfString bytes more)
-    (image_of picture) picture.registers)
-string_followed (Ok picture) image_of decoder bytes more over faultless image registers =
+-- whatever follows a sequence that has ended, it is decoded as its bytes are
+decoded_followed : (decoder : DecoderState) (bytes more : List ℕ) (image : Image)
+    (after : List (List ℕ)) → IsDecodedAs decoder (one_shot.found bytes) image after
+    → IsDecodedAs decoder (found_followed OfString bytes more) image after
+decoded_followed decoder bytes more image after is =
     (elim (has_ended (dcs_status bytes)) as (λ t. has_ended (dcs_status bytes) ≡ t
-    → IsDecodedAs decoder (found (if t then bytes ++ more else bytes)) (image_of picture)
-    picture.registers) [ true ↦ over | false ↦ λ on. (faultless, image, registers) ]) refl
-string_followed (Err e) image_of decoder bytes more over faultless image registers = tt
+    → IsDecodedAs decoder (one_shot.found (if t then bytes ++ more else bytes)) image after) [
+      | true ↦ λ over. (
+        found_fault_ended decoder.pixel_limit bytes more over ∙ is.0,
+        found_image_ended decoder bytes more image over is.1,
+        found_registers_ended decoder bytes more after over is.2,
+      )
+      | false ↦ λ on. is
+    ]) refl
+
+not_payload : (form : Form) (settings : Settings) → form ≡ OfString → form ≡ OfPayload settings → ⊥
+not_payload form settings string payload = cc
+
+finished_in : {A : Type 0} (image_of : A → Image) (registers_of : A → List (List ℕ))
+    (payload : Session) (image : Reception) (result : Result A SixelError)
+    → IsPayloadOf payload image → image.form ≡ OfString → payload.is_refused ≡ false
+    → can_finish image.start.pixel_limit image.bytes ≡ true
+    → payload_fault payload.origin.pixel_limit payload.bytes ≡ None
+    → IsFinished image_of registers_of (of_payload payload) result
+    → IsFinished image_of registers_of image result
+finished_in image_of registers_of payload image (Ok done) is form accepted finishes sound told =
+    let start : image.start ≡ decoder_of payload.origin = sym (ap decoder_of is.start) in
+    let drawn : one_shot.found image.bytes ≡ Payload payload.origin.settings payload.bytes =
+    rw form at is.drawn in
+    record {
+      image = rw (start, is.reading) told.image;
+      registers = rw (start, is.reading) told.registers;
+      found_image = rw (start, is.drawn) told.found_image;
+      found_registers = rw (start, is.drawn) told.found_registers;
+      as_decoded = λ more. rw (start, form) (decoded_followed (decoder_of payload.origin)
+          image.bytes more (image_of done) (registers_of done) (rw drawn (told.as_decoded more)));
+      area = rw start told.area;
+      faultless = rw (start, is.drawn) told.faultless;
+      accepted = sym is.refused ∙ accepted;
+      ended = rw (form, finishes) refl;
+      error = tt;
+      refused = λ settings e of_payload. absurd (not_payload image.form settings form of_payload);
+    }
+finished_in image_of registers_of payload image (Err e) is form accepted finishes sound told =
+    let refused : image.is_refused ≡ false = sym is.refused ∙ accepted in
+    record {
+      image = tt;
+      registers = tt;
+      found_image = tt;
+      found_registers = tt;
+      as_decoded = λ more. tt;
+      area = tt;
+      faultless = tt;
+      accepted = tt;
+      ended = tt;
+      error = rw (refused, form, finishes) (rw (accepted, sound) at told.error);
+      refused = λ settings e of_payload. absurd (not_payload image.form settings form of_payload);
+    }
+
+pub taken_in : (payload : Session) (image : Reception) (result : Result DecodedPayload SixelError)
+    → IsPayloadOf payload image → image.form ≡ OfString → payload.is_refused ≡ false
+    → can_finish image.start.pixel_limit image.bytes ≡ true
+    → payload_fault payload.origin.pixel_limit payload.bytes ≡ None
+    → IsTaken (of_payload payload) result → IsTaken image result
+taken_in payload image result is form accepted finishes sound told =
+    let start : image.start ≡ decoder_of payload.origin = sym (ap decoder_of is.start) in
+    let shown : found_pixel image.start (found image.form image.bytes)
+    ≡ found_pixel (decoder_of payload.origin) (Payload payload.origin.settings payload.bytes) =
+    rw (start, is.drawn) refl in
+    record {
+      finished =
+          rw shown (finished_in _ _ payload image result is form accepted finishes sound
+          told.finished);
+      first = rw (← is.released) told.first;
+      report = rw (start, is.drawn) told.report;
+    }

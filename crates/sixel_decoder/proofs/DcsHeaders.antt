@@ -1,19 +1,21 @@
 -- The stage of a DCS sequence after further bytes.
 use Rattle.std.proofs.Common.{◌≡◌, ℕ, true, false, cond, List, [], ◌∷◌, ◌++◌, refl, ap, sym, ◌∙◌}
-use Rattle.std.proofs.Common.{subst, Some, None}
-use Rattle.std.specs.Prelude.{◌==◌, IsSomeAnd}
+use Rattle.std.proofs.Common.{subst}
+use Rattle.std.specs.Prelude.{IsSomeAnd}
 use Rattle.std.proofs.lemmas.List.{append-nil}
 use Rattle.sixel_base.specs.declared.error.SixelError.{SixelError}
-use Rattle.sixel_base.specs.Fault.{IsFault, Malformed, BadHeader}
+use Rattle.sixel_base.specs.Fault.{IsFault}
 use Rattle.sixel_base.specs.inside.Parameters.{Keeps}
-use Rattle.sixel_base.specs.Bytes.{is_terminator, carrying}
-use Rattle.sixel_base.specs.Header.{Begun, Faulty, headed_by, is_header, header_front, header_rest}
+use Rattle.sixel_base.specs.Bytes.{carrying}
+use Rattle.sixel_base.specs.Header.{headed_by, is_header, header_front, header_rest}
 use Rattle.sixel_base.specs.Header.{header_text, settings_of, command_fault}
 use Rattle.sixel_decoder.specs.declared.header.Header as headers
 use Rattle.sixel_decoder.specs.inside.DcsParser.{IsInHeader, IsStageFault}
 use Rattle.sixel_decoder.proofs.Chunks.{carrying-append}
-use Rattle.sixel_base.specs.Dcs.{Waiting, Absent, Entered, introduced, escaped, Stage, Reading}
-use Rattle.sixel_base.specs.Dcs.{stage_after, stage_by, stage}
+use Rattle.sixel_base.specs.Dcs.{Entered, introduced, Stage, Reading}
+use Rattle.sixel_base.specs.Dcs.{stage_after, stage}
+use Rattle.std.proofs.Common.{arith}
+use Rattle.std.proofs.lemmas.Bool.Decides.{nat_tests}
 
 -- ---- a header goes on
 
@@ -45,9 +47,7 @@ header_front-open (byte ∷ rest) more going =
 
 pub header_text-open : (rest more : List ℕ) → header_rest rest ≡ []
     → header_text (rest ++ more) ≡ header_text rest ++ header_text more
-header_text-open rest more going =
-    ap carrying (header_front-open rest more going)
-    ∙ carrying-append (header_front rest) (header_front more)
+header_text-open rest more going = grind (arith, nat_tests, header_front-open, carrying-append)
 
 -- ---- a header has ended
 
@@ -79,39 +79,7 @@ header_front-ended (b ∷ rest) more tail byte ended =
 
 pub introduced-entered : (bytes rest more : List ℕ) → introduced bytes ≡ Entered rest
     → introduced (bytes ++ more) ≡ Entered (rest ++ more)
-introduced-entered [] rest more is = absurd cc
-introduced-entered (byte ∷ []) rest more is =
-    (elim (byte == 0x90) as
-    (λ t.
-    cond t (Entered []) (cond (byte == 27) Waiting Absent) ≡ Entered rest
-    → cond t (Entered more) (cond (byte == 27) (escaped more) Absent) ≡ Entered (rest ++ more)) [
-      | true ↦ λ e. let none : [] ≡ rest = cc in ap (λ w. Entered (w ++ more)) none
-      | false ↦ elim (byte == 27) as
-          (λ t.
-          cond t Waiting Absent ≡ Entered rest
-          → cond t (escaped more) Absent ≡ Entered (rest ++ more))
-          [ true ↦ λ e. absurd cc | false ↦ λ e. absurd cc ]
-    ]) is
-introduced-entered (byte ∷ next ∷ bytes) rest more is =
-    (elim (byte == 0x90) as (λ t. cond t (Entered (next ∷ bytes))
-    (cond (byte == 27) (escaped (next ∷ bytes)) Absent) ≡ Entered rest
-    → cond t (Entered (next ∷ (bytes ++ more)))
-    (cond (byte == 27) (escaped (next ∷ (bytes ++ more))) Absent) ≡ Entered (rest ++ more)) [
-      | true ↦ λ e. let same : next ∷ bytes ≡ rest = cc in ap (λ w. Entered (w ++ more)) same
-      | false ↦ elim (byte == 27) as
-          (λ t.
-          cond t (escaped (next ∷ bytes)) Absent ≡ Entered rest
-          → cond t (escaped (next ∷ (bytes ++ more))) Absent ≡ Entered (rest ++ more)) [
-            | true ↦ elim (next == 80) as
-                (λ t.
-                cond t (Entered bytes) Absent ≡ Entered rest
-                → cond t (Entered (bytes ++ more)) Absent ≡ Entered (rest ++ more)) [
-                  | true ↦ λ e. let same : bytes ≡ rest = cc in ap (λ w. Entered (w ++ more)) same
-                  | false ↦ λ e. absurd cc
-                ]
-            | false ↦ λ e. absurd cc
-          ]
-    ]) is
+introduced-entered bytes rest more is = grind (arith, nat_tests)
 
 -- ---- a byte more of the header
 
@@ -147,10 +115,7 @@ stage_other : (header : headers.Header) (before : List ℕ) (byte : ℕ) (h : Is
     → is_header byte ≡ false
     → stage (before ++ byte ∷ []) ≡ stage_after (h.rest ++ byte ∷ []) (headed_by (byte ∷ []))
 stage_other header before byte h is =
-    ap stage_by (introduced-entered before h.rest (byte ∷ []) h.entered)
-    ∙ ap
-    (λ w. stage_after (h.rest ++ byte ∷ []) (headed_by w))
-    (header_rest-open h.rest (byte ∷ []) h.going ∙ header_rest-other byte is)
+    grind (arith, nat_tests, introduced-entered, header_rest-open, header_rest-other)
 
 -- its `q` begins the payload
 pub header_begins :
@@ -169,17 +134,7 @@ header_begins header before byte h is q =
 refused_stage : (e : SixelError) (rest : List ℕ) (byte : ℕ)
     → IsSomeAnd (command_fault byte) (IsFault e)
     → IsStageFault e (stage_after rest (headed_by (byte ∷ [])))
-refused_stage e rest byte fault =
-    (elim (byte == 113) as (λ q. IsSomeAnd
-    (cond q None (cond (is_terminator byte) (Some Malformed) (Some BadHeader))) (IsFault e)
-    → IsStageFault e (stage_after rest
-    (cond q (Begun []) (cond (is_terminator byte) (Faulty Malformed) (Faulty BadHeader))))) [
-      | true ↦ λ never. never
-      | false ↦ elim (is_terminator byte) as (λ t. IsSomeAnd
-          (cond t (Some Malformed) (Some BadHeader)) (IsFault e)
-          → IsStageFault e (stage_after rest (cond t (Faulty Malformed) (Faulty BadHeader))))
-          [ true ↦ λ is. is | false ↦ λ is. is ]
-    ]) fault
+refused_stage e rest byte fault = grind (arith, nat_tests)
 
 -- any other byte is rejected
 pub header_refuses : (e : SixelError) (header : headers.Header) (before : List ℕ) (byte : ℕ)

@@ -1,24 +1,13 @@
 -- The payload of a DCS sequence is that of decoding its bytes in one call.
-use Rattle.std.proofs.Common.{◌≡◌, ℕ, true, false, cond, List, [], ◌∷◌, refl, ap, sym, ◌∙◌, subst}
-use Rattle.std.proofs.Common.{Option, Some, Result, Ok, Err}
-use Rattle.std.specs.Prelude.{◌==◌, ◌&&◌, IfOk}
-use Rattle.sixel_base.specs.declared.error.SixelError.{SixelError}
+use Rattle.std.proofs.Common.{◌≡◌, ℕ, true, false, cond, List, [], ◌∷◌, refl, ap, ◌∙◌}
+use Rattle.std.proofs.Common.{Some}
+use Rattle.std.specs.Prelude.{◌==◌, ◌&&◌}
 use Rattle.sixel_base.specs.Settings.{Settings}
-use Rattle.sixel_base.specs.declared.state.DecoderState.{DecoderState}
-use Rattle.sixel_base.specs.Stroke.{Origin}
-use Rattle.sixel_base.specs.Payload.{Image, payload_image, payload_registers}
-use Rattle.sixel_base.specs.declared.status.SixelDcsFeedStatus.{SixelDcsFeedStatus}
 use Rattle.sixel_base.specs.Header.{Headed, Open, Begun, Faulty, headed}
 use Rattle.sixel_base.specs.OneShot.{begins_with_p, without_first, after_introducer, found}
-use Rattle.sixel_base.specs.OneShot.{found_in, found_by, Found, Payload, IsFoundImage}
-use Rattle.sixel_base.specs.OneShot.{AreFoundRegisters}
+use Rattle.sixel_base.specs.OneShot.{found_in, found_by, Payload}
 use Rattle.sixel_base.specs.Dcs.{Introduced, Waiting, Absent, Entered, introduced, escaped, Reading}
 use Rattle.sixel_base.specs.Dcs.{stage_after, stage_by, stage}
-use Rattle.sixel_decoder.specs.PictureView.{picture_report}
-use Rattle.sixel_decoder.specs.Report.{found_report, payload_report}
-use Rattle.sixel_decoder.specs.Session.{Session}
-use Rattle.sixel_decoder.specs.inside.DcsParser.{IsInPayload}
-use Rattle.sixel_decoder.specs.declared.decoded_payload.DecodedPayload.{DecodedPayload}
 
 escaped_introducer : (bytes rest : List ℕ) → escaped bytes ≡ Entered rest
     → (begins_with_p bytes ≡ true) × (without_first bytes ≡ rest)
@@ -69,39 +58,3 @@ found_by_introducer bytes (Entered rest) s payload e is =
 pub found_reading : (bytes : List ℕ) (s : Settings) (payload : List ℕ)
     → stage bytes ≡ Reading s payload → found bytes ≡ Payload s payload
 found_reading bytes s payload is = found_by_introducer bytes (introduced bytes) s payload refl is
-
--- ---- what finishing a string in its payload answers
-
-pub found_image : (result : Result DecodedPayload SixelError)
-    (image_of : DecodedPayload → Image) (reader : Session)
-    (decoder : DecoderState) (ended : Option SixelDcsFeedStatus) (bytes : List ℕ)
-    → IsInPayload reader decoder ended bytes
-    → IfOk result (λ picture. image_of picture ≡ payload_image reader.origin reader.bytes)
-    → IfOk result (λ picture. IsFoundImage decoder (found bytes) (image_of picture))
-found_image (Ok picture) image_of reader decoder ended bytes is image =
-    subst (λ (w : Found). IsFoundImage decoder w (image_of picture))
-    (sym (found_reading bytes reader.origin.settings reader.bytes is.reading))
-    (image ∙ ap (λ (o : Origin). payload_image o reader.bytes) is.start)
-found_image (Err e) image_of reader decoder ended bytes is image = tt
-
-pub found_registers : (result : Result DecodedPayload SixelError) (reader : Session)
-    (decoder : DecoderState) (ended : Option SixelDcsFeedStatus) (bytes : List ℕ)
-    → IsInPayload reader decoder ended bytes
-    → IfOk result (λ picture. picture.registers ≡ payload_registers reader.origin reader.bytes)
-    → IfOk result (λ picture. AreFoundRegisters decoder (found bytes) picture.registers)
-found_registers (Ok picture) reader decoder ended bytes is defined =
-    subst (λ (w : Found). AreFoundRegisters decoder w picture.registers)
-    (sym (found_reading bytes reader.origin.settings reader.bytes is.reading))
-    (defined ∙ ap (λ (o : Origin). payload_registers o reader.bytes) is.start)
-found_registers (Err e) reader decoder ended bytes is defined = tt
-
-pub found_reported : (result : Result DecodedPayload SixelError) (reader : Session)
-    (decoder : DecoderState) (ended : Option SixelDcsFeedStatus) (bytes : List ℕ)
-    → IsInPayload reader decoder ended bytes
-    → IfOk result (λ picture. picture_report picture ≡ payload_report reader.origin reader.bytes)
-    → IfOk result (λ picture. picture_report picture ≡ found_report decoder (found bytes))
-found_reported (Ok picture) reader decoder ended bytes is reported =
-    subst (λ (w : Found). picture_report picture ≡ found_report decoder w)
-    (sym (found_reading bytes reader.origin.settings reader.bytes is.reading))
-    (reported ∙ ap (λ (o : Origin). payload_report o reader.bytes) is.start)
-found_reported (Err e) reader decoder ended bytes is reported = tt

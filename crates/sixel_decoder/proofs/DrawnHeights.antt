@@ -1,21 +1,15 @@
 -- The last row with a set pixel, of a history and of sixels after it.
-use Rattle.std.proofs.Common.{◌≡◌, ℕ, zero, suc, ◌+◌, ◌≤◌, true, false, cond, List, [], ◌∷◌}
+use Rattle.std.proofs.Common.{◌≡◌, ℕ, zero, suc, ◌+◌, ◌≤◌, List, [], ◌∷◌}
 use Rattle.std.proofs.Common.{max, length, get_or, take, refl, ap, ◌∙◌, arith}
-use Rattle.std.specs.Prelude.{nat_lt}
 use Rattle.std.proofs.lemmas.Bool.{le-leb, lt-ltb}
-use Rattle.sixel_base.specs.Bytes.{front, is_terminated}
-use Rattle.sixel_base.specs.Clip.{clipped_bits, is_inside}
-use Rattle.sixel_base.specs.DrawnHeight.{drawn_height, lowered, payload_drawn_height, set_rows}
+use Rattle.sixel_base.specs.DrawnHeight.{drawn_height, lowered, set_rows}
 use Rattle.sixel_base.specs.History.{Sixel, Repeat, Raster, Color, Return, Newline, Skip, History}
-use Rattle.sixel_base.specs.History.{history_of}
-use Rattle.sixel_base.specs.Lenient.{effective}
 use Rattle.sixel_base.specs.Limits.{Limit}
-use Rattle.sixel_base.specs.Payload.{closed, settled}
 use Rattle.sixel_base.specs.Place.{across, down, height}
 use Rattle.sixel_decoder.specs.inside.Runs.{most_rows}
-use Rattle.sixel_base.proofs.ToleratedTokens.{effective-same}
-use Rattle.sixel_decoder.proofs.SetRows.{lowered-again, set_rows_few}
+use Rattle.sixel_decoder.proofs.SetRows.{lowered-again}
 use Rattle.sixel_decoder.proofs.SixelRuns.{with_sixels, IsInside, IsInside-sixel}
+use Rattle.std.proofs.lemmas.Bool.Decides.{nat_tests}
 
 -- sixels of one band
 pub drawn_height-sixels : (limit : Limit) (h : History) (sixels : List ℕ)
@@ -52,60 +46,15 @@ take_set (suc n) (bits ∷ more) blank =
 pub most_rows-first : (sixels eight : List ℕ) → take (length sixels) eight ≡ sixels
     → ((k : ℕ) → length sixels ≤ k → get_or eight k 0 ≡ 0)
     → most_rows eight ≡ most_rows sixels
-most_rows-first sixels eight first blank =
-    take_set (length sixels) eight blank ∙ ap most_rows first
-
-lowered-within : (before top rows high : ℕ) → before ≤ high → rows ≤ 6
-    → lowered before top rows ≤ max high (top + 6)
-lowered-within before top rows high within few =
-    elim (nat_lt 0 rows) as
-    (λ t. cond t (max before (top + rows)) before ≤ max high (top + 6)) [
-      | true ↦ omega (arith, within, few)
-      | false ↦ omega (arith, within)
-    ]
+most_rows-first sixels eight first blank = grind (arith, nat_tests, take_set)
 
 -- no pixel is set below the image
 pub drawn_within : (limit : Limit) (h : History) → drawn_height limit h ≤ height h
 drawn_within limit [] = omega arith
-drawn_within limit (Sixel bits ∷ h) =
-    let rows : ℕ = set_rows (clipped_bits limit (down h) bits) in
-    elim (is_inside limit h) as
-    (λ t.
-    cond t (lowered (drawn_height limit h) (down h) rows) (drawn_height limit h)
-    ≤ max (height h) (down h + 6)) [
-      | true ↦ lowered-within (drawn_height limit h) (down h) rows (height h) (drawn_within limit h)
-          (set_rows_few (clipped_bits limit (down h) bits))
-      | false ↦ omega (arith, drawn_within limit h)
-    ]
+drawn_within limit (Sixel bits ∷ h) = grind (arith, nat_tests, drawn_within limit h)
 drawn_within limit (Repeat _ ∷ h) = drawn_within limit h
 drawn_within limit (Raster _ ∷ h) = omega (arith, drawn_within limit h)
 drawn_within limit (Color _ ∷ h) = drawn_within limit h
 drawn_within limit (Return ∷ h) = drawn_within limit h
 drawn_within limit (Newline ∷ h) = drawn_within limit h
 drawn_within limit (Skip _ ∷ h) = drawn_within limit h
-
-drawn_height-closed : (limit : Limit) (h : History)
-    → drawn_height limit (effective limit (closed h)) ≡ drawn_height limit (effective limit h)
-drawn_height-closed limit [] = refl
-drawn_height-closed limit (Sixel _ ∷ h) = refl
-drawn_height-closed limit (Repeat t ∷ h) =
-    effective-same (drawn_height limit) limit (Repeat t) h (λ w. refl) (λ w. refl)
-drawn_height-closed limit (Raster t ∷ h) =
-    effective-same (drawn_height limit) limit (Raster t) h (λ w. refl) (λ w. refl)
-drawn_height-closed limit (Color t ∷ h) =
-    effective-same (drawn_height limit) limit (Color t) h (λ w. refl) (λ w. refl)
-drawn_height-closed limit (Return ∷ h) = refl
-drawn_height-closed limit (Newline ∷ h) = refl
-drawn_height-closed limit (Skip _ ∷ h) = refl
-
--- an open command sets no pixel
-pub drawn_height-settled : (limit : Limit) (bytes : List ℕ)
-    → drawn_height limit (effective limit (settled bytes)) ≡ payload_drawn_height limit bytes
-drawn_height-settled limit bytes =
-    let h : History = history_of (front bytes) in
-    elim (is_terminated bytes) as
-    (λ t. drawn_height limit (effective limit (cond t h (closed h)))
-    ≡ drawn_height limit (effective limit h)) [
-      | true ↦ refl
-      | false ↦ drawn_height-closed limit h
-    ]

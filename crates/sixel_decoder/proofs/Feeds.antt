@@ -1,27 +1,24 @@
 -- What a feed that succeeds does to a session, and what a byte of its own does to the parsers.
 use Rattle.std.proofs.Common.{◌≡◌, ℕ, ◌+◌, false, List, [], ◌∷◌, ◌++◌, sym, ◌∙◌, arith, None, Ok}
-use Rattle.std.proofs.Common.{ap, refl, subst, Result, Option, Some}
+use Rattle.std.proofs.Common.{ap, refl, subst, Option, Some}
 use Rattle.std.specs.Prelude.{is_some}
 use Rattle.std.proofs.lemmas.Bool.Decides.{nat_tests}
-use Rattle.sixel_base.specs.declared.error.SixelError.{SixelError}
 use Rattle.sixel_base.specs.declared.state.DecoderState.{DecoderState}
 use Rattle.sixel_base.specs.declared.status.SixelFeedResult.{SixelFeedResult}
 use Rattle.sixel_base.specs.declared.status.SixelFeedStatus.TheVariants as payload_status
-use Rattle.sixel_base.specs.declared.status.SixelDcsFeedResult.{SixelDcsFeedResult}
 use Rattle.sixel_base.specs.declared.status.SixelDcsFeedStatus.{SixelDcsFeedStatus}
 use Rattle.sixel_base.specs.declared.status.SixelDcsFeedStatus.TheVariants.{NeedMoreData}
-use Rattle.sixel_base.specs.Bytes.{count, first_terminator, front, is_ignored, is_terminator}
-use Rattle.sixel_base.specs.Dcs.{dcs_fault}
+use Rattle.sixel_base.specs.Bytes.{count, first_terminator, front}
 use Rattle.sixel_base.specs.History.{History, history_of, read}
-use Rattle.sixel_base.specs.Limits.{Limit}
 use Rattle.sixel_base.specs.Payload.{fed_fault}
 use Rattle.sixel_base.specs.Status.{status_of}
 use Rattle.sixel_base.specs.Stroke.{Origin}
 use Rattle.sixel_canvas.specs.declared.drawing.Canvas.{Ghosts}
-use Rattle.sixel_decoder.specs.DcsCalls as strings
+use Rattle.sixel_decoder.specs.FedImages.{of_payload_fed}
 use Rattle.sixel_decoder.specs.PayloadCalls as payloads
-use Rattle.sixel_decoder.specs.Session.{Session, DcsSession}
-use Rattle.sixel_decoder.specs.declared.dcs_parser.DcsState.{DcsState}
+use Rattle.sixel_decoder.specs.Reception.{OfPayload, of_payload}
+use Rattle.sixel_decoder.specs.Session.{Session, decoder_of}
+use Rattle.sixel_decoder.specs.declared.received.Status.TheVariants.{Payload}
 use Rattle.sixel_decoder.specs.declared.dcs_parser.DcsState.TheVariants as states
 use Rattle.sixel_decoder.specs.declared.payload_parser.PayloadParser.{PayloadParser}
 use Rattle.sixel_decoder.specs.inside.DcsParser.{Follows, IsInPayload}
@@ -30,8 +27,8 @@ use Rattle.sixel_decoder.specs.inside.PayloadReader.{GoesOn, HasRead}
 use Rattle.sixel_decoder.specs.inside.Runs.{IsPrintable}
 use Rattle.sixel_decoder.proofs.Chunks.{open_goes_on}
 use Rattle.sixel_decoder.proofs.DcsChunks.{payload_follows}
-use Rattle.sixel_decoder.proofs.DcsEnds.{count-most, goes_open, waiting_by}
-use Rattle.sixel_decoder.proofs.Sessions.{frame_over, string_over, string_same, string_within}
+use Rattle.sixel_decoder.proofs.DcsEnds.{goes_open, waiting_by}
+use Rattle.sixel_decoder.proofs.FedImages.{image_fed}
 
 -- ---- a payload
 
@@ -40,10 +37,7 @@ pub feeds_byte : {C : Type 0} {canvas : Ghosts C} (o : Origin) (parser : Payload
     (h : History) (byte : ℕ)
     → IsPrintable byte → Stands o parser (read h byte)
     → Feeds payloads.byte_read o parser h (byte ∷ [])
-feeds_byte o parser h byte is stands =
-    let ends : is_terminator byte ≡ false = grind (arith, nat_tests, is.0, is.1) in
-    let carries : is_ignored byte ≡ false = grind (arith, nat_tests, is.0, is.1) in
-    rw (ends, carries) (refl, refl, stands)
+feeds_byte o parser h byte is stands = grind (arith, nat_tests)
 
 -- so a parser that has read it goes on
 pub byte_goes_on : {C : Type 0} {canvas : Ghosts C} (o : Origin) (old new : PayloadParser C canvas)
@@ -66,34 +60,20 @@ byte_goes_on o old new (Some t) before byte none is printable stands = absurd cc
 
 -- a reader that went on was fed the chunk
 pub payload_fed : (old new : Session) (chunk : List ℕ) (fed : SixelFeedResult)
-    → old.is_refused ≡ false
+    → old.is_refused ≡ false → new.is_refused ≡ false
+    → new.origin ≡ old.origin → new.released ≡ old.released → new.bytes ≡ old.bytes ++ chunk
     → fed_fault old.origin.pixel_limit old.bytes ≡ None
     → (count old.bytes + fed.consumed ≡ count (old.bytes ++ chunk))
     × (fed.status ≡ status_of (first_terminator (old.bytes ++ chunk)))
-    → fed_fault old.origin.pixel_limit (old.bytes ++ chunk) ≡ None
-    → new.origin ≡ old.origin → new.bytes ≡ old.bytes ++ chunk → new.is_refused ≡ false
-    → new.released ≡ old.released → payloads.IsFed old new chunk (Ok fed)
-payload_fed old new chunk fed was sound goes faultless origin bytes now released =
-    let limit : Limit = old.origin.pixel_limit in
-    let result : Result SixelFeedResult SixelError = Ok fed in
-    record {
-      origin = origin;
-      released = released;
-      bytes = bytes;
-      ok = (was, now);
-      err = tt;
-      faultless = rw bytes faultless;
-      sound = λ accepted. sound;
-      over = λ t accepted some.
-          frame_over limit result old.bytes chunk (old.bytes ++ chunk) t some refl sound goes.0
-          goes.1 tt;
-      consumed = rw bytes goes.0;
-      within = omega (arith, goes.0, count-most old.bytes chunk);
-      status = rw bytes goes.1;
-      error = tt;
-      refused = λ e is. absurd cc;
-      refused_for_good = λ e more is. absurd cc;
-    }
+    × (fed_fault old.origin.pixel_limit (old.bytes ++ chunk) ≡ None)
+    → payloads.IsFed old new chunk (Ok fed)
+payload_fed old new chunk fed was now origin released bytes sound goes = record {
+  origin = origin;
+  fed =
+      image_fed (of_payload old) (of_payload new) chunk (of_payload_fed fed) was now
+      (ap (λ (o : Origin). OfPayload o.settings) origin) (ap decoder_of origin) released bytes
+      sound (goes.0, ap Payload goes.1, goes.2);
+}
 
 -- ---- a DCS sequence in its payload
 
@@ -105,40 +85,14 @@ pub open_follows : (C : Type 0) (old new : Session) (decoder : DecoderState)
     → Follows {C = C} (Ok (record { consumed = fed.consumed; status = NeedMoreData }))
     (states.Payload new) decoder ended before chunk
 open_follows C old new decoder ended before chunk fed is now waits =
+    let bytes : new.bytes ≡ old.bytes ++ chunk = now.fed.bytes refl in
+    let told = now.fed.status in
+    let stands : fed.status ≡ status_of (first_terminator new.bytes) = cc in
     let none : first_terminator (old.bytes ++ chunk) ≡ None =
-    ap first_terminator (sym now.bytes)
-    ∙ waiting_by (first_terminator new.bytes) (sym waits ∙ now.status) in
+    ap first_terminator (sym bytes)
+    ∙ waiting_by (first_terminator new.bytes) (sym waits ∙ stands) in
     let counted : count old.bytes + fed.consumed ≡ count (old.bytes ++ chunk) =
-    now.consumed ∙ ap count now.bytes in
+    now.fed.consumed ∙ ap count bytes in
     let goes = goes_open old.bytes chunk fed.consumed ended is.ending none counted in
     payload_follows C old new decoder ended ended before chunk fed.consumed _ is now.origin
-    now.bytes now.ok.1 now.faultless goes.0 goes.1
-
--- a reader that followed the chunk was fed it
-pub string_fed : {C : Type 0} (old new : DcsSession) (state : DcsState C)
-    (ended : Option SixelDcsFeedStatus) (chunk : List ℕ) (fed : SixelDcsFeedResult)
-    → old.is_refused ≡ false → dcs_fault old.decoder.pixel_limit old.bytes ≡ None
-    → Follows (Ok fed) state old.decoder ended old.bytes chunk
-    → new.decoder ≡ old.decoder → new.bytes ≡ old.bytes ++ chunk → new.is_refused ≡ false
-    → new.released ≡ old.released → strings.IsFed old new chunk (Ok fed)
-string_fed old new state ended chunk fed was sound goes decoder bytes now released =
-    let limit : Limit = old.decoder.pixel_limit in
-    let result : Result SixelDcsFeedResult SixelError = Ok fed in
-    let all : List ℕ = old.bytes ++ chunk in
-    record {
-      start = decoder;
-      released = released;
-      bytes = bytes;
-      ok = (was, now);
-      err = tt;
-      faultless = rw bytes goes.4;
-      sound = λ accepted. sound;
-      over = λ accepted ended.
-          string_over limit result old.bytes chunk all ended refl sound goes.0 goes.1 tt;
-      over_for_good = rw bytes (λ more. string_same limit result all more goes.1);
-      consumed = rw bytes goes.0;
-      within = string_within result old.bytes chunk all refl goes.0;
-      status = rw bytes goes.1;
-      error = tt;
-      refused_for_good = λ e more is. absurd cc;
-    }
+    bytes now.fed.ok.1 now.fed.faultless goes.0 goes.1

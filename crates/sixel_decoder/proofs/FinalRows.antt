@@ -1,22 +1,21 @@
 -- Final rows stay: no token that follows draws above the band of the next sixel.
-use Rattle.std.proofs.Common.{◌≡◌, ℕ, ◌+◌, ◌<◌, ◌≤◌, true, false, cond, List, [], ◌∷◌, ◌++◌}
+use Rattle.std.proofs.Common.{◌≡◌, ℕ, ◌<◌, ◌≤◌, true, false, cond, List, [], ◌∷◌, ◌++◌}
 use Rattle.std.proofs.Common.{refl, ap, sym, ◌∙◌, subst, arith, Option, Some, None}
-use Rattle.std.specs.Prelude.{fold, is_none, nat_le, nat_lt, ◌&&◌, if◌then◌else◌}
+use Rattle.std.specs.Prelude.{fold}
 use Rattle.std.proofs.lemmas.Bool.Decides.{nat_tests}
 use Rattle.sixel_base.specs.Bytes.{front, first_terminator}
-use Rattle.sixel_base.specs.Clip.{clipped_pixel, is_pixel_inside}
+use Rattle.sixel_base.specs.Clip.{clipped_pixel}
 use Rattle.sixel_base.specs.Dcs.{Stage, Heading, Failing, Reading, stage}
-use Rattle.sixel_base.specs.Lenient.{effective, tolerated, with_tolerated, without}
+use Rattle.sixel_base.specs.Lenient.{effective, without}
 use Rattle.sixel_base.specs.Limits.{Limit}
-use Rattle.sixel_base.specs.History.{Token, Sixel, Repeat, Raster, Color, Return, Newline, Skip}
+use Rattle.sixel_base.specs.History.{Token}
 use Rattle.sixel_base.specs.History.{History, begun, longer, goes_on, read, history_of}
-use Rattle.sixel_base.specs.Payload.{closed, settled, settled_tokens, tokens, fault_of}
+use Rattle.sixel_base.specs.Payload.{closed, settled_tokens, tokens}
 use Rattle.sixel_base.specs.Picture.{covers}
-use Rattle.sixel_base.specs.Place.{across, span, down, height}
+use Rattle.sixel_base.specs.Place.{down, height}
 use Rattle.sixel_base.specs.Settings.{Settings}
-use Rattle.sixel_base.specs.Stroke.{Origin, background, pixel}
+use Rattle.sixel_base.specs.Stroke.{Origin, pixel}
 use Rattle.sixel_decoder.specs.FinalRows.{payload_final_rows, stage_final_rows, dcs_final_rows}
-use Rattle.sixel_base.proofs.ToleratedTokens.{effective-same}
 use Rattle.sixel_decoder.proofs.ChunkReads.{closed-longer}
 use Rattle.sixel_decoder.proofs.Finality.{history_more, settled_open, of_settled, settled_ended}
 use Rattle.sixel_decoder.proofs.Finality.{front_ended}
@@ -33,104 +32,32 @@ pub record Continues (older newer : History) : Type 0 where
 -- a sixel covers no pixel above its band
 above_band : (from to top bits column row : ℕ) → row < top
     → covers from to top bits column row ≡ false
-above_band from to top bits column row above =
-    let higher : nat_le top row ≡ false = grind (arith, nat_tests) in
-    rw higher (elim (nat_le from column) as (λ a. (a && nat_lt column to && false) ≡ false) [
-      | true ↦ elim (nat_lt column to) as (λ b. (b && false) ≡ false) [ true ↦ refl | false ↦ refl ]
-      | false ↦ refl
-    ])
+above_band from to top bits column row above = grind (arith, nat_tests)
 
 -- one more token
 continues_token : (token : Token) (older newer : History) → Continues older newer
     → Continues older (token ∷ newer)
-continues_token (Sixel bits) older newer is = record {
-  lower = is.lower;
-  taller = omega (arith, is.taller);
-  pixels = λ origin column row above.
-      rw (above_band (across newer) (across newer + span newer) (down newer) bits column row
-      (omega (arith, above, is.lower))) (is.pixels origin column row above);
-}
-continues_token (Repeat t) older newer is = record {
-  lower = is.lower;
-  taller = is.taller;
-  pixels = is.pixels;
-}
-continues_token (Raster t) older newer is = record {
-  lower = is.lower;
-  taller = omega (arith, is.taller);
-  pixels = is.pixels;
-}
-continues_token (Color t) older newer is = record {
-  lower = is.lower;
-  taller = is.taller;
-  pixels = is.pixels;
-}
-continues_token Return older newer is = record {
-  lower = is.lower;
-  taller = is.taller;
-  pixels = is.pixels;
-}
-continues_token Newline older newer is = record {
-  lower = omega (arith, is.lower);
-  taller = is.taller;
-  pixels = is.pixels;
-}
-continues_token (Skip byte) older newer is = record {
-  lower = is.lower;
-  taller = is.taller;
-  pixels = is.pixels;
-}
+continues_token token older newer is = grind (arith, nat_tests)
 
 -- one that is ignored
 continues_without : (token : Token) (older newer : History) → Continues older newer
     → Continues older (without token newer)
-continues_without (Sixel bits) older newer is = continues_token (Repeat []) older newer is
-continues_without (Repeat t) older newer is = is
-continues_without (Raster t) older newer is = is
-continues_without (Color t) older newer is = is
-continues_without Return older newer is = is
-continues_without Newline older newer is = is
-continues_without (Skip byte) older newer is = is
+continues_without token older newer is = grind (arith, nat_tests)
 
 -- one of which only the effect counts
 continues_more : (limit : Limit) (token : Token) (older h : History)
     → Continues older (effective limit h) → Continues older (effective limit (token ∷ h))
-continues_more limit token older h =
-    let kept : History = tolerated limit h in
-    elim limit.lenient as
-    (λ t. Continues older (cond t kept h)
-    → Continues older (cond t (with_tolerated limit token kept) (token ∷ h))) [
-      | true ↦ λ is.
-          elim (is_none (fault_of limit token kept)) as
-          (λ n. Continues older (cond n (token ∷ kept) (without token kept))) [
-            | true ↦ continues_token token older kept is
-            | false ↦ continues_without token older kept is
-          ]
-      | false ↦ λ is. continues_token token older h is
-    ]
+continues_more limit token older h = grind (arith, continues_token, continues_without)
 
 -- all tokens continue what the closed ones do
 continues_whole : (limit : Limit) (older h : History)
     → Continues older (effective limit (closed h)) → Continues older (effective limit h)
-continues_whole limit older [] is = is
-continues_whole limit older (Sixel b ∷ h) is = is
-continues_whole limit older (Repeat t ∷ h) is = continues_more limit (Repeat t) older h is
-continues_whole limit older (Raster t ∷ h) is = continues_more limit (Raster t) older h is
-continues_whole limit older (Color t ∷ h) is = continues_more limit (Color t) older h is
-continues_whole limit older (Return ∷ h) is = is
-continues_whole limit older (Newline ∷ h) is = is
-continues_whole limit older (Skip b ∷ h) is = is
+continues_whole limit older h is = grind (arith, nat_tests)
 
 -- the closed ones of a history with one more token
 continues_closed : (limit : Limit) (token : Token) (older h : History)
     → Continues older (effective limit h) → Continues older (effective limit (closed (token ∷ h)))
-continues_closed limit (Sixel b) older h is = continues_more limit (Sixel b) older h is
-continues_closed limit (Repeat t) older h is = is
-continues_closed limit (Raster t) older h is = is
-continues_closed limit (Color t) older h is = is
-continues_closed limit Return older h is = continues_more limit Return older h is
-continues_closed limit Newline older h is = continues_more limit Newline older h is
-continues_closed limit (Skip b) older h is = continues_more limit (Skip b) older h is
+continues_closed limit token older h is = grind (arith, continues_more)
 
 continues_read : (limit : Limit) (older h : History) (byte : ℕ)
     → Continues older (effective limit (closed h))
@@ -153,11 +80,7 @@ continues_fold limit older h (byte ∷ bytes) is =
     continues_fold limit older (read h byte) bytes (continues_read limit older h byte is)
 
 continues_self : (h : History) → Continues h h
-continues_self h = record {
-  lower = omega arith;
-  taller = omega arith;
-  pixels = λ origin column row above. refl;
-}
+continues_self h = grind (arith, nat_tests)
 
 -- the tokens of a payload so far, and those once more bytes came: settled or all
 record GoesOn (limit : Limit) (bytes more : List ℕ) : Type 0 where
@@ -186,44 +109,16 @@ goes_on_by limit bytes more None none =
       all = subst (λ (w : History). Continues w (effective limit next)) start whole_on;
     }
 goes_on_by limit bytes more (Some t) some =
-    let older : History = settled_tokens limit bytes in
-    let all : settled bytes ≡ history_of (front bytes) = rw some refl in
-    record {
-      some = subst (λ (w : History). Continues older (effective limit w))
-          (sym (settled_ended bytes more t some)) (continues_self older);
-      all = subst (λ (w : History). Continues older (effective limit w))
-          (all ∙ ap history_of (sym (front_ended bytes more t some))) (continues_self older);
-    }
+    grind (arith, settled_ended, continues_self, front_ended)
 
 goes_on_more : (limit : Limit) (bytes more : List ℕ) → GoesOn limit bytes more
 goes_on_more limit bytes more = goes_on_by limit bytes more (first_terminator bytes) refl
-
--- no open command draws
-pixel-closed : (origin : Origin) (h : History) (column row : ℕ)
-    → pixel origin (effective origin.pixel_limit (closed h)) column row
-    ≡ pixel origin (effective origin.pixel_limit h) column row
-pixel-closed origin [] column row = refl
-pixel-closed origin (Sixel b ∷ h) column row = refl
-pixel-closed origin (Repeat t ∷ h) column row =
-    effective-same (λ (w : History). pixel origin w column row) origin.pixel_limit (Repeat t) h
-    (λ w. refl) (λ w. refl)
-pixel-closed origin (Raster t ∷ h) column row =
-    effective-same (λ (w : History). pixel origin w column row) origin.pixel_limit (Raster t) h
-    (λ w. refl) (λ w. refl)
-pixel-closed origin (Color t ∷ h) column row =
-    effective-same (λ (w : History). pixel origin w column row) origin.pixel_limit (Color t) h
-    (λ w. refl) (λ w. refl)
-pixel-closed origin (Return ∷ h) column row = refl
-pixel-closed origin (Newline ∷ h) column row = refl
-pixel-closed origin (Skip b ∷ h) column row = refl
 
 -- equal pixels are equal inside a clip
 same_clipped : (origin : Origin) (h k : History) (column row : ℕ)
     → pixel origin h column row ≡ pixel origin k column row
     → clipped_pixel origin h column row ≡ clipped_pixel origin k column row
-same_clipped origin h k column row =
-    ap (λ (p : List ℕ).
-    if is_pixel_inside origin.pixel_limit column row then p else background origin)
+same_clipped origin h k column row = grind (arith, nat_tests)
 
 -- ---- a payload
 
@@ -231,20 +126,12 @@ same_clipped origin h k column row =
 pub pixel_settled : (origin : Origin) (bytes : List ℕ) (column row : ℕ)
     → clipped_pixel origin (settled_tokens origin.pixel_limit bytes) column row
     ≡ clipped_pixel origin (tokens origin.pixel_limit bytes) column row
-pixel_settled origin bytes column row =
-    let h : History = history_of (front bytes) in
-    let limit : Limit = origin.pixel_limit in
-    of_settled (λ k. clipped_pixel origin (effective limit k) column row
-    ≡ clipped_pixel origin (effective limit h) column row) bytes refl
-    (same_clipped origin (effective limit (closed h)) (effective limit h) column row
-    (pixel-closed origin h column row))
+pixel_settled origin bytes column row = grind (arith, nat_tests)
 
 -- final rows never become fewer
 pub final_rows_stay : (limit : Limit) (bytes more : List ℕ)
     → payload_final_rows limit bytes ≤ payload_final_rows limit (bytes ++ more)
-final_rows_stay limit bytes more =
-    let on = (goes_on_more limit bytes more).some in
-    omega (arith, on.lower, on.taller)
+final_rows_stay limit bytes more = grind (arith, nat_tests, goes_on_more)
 
 -- they have the same pixels, whatever bytes follow
 pub final_pixels_stay : (origin : Origin) (bytes more : List ℕ) (column row : ℕ)
@@ -282,13 +169,7 @@ pub record HasBegun (bytes : List ℕ) : Type 0 where
 
 begun_in : (limit : Limit) (bytes : List ℕ) (w : Stage) → stage bytes ≡ w
     → 0 < stage_final_rows limit w → HasBegun bytes
-begun_in limit bytes Heading is some = absurd (omega (arith, some))
-begun_in limit bytes (Failing f) is some = absurd (omega (arith, some))
-begun_in limit bytes (Reading s payload) is some = record {
-  settings = s;
-  payload = payload;
-  reading = is;
-}
+begun_in limit bytes w is some = grind arith
 
 pub has_begun : (limit : Limit) (bytes : List ℕ) → 0 < dcs_final_rows limit bytes
     → HasBegun bytes

@@ -1,24 +1,23 @@
 -- What has ended or is rejected stays so, whatever bytes follow.
-use Rattle.std.proofs.Common.{◌≡◌, ℕ, ◌≤◌, true, false, cond, List, [], ◌++◌, refl, ap, sym, ◌∙◌}
+use Rattle.std.proofs.Common.{◌≡◌, ℕ, ◌≤◌, true, List, ◌++◌, refl, ap, sym, ◌∙◌}
 use Rattle.std.proofs.Common.{subst, arith, Option, Some, None, length, length-append}
-use Rattle.std.specs.Prelude.{fold, is_some}
-use Rattle.std.proofs.lemmas.Bool.{false≢true}
+use Rattle.std.specs.Prelude.{fold}
 use Rattle.std.proofs.lemmas.List.Sums.{fold-append}
 use Rattle.sixel_base.specs.Fault.{Fault}
 use Rattle.sixel_base.specs.Bytes.{front, carrying, count, first_terminator}
 use Rattle.sixel_base.specs.History.{History, read, history_of}
 use Rattle.sixel_base.specs.Settings.{Settings}
-use Rattle.sixel_base.specs.Stroke.{Origin, registers}
+use Rattle.sixel_base.specs.Stroke.{Origin}
 use Rattle.sixel_base.specs.Decoder.{origin_of}
 use Rattle.sixel_base.specs.declared.state.DecoderState.{DecoderState}
-use Rattle.sixel_base.specs.Payload.{Image, image_of, closed, settled, fed_fault}
+use Rattle.sixel_base.specs.Payload.{Image, closed, settled, fed_fault}
 use Rattle.sixel_base.specs.Payload.{growths, payload_image, payload_registers}
 use Rattle.sixel_base.specs.declared.status.SixelDcsFeedStatus.TheVariants.{NeedMoreData}
 use Rattle.sixel_base.specs.Dcs.{Stage, Heading, Failing, Reading, stage, after_terminator}
 use Rattle.sixel_base.specs.Dcs.{end_status, payload_status_by, stage_status, stage_count}
 use Rattle.sixel_base.specs.Dcs.{stage_fault, stage_growths, dcs_status, dcs_count, dcs_fault}
 use Rattle.sixel_base.specs.Dcs.{dcs_growths, has_ended}
-use Rattle.sixel_base.specs.Lenient.{effective, fault}
+use Rattle.sixel_base.specs.Lenient.{fault}
 use Rattle.sixel_base.specs.Limits.{Limit}
 use Rattle.sixel_base.specs.OneShot.{Payload, found, found_fault, IsFoundImage, AreFoundRegisters}
 use Rattle.sixel_decoder.proofs.ParserSteps.{growths-closed}
@@ -29,6 +28,7 @@ use Rattle.sixel_decoder.proofs.Terminators.{after_terminator-some, end_stays, s
 use Rattle.sixel_decoder.proofs.Terminators.{failing_stays}
 use Rattle.sixel_decoder.proofs.DcsEnds.{status_at, count_at}
 use Rattle.sixel_decoder.proofs.DcsPayloads.{found_reading}
+use Rattle.std.proofs.lemmas.Bool.Decides.{nat_tests}
 
 -- ---- a payload
 
@@ -43,27 +43,21 @@ count_ended bytes more t is = ap length (before_terminator-ended bytes more t is
 -- the tokens that no further byte can change, where a terminator has come
 pub settled_ended : (bytes more : List ℕ) (t : ℕ) → first_terminator bytes ≡ Some t
     → settled (bytes ++ more) ≡ settled bytes
-settled_ended bytes more t is =
-    rw (is, first_terminator-ended bytes more t is, before_terminator-ended bytes more t is) refl
+settled_ended bytes more t is = grind (arith, first_terminator-ended, before_terminator-ended)
 
 -- the tokens of the bytes so far, and how they go on with more
 pub history_more : (bytes more : List ℕ) → first_terminator bytes ≡ None
     → history_of (front (bytes ++ more)) ≡ fold read (history_of (front bytes)) (front more)
-history_more bytes more none =
-    ap history_of (front-append bytes more none) ∙ fold-append read [] (front bytes) (front more)
+history_more bytes more none = grind (arith, nat_tests, front-append, fold-append)
 
 pub settled_open : (bytes : List ℕ) → first_terminator bytes ≡ None
     → settled bytes ≡ closed (history_of (front bytes))
-settled_open bytes none =
-    ap (λ t. cond (is_some t) (history_of (front bytes)) (closed (history_of (front bytes)))) none
+settled_open bytes none = grind (arith, nat_tests)
 
 -- what holds of the closed tokens and of all holds of those that are settled
 pub of_settled : (P : History → Type 0) (bytes : List ℕ) → P (history_of (front bytes))
     → P (closed (history_of (front bytes))) → P (settled bytes)
-of_settled P bytes all some =
-    elim (is_some (first_terminator bytes)) as
-    (λ t. P (cond t (history_of (front bytes)) (closed (history_of (front bytes)))))
-    [ true ↦ all | false ↦ some ]
+of_settled h bytes all some = grind (arith, nat_tests)
 
 fault_more : (limit : Limit) (h : History) (bytes more : List ℕ) (f : Fault)
     → history_of (front (bytes ++ more)) ≡ fold read h (front more)
@@ -92,21 +86,12 @@ fed_fault_stays limit bytes more f is = fault_by limit bytes more f (first_termi
 growths_more : (h : History) (bytes more : List ℕ)
     → history_of (front (bytes ++ more)) ≡ fold read h (front more)
     → growths (closed h) ≤ growths (settled (bytes ++ more))
-growths_more h bytes more goes =
-    let some : growths (closed h) ≤ growths (closed (history_of (front (bytes ++ more)))) =
-    omega (arith, growths-fold h (front more), ap (λ w. growths (closed w)) goes) in
-    of_settled (λ w. growths (closed h) ≤ growths w)
-    (bytes ++ more) (omega (arith, some, growths-closed (history_of (front (bytes ++ more))))) some
+growths_more h bytes more goes = grind (arith, nat_tests, growths-fold, of_settled, growths-closed)
 
 growths_by : (bytes more : List ℕ) (o : Option ℕ) → first_terminator bytes ≡ o
     → growths (settled bytes) ≤ growths (settled (bytes ++ more))
-growths_by bytes more None none =
-    omega (
-      arith,
-      ap growths (settled_open bytes none),
-      growths_more (history_of (front bytes)) bytes more (history_more bytes more none),
-    )
-growths_by bytes more (Some t) some = omega (arith, ap growths (settled_ended bytes more t some))
+growths_by bytes more o none =
+    grind (arith, nat_tests, settled_open, growths_more, history_more, settled_ended)
 
 -- the sixels and raster attributes that are settled stay so
 pub growths_stay : (bytes more : List ℕ)
@@ -116,15 +101,11 @@ growths_stay bytes more = growths_by bytes more (first_terminator bytes) refl
 -- the image of a payload that has ended, and the registers after it
 image_more : (origin : Origin) (bytes more : List ℕ) (t : ℕ) → first_terminator bytes ≡ Some t
     → payload_image origin (bytes ++ more) ≡ payload_image origin bytes
-image_more origin bytes more t is =
-    ap (λ w. image_of origin (effective origin.pixel_limit (history_of w)))
-    (front_ended bytes more t is)
+image_more origin bytes more t is = grind (arith, nat_tests, front_ended)
 
 registers_more : (origin : Origin) (bytes more : List ℕ) (t : ℕ) → first_terminator bytes ≡ Some t
     → payload_registers origin (bytes ++ more) ≡ payload_registers origin bytes
-registers_more origin bytes more t is =
-    ap (λ w. registers origin.registers (effective origin.pixel_limit (history_of w)))
-    (front_ended bytes more t is)
+registers_more origin bytes more t is = grind (arith, nat_tests, front_ended)
 
 -- ---- a DCS sequence
 
@@ -136,12 +117,7 @@ record Ends (payload : List ℕ) : Type 0 where
 
 ends_by : (payload : List ℕ) (o : Option ℕ) → first_terminator payload ≡ o
     → has_ended (payload_status_by o (after_terminator payload)) ≡ true → Ends payload
-ends_by payload None is ended = absurd cc
-ends_by payload (Some t) is ended = record {
-  terminator = t;
-  first = is;
-  over = λ waits. false≢true (sym (ap has_ended waits) ∙ ended);
-}
+ends_by payload o is ended = grind (arith, nat_tests)
 
 -- where a string has ended: in a payload
 record EndsIn (bytes : List ℕ) : Type 0 where

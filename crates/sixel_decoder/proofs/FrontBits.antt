@@ -1,5 +1,5 @@
 -- The bits of the sixels at the front of bytes, one after another.
-use Rattle.std.proofs.Common.{◌≡◌, ℕ, zero, suc, ◌+◌, ◌<◌, ◌≤◌, ◌-◌, Bool, true, false, cond}
+use Rattle.std.proofs.Common.{◌≡◌, ℕ, zero, suc, ◌+◌, ◌<◌, ◌≤◌, ◌-◌, Bool, false, cond}
 use Rattle.std.proofs.Common.{List, [], ◌∷◌, length, get_or, replicate, take}
 use Rattle.std.proofs.Common.{refl, ap, ◌∙◌, inl, inr, arith}
 use Rattle.std.specs.Prelude.{nat_lt, if◌then◌else◌}
@@ -10,6 +10,7 @@ use Rattle.std.proofs.lemmas.Simd.{length-sel_l, length-zip2}
 use lib.Lanes.{chunk, sel_l, top, zip2}
 use Rattle.sixel_decoder.specs.inside.Runs.{IsSixelByte, bits_of}
 use Rattle.sixel_decoder.proofs.Lanes.{lowered}
+use Rattle.std.proofs.lemmas.Bool.Decides.{nat_tests}
 
 -- the bits of bytes at the front, by the bits of each
 pub bits_front : (len : ℕ) (bits bytes : List ℕ) → len ≤ length bits → len ≤ length bytes
@@ -34,21 +35,8 @@ front_mask len =
     ∷ top 7 (cond (nat_lt 4 len) 255 0) ∷ top 7 (cond (nat_lt 5 len) 255 0)
     ∷ top 7 (cond (nat_lt 6 len) 255 0) ∷ top 7 (cond (nat_lt 7 len) 255 0) ∷ []
 
-top_is : (hit : Bool) → top 7 (cond hit 255 0) ≡ hit
-top_is true = refl
-top_is false = refl
-
 get_or-front_mask : (len k : ℕ) → k < 8 → get_or (front_mask len) k false ≡ nat_lt k len
-get_or-front_mask len zero less = top_is (nat_lt 0 len)
-get_or-front_mask len (suc zero) less = top_is (nat_lt 1 len)
-get_or-front_mask len (suc (suc zero)) less = top_is (nat_lt 2 len)
-get_or-front_mask len (suc (suc (suc zero))) less = top_is (nat_lt 3 len)
-get_or-front_mask len (suc (suc (suc (suc zero)))) less = top_is (nat_lt 4 len)
-get_or-front_mask len (suc (suc (suc (suc (suc zero))))) less = top_is (nat_lt 5 len)
-get_or-front_mask len (suc (suc (suc (suc (suc (suc zero)))))) less = top_is (nat_lt 6 len)
-get_or-front_mask len (suc (suc (suc (suc (suc (suc (suc zero))))))) less = top_is (nat_lt 7 len)
-get_or-front_mask len (suc (suc (suc (suc (suc (suc (suc (suc k)))))))) less =
-    absurd (omega (arith, less))
+get_or-front_mask len k less = grind (arith, nat_tests)
 
 -- the bits of eight bytes, of which the first `len` are sixels, and no bits past those
 abbrev pub front_bits : ℕ → List ℕ → List ℕ

@@ -1,9 +1,9 @@
 -- Which bytes belong to an image as more bytes come, and that they are those of its contract where
 -- it has no fault.
-use Rattle.std.proofs.Common.{◌≡◌, ℕ, ◌+◌, ◌≤◌, suc, Bool, true, false, cond, List, [], ◌∷◌}
-use Rattle.std.proofs.Common.{◌++◌, refl, ap, sym, ◌∙◌, subst, arith, Some, None, length, drop}
+use Rattle.std.proofs.Common.{◌≡◌, ℕ, ◌+◌, ◌≤◌, Bool, true, false, List, [], ◌∷◌}
+use Rattle.std.proofs.Common.{◌++◌, refl, ap, sym, ◌∙◌, arith, Some, None, length, drop}
 use Rattle.std.proofs.Common.{length-append, length-drop}
-use Rattle.std.specs.Prelude.{nat_lt, ◌==◌, ◌||◌, Option}
+use Rattle.std.specs.Prelude.{nat_lt, Option}
 use Rattle.std.proofs.lemmas.Bool.Decides.{nat_tests}
 use Rattle.sixel_base.specs.declared.error.SixelError.{SixelError}
 use Rattle.sixel_base.specs.declared.state.DecoderState.{DecoderState}
@@ -12,15 +12,15 @@ use Rattle.sixel_base.specs.declared.status.SixelFeedStatus.TheVariants.{Termina
 use Rattle.sixel_base.specs.declared.status.SixelDcsFeedResult.{SixelDcsFeedResult}
 use Rattle.sixel_base.specs.declared.status.SixelDcsFeedStatus.{SixelDcsFeedStatus}
 use Rattle.sixel_base.specs.declared.status.SixelDcsFeedStatus.TheVariants.{NeedMoreData}
-use Rattle.sixel_base.specs.Bytes.{is_terminator, before_terminator, count, first_terminator}
-use Rattle.sixel_base.specs.Dcs.{Introduced, Waiting, Absent, Entered, introduced, escaped, Stage}
+use Rattle.sixel_base.specs.Bytes.{count, first_terminator}
+use Rattle.sixel_base.specs.Dcs.{Introduced, Waiting, Absent, Entered, introduced, Stage}
 use Rattle.sixel_base.specs.Dcs.{Heading, Failing, Reading, stage_after, stage_by, stage}
 use Rattle.sixel_base.specs.Dcs.{stage_count, stage_status, stage_fault, after_terminator}
-use Rattle.sixel_base.specs.Dcs.{ended_with, ended_by, payload_count, payload_count_by}
-use Rattle.sixel_base.specs.Dcs.{payload_status, payload_status_by, dcs_count, dcs_status}
+use Rattle.sixel_base.specs.Dcs.{ended_with, payload_count}
+use Rattle.sixel_base.specs.Dcs.{payload_status, dcs_count, dcs_status}
 use Rattle.sixel_base.specs.Dcs.{dcs_fault, dcs_growths, escape_count, escape_status}
-use Rattle.sixel_base.specs.Fault.{Faults, Malformed, BadHeader}
-use Rattle.sixel_base.specs.Header.{Begun, Faulty, headed_by, is_header, header_rest}
+use Rattle.sixel_base.specs.Fault.{Faults}
+use Rattle.sixel_base.specs.Header.{headed_by, header_rest}
 use Rattle.sixel_base.specs.Limits.{Limit}
 use Rattle.sixel_base.specs.Status.{status_of}
 use Rattle.sixel_decoder.specs.ImageEnds.{Extends, IsEnd, Passes, inside, sequence_count}
@@ -34,24 +34,19 @@ use Rattle.sixel_decoder.proofs.Chunks.{first_terminator-ended}
 use Rattle.sixel_decoder.proofs.DcsChunks.{heading, reading_fits}
 use Rattle.sixel_decoder.proofs.DcsEnds.{ended_at, goes_later, none_by, some_by}
 use Rattle.sixel_decoder.proofs.Finality.{count_ended}
-use Rattle.sixel_decoder.proofs.Sessions.{dcs_count-most, never_refused}
+use Rattle.sixel_decoder.proofs.Sessions.{dcs_count-most}
 
 -- ---- a payload
 
 pub passes_ended : (bytes chunk : List ℕ) (t : ℕ) → first_terminator bytes ≡ Some t
     → Passes bytes (bytes ++ chunk) (record { consumed = 0; status = Terminated t })
-passes_ended bytes chunk t some = (
-  omega (arith, count_ended bytes chunk t some),
-  ap status_of (sym (first_terminator-ended bytes chunk t some)),
-)
+passes_ended bytes chunk t some = grind (arith, nat_tests, count_ended, first_terminator-ended)
 
 pub passes_open : (bytes chunk : List ℕ) (fed : SixelFeedResult) → first_terminator bytes ≡ None
     → fed.consumed ≡ count chunk → fed.status ≡ status_of (first_terminator chunk)
     → Passes bytes (bytes ++ chunk) fed
-passes_open bytes chunk fed none counted stands = (
-  omega (arith, counted, count-append bytes chunk none),
-  stands ∙ ap status_of (sym (first_terminator-append bytes chunk none)),
-)
+passes_open bytes chunk fed none counted stands =
+    grind (arith, nat_tests, count-append, first_terminator-append)
 
 -- ---- a DCS sequence goes on
 
@@ -61,10 +56,7 @@ pub first_in : (before chunk : List ℕ) (consumed : ℕ) (first : Option ℕ)
     → (first_terminator (before ++ chunk) ≡ first)
     × (count before + consumed ≡ count (before ++ chunk))
 first_in before chunk consumed first ended counted is =
-    let none = none_by (first_terminator before) (after_terminator before) (sym ended) in (
-      first_terminator-append before chunk none ∙ is,
-      omega (arith, counted, count-append before chunk none),
-    )
+    grind (arith, nat_tests, none_by, first_terminator-append, count-append)
 
 -- one had
 pub goes_past : (before chunk : List ℕ) (consumed : ℕ) (was status : SixelDcsFeedStatus)
@@ -91,22 +83,12 @@ some_byte : (byte : ℕ) (bytes : List ℕ) → nat_lt 0 (length (byte ∷ bytes
 some_byte byte bytes = grind (arith, nat_tests)
 
 inside_fits : (bytes : List ℕ) → length (inside bytes) ≤ length bytes
-inside_fits [] = omega arith
-inside_fits (byte ∷ bytes) =
-    elim (byte == 0x90 || byte == 27) as
-    (λ t. length (cond t bytes (byte ∷ bytes)) ≤ suc (length bytes))
-    [ true ↦ omega arith | false ↦ omega arith ]
+inside_fits bytes = grind (arith, nat_tests)
 
 inside-append : (bytes chunk : List ℕ) (start : ℕ) → (nat_lt 0 (length bytes) ≡ true → start ≡ 0)
     → (nat_lt 0 (length bytes) ≡ false → inside chunk ≡ drop start chunk)
     → inside (bytes ++ chunk) ≡ inside bytes ++ drop start chunk
-inside-append [] chunk start later first = first refl
-inside-append (byte ∷ bytes) chunk start later first =
-    elim (byte == 0x90 || byte == 27) as (λ t. cond t (bytes ++ chunk) (byte ∷ (bytes ++ chunk))
-    ≡ cond t bytes (byte ∷ bytes) ++ drop start chunk) [
-      | true ↦ ap (λ n. bytes ++ drop n chunk) (sym (later (some_byte byte bytes)))
-      | false ↦ ap (λ n. byte ∷ (bytes ++ drop n chunk)) (sym (later (some_byte byte bytes)))
-    ]
+inside-append bytes chunk start later first = grind (arith, nat_tests)
 
 -- the bytes after the first one of the introducer go on
 pub extends : (now : SequenceEnd) (bytes chunk : List ℕ) (start : ℕ) (fed : SixelDcsFeedResult)
@@ -117,33 +99,17 @@ pub extends : (now : SequenceEnd) (bytes chunk : List ℕ) (start : ℕ) (fed : 
     → now.is_begun ≡ nat_lt 0 (length (bytes ++ chunk))
     → Extends now bytes chunk (record { consumed = start + fed.consumed; status = fed.status })
 extends now bytes chunk start fed within later first goes ended begun =
-    let more : List ℕ = drop start chunk in
-    let joined = inside-append bytes chunk start later first in
-    let counted : payload_count (inside (bytes ++ chunk))
-    ≡ payload_count (inside bytes) + fed.consumed = ap payload_count joined ∙ sym goes.0 in
-    let longer = ap length joined ∙ length-append (inside bytes) more in
-    record {
-      counted =
-          omega (
-            arith,
-            within,
-            counted,
-            longer,
-            length-drop start chunk,
-            length-append bytes chunk,
-            inside_fits bytes,
-          );
-      within =
-          omega (
-            arith,
-            within,
-            goes.0,
-            payload_count-most (inside bytes) more,
-            length-drop start chunk,
-          );
-      stands = goes.1 ∙ ap payload_status (sym joined);
-      stored = record { begun = begun; ended = ended ∙ ap ended_with (sym joined) };
-    }
+    grind (
+      arith,
+      nat_tests,
+      inside-append,
+      goes.0,
+      length-append,
+      length-drop,
+      inside_fits,
+      payload_count-most,
+      goes.1,
+    )
 
 -- ---- without a fault they are the bytes of the sequence
 
@@ -157,67 +123,15 @@ behind-refl : (bytes : List ℕ) → Behind bytes bytes
 behind-refl bytes = record { ended = refl; status = refl; counted = refl }
 
 behind-trans : (a b c : List ℕ) → Behind a b → Behind b c → Behind a c
-behind-trans a b c first second = record {
-  ended = first.ended ∙ second.ended;
-  status = first.status ∙ second.status;
-  counted = omega (arith, first.counted, second.counted);
-}
-
-behind-cons : (byte : ℕ) (bytes rest : List ℕ) → is_terminator byte ≡ false → Behind bytes rest
-    → Behind (byte ∷ bytes) rest
-behind-cons byte bytes rest none is =
-    let after : Bool → List ℕ = λ t. cond t bytes (after_terminator bytes) in
-    let first : Bool → Option ℕ = λ t. cond t (Some byte) (first_terminator bytes) in
-    let counted : payload_count (byte ∷ bytes)
-    ≡ suc (count bytes) + payload_count_by (first false) (after false) =
-    ap (λ t. length (cond t [] (byte ∷ before_terminator bytes))
-    + payload_count_by (first t) (after t)) none in
-    record {
-      ended = ap (λ t. ended_by (first t) (after t)) none ∙ is.ended;
-      status = ap (λ t. payload_status_by (first t) (after t)) none ∙ is.status;
-      counted = omega (arith, counted, is.counted);
-    }
+behind-trans a b c first second = grind (arith, nat_tests)
 
 behind_header : (bytes : List ℕ) → Behind bytes (header_rest bytes)
 behind_header [] = behind-refl []
-behind_header (byte ∷ bytes) =
-    (elim (is_header byte) as
-    (λ t. is_header byte ≡ t → Behind (byte ∷ bytes) (cond t (header_rest bytes) (byte ∷ bytes))) [
-      | true ↦ λ is.
-          behind-cons byte bytes (header_rest bytes) (grind (arith, nat_tests, is))
-          (behind_header bytes)
-      | false ↦ λ is. behind-refl (byte ∷ bytes)
-    ]) refl
-
-behind_escape : (bytes rest : List ℕ) → escaped bytes ≡ Entered rest → Behind bytes rest
-behind_escape [] rest is = absurd cc
-behind_escape (byte ∷ bytes) rest is =
-    (elim (byte == 80) as
-    (λ t. (byte == 80) ≡ t → cond t (Entered bytes) Absent ≡ Entered rest
-    → Behind (byte ∷ bytes) rest) [
-      | true ↦ λ p e.
-          let same : bytes ≡ rest = cc in
-          subst (Behind (byte ∷ bytes)) same
-          (behind-cons byte bytes bytes (grind (arith, nat_tests, p)) (behind-refl bytes))
-      | false ↦ λ p e. absurd cc
-    ]) refl is
+behind_header (byte ∷ bytes) = grind (arith, nat_tests, behind_header bytes)
 
 behind_introducer : (bytes rest : List ℕ) → introduced bytes ≡ Entered rest
     → Behind (inside bytes) rest
-behind_introducer [] rest is = absurd cc
-behind_introducer (byte ∷ bytes) rest is =
-    (elim (byte == 0x90) as
-    (λ t. cond t (Entered bytes) (cond (byte == 27) (escaped bytes) Absent) ≡ Entered rest
-    → Behind (cond (t || byte == 27) bytes (byte ∷ bytes)) rest) [
-      | true ↦ λ e.
-          let same : bytes ≡ rest = cc in
-          subst (Behind bytes) same (behind-refl bytes)
-      | false ↦ elim (byte == 27) as (λ t. cond t (escaped bytes) Absent ≡ Entered rest
-          → Behind (cond t bytes (byte ∷ bytes)) rest) [
-            | true ↦ λ e. behind_escape bytes rest e
-            | false ↦ λ e. absurd cc
-          ]
-    ]) is
+behind_introducer bytes rest is = grind (arith, nat_tests)
 
 -- the payload of a sequence without a fault, or no byte before it
 abbrev payload_in : Stage → List ℕ
@@ -228,42 +142,10 @@ payload_in (Reading settings payload) = payload
 behind_command : (limit : Limit) (rest h : List ℕ)
     → stage_fault limit (stage_after rest (headed_by h)) ≡ None
     → Behind h (payload_in (stage_after rest (headed_by h)))
-behind_command limit rest [] sound = behind-refl []
-behind_command limit rest (byte ∷ tail) sound =
-    (elim (byte == 113) as (λ q. (byte == 113) ≡ q → stage_fault limit (stage_after rest
-    (cond q (Begun tail) (cond (is_terminator byte) (Faulty Malformed) (Faulty BadHeader)))) ≡ None
-    → Behind (byte ∷ tail) (payload_in (stage_after rest
-    (cond q (Begun tail) (cond (is_terminator byte) (Faulty Malformed) (Faulty BadHeader)))))) [
-      | true ↦ λ is fine. behind-cons byte tail tail (grind (arith, nat_tests, is))
-          (behind-refl tail)
-      | false ↦ λ is. elim (is_terminator byte) as (λ t. stage_fault limit
-          (stage_after rest (cond t (Faulty Malformed) (Faulty BadHeader))) ≡ None
-          → Behind (byte ∷ tail)
-          (payload_in (stage_after rest (cond t (Faulty Malformed) (Faulty BadHeader)))))
-          [ true ↦ λ fine. absurd cc | false ↦ λ fine. absurd cc ]
-    ]) refl sound
+behind_command limit rest h sound = grind (arith, nat_tests)
 
 behind_waiting : (bytes : List ℕ) → introduced bytes ≡ Waiting → Behind (inside bytes) []
-behind_waiting [] is = behind-refl []
-behind_waiting (byte ∷ []) is =
-    (elim (byte == 0x90) as (λ t. cond t (Entered []) (cond (byte == 27) Waiting Absent) ≡ Waiting
-    → Behind (cond (t || byte == 27) [] (byte ∷ [])) []) [
-      | true ↦ λ e. absurd cc
-      | false ↦ elim (byte == 27) as
-          (λ t. cond t Waiting Absent ≡ Waiting → Behind (cond t [] (byte ∷ [])) [])
-          [ true ↦ λ e. behind-refl [] | false ↦ λ e. absurd cc ]
-    ]) is
-behind_waiting (byte ∷ next ∷ bytes) is =
-    absurd ((elim (byte == 0x90) as (λ t. cond t (Entered (next ∷ bytes))
-    (cond (byte == 27) (cond (next == 80) (Entered bytes) Absent) Absent) ≡ Waiting → ⊥) [
-      | true ↦ λ e. cc
-      | false ↦ elim (byte == 27) as
-          (λ t. cond t (cond (next == 80) (Entered bytes) Absent) Absent ≡ Waiting → ⊥) [
-            | true ↦ elim (next == 80) as (λ t. cond t (Entered bytes) Absent ≡ Waiting → ⊥)
-                [ true ↦ λ e. cc | false ↦ λ e. cc ]
-            | false ↦ λ e. cc
-          ]
-    ]) is)
+behind_waiting bytes is = grind (arith, nat_tests)
 
 behind_stage : (limit : Limit) (bytes : List ℕ) (i : Introduced) → introduced bytes ≡ i
     → stage_fault limit (stage_by i) ≡ None → Behind (inside bytes) (payload_in (stage_by i))
@@ -277,18 +159,7 @@ behind_stage limit bytes (Entered rest) is sound =
 same_in : (limit : Limit) (bytes : List ℕ) (w : Stage) → stage bytes ≡ w
     → stage_fault limit w ≡ None → Behind (inside bytes) (payload_in w)
     → (sequence_count bytes ≡ stage_count bytes w) × (sequence_status bytes ≡ stage_status w)
-same_in limit bytes Heading is sound behind =
-    (omega (arith, behind.counted, inside_fits bytes), behind.status)
-same_in limit bytes (Failing fault) is sound behind = absurd cc
-same_in limit bytes (Reading settings payload) is sound behind = (
-  omega (
-    arith,
-    behind.counted,
-    inside_fits bytes,
-    reading_fits bytes (introduced bytes) settings payload refl is,
-  ),
-  behind.status,
-)
+same_in limit bytes w is sound behind = grind (arith, inside_fits, reading_fits)
 
 -- a sequence without a fault has the bytes and the status of a session
 pub accepted_same : (limit : Limit) (bytes : List ℕ) → dcs_fault limit bytes ≡ None
@@ -305,11 +176,7 @@ is_begun state = true
 
 pub begun_other : {C : Type 0} (state : DcsState C) → (state ≡ states.Start → ⊥)
     → true ≡ is_begun state
-begun_other states.Start other = absurd (other refl)
-begun_other states.Escape other = refl
-begun_other (states.Header header) other = refl
-begun_other (states.Payload reader) other = refl
-begun_other states.Failed other = refl
+begun_other state other = grind (arith, nat_tests)
 
 heads_end : {C : Type 0} (state : DcsState C) (decoder : DecoderState)
     (ended : Option SixelDcsFeedStatus) (bytes : List ℕ) → is_head state ≡ true
@@ -358,13 +225,6 @@ end_of {C} (states.Payload reader) decoder ended bytes is =
     reading_some (byte ∷ bytes) is = sym (some_byte byte bytes)
 end_of {C} states.Failed decoder ended bytes is = is
 
-refused_some : (e : SixelError) (limit : Limit) (bytes : List ℕ) (n : ℕ)
-    → Faults e (nat_lt n (dcs_growths bytes)) (dcs_fault limit bytes)
-    → true ≡ nat_lt 0 (length bytes)
-refused_some e limit [] n refused =
-    absurd (never_refused e (nat_lt n 0) (grind (arith, nat_tests)) refused)
-refused_some e limit (byte ∷ bytes) n refused = sym (some_byte byte bytes)
-
 -- a sequence that is rejected has a byte
 pub refused_begun : {C : Type 0} (e : SixelError) (state : DcsState C) (decoder : DecoderState)
     (ended : Option SixelDcsFeedStatus) (bytes chunk : List ℕ)
@@ -373,13 +233,4 @@ pub refused_begun : {C : Type 0} (e : SixelError) (state : DcsState C) (decoder 
     → Faults e (nat_lt (dcs_growths bytes) (dcs_growths (bytes ++ chunk)))
     (dcs_fault decoder.pixel_limit (bytes ++ chunk)))
     → true ≡ nat_lt 0 (length (bytes ++ chunk))
-refused_begun e states.Start decoder ended bytes chunk is told =
-    refused_some e decoder.pixel_limit (bytes ++ chunk) (dcs_growths bytes) (told refl)
-refused_begun e states.Escape decoder ended bytes chunk is told =
-    refused_some e decoder.pixel_limit (bytes ++ chunk) (dcs_growths bytes) (told refl)
-refused_begun e (states.Header header) decoder ended bytes chunk is told =
-    refused_some e decoder.pixel_limit (bytes ++ chunk) (dcs_growths bytes) (told refl)
-refused_begun e (states.Payload reader) decoder ended bytes chunk is told =
-    refused_some e decoder.pixel_limit (bytes ++ chunk) (dcs_growths bytes) (told refl)
-refused_begun e states.Failed decoder ended bytes chunk is told =
-    grind (arith, nat_tests, is.begun, length-append bytes chunk)
+refused_begun e state decoder ended bytes chunk is told = grind (arith, nat_tests)

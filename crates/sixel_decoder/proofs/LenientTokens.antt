@@ -1,17 +1,13 @@
 -- What a painter has drawn of all tokens where commands with a fault may be ignored.
-use Rattle.std.proofs.Common.{◌≡◌, ℕ, ◌-◌, ◌<◌, ◌≤◌, Bool, true, false, cond, List, [], ◌∷◌, refl}
+use Rattle.std.proofs.Common.{◌≡◌, ℕ, ◌-◌, ◌<◌, ◌≤◌, Bool, true, false, List, [], ◌∷◌, refl}
 use Rattle.std.proofs.Common.{ap, sym, ◌∙◌, subst, length, take, get_or, Option, Some, None, Result}
-use Rattle.std.proofs.Common.{Ok, Err, arith}
-use Rattle.std.specs.Prelude.{IfErr, fold, is_none, min, ◌+◌}
+use Rattle.std.proofs.Common.{arith}
+use Rattle.std.specs.Prelude.{IfErr, fold, min, ◌+◌}
 use Rattle.sixel_base.specs.declared.error.SixelError.{SixelError}
-use Rattle.sixel_base.specs.declared.error.SixelError.TheVariants.{InvalidDimensions}
-use Rattle.sixel_base.specs.declared.error.SixelError.TheVariants.{BufferSizeMismatch, InvalidData}
-use Rattle.sixel_base.specs.declared.error.SixelError.TheVariants.{NoSixelData, IntegerOverflow}
-use Rattle.sixel_base.specs.declared.error.SixelError.TheVariants.{OutOfMemory}
 use Rattle.sixel_base.specs.Fault.{Fault, Faults, is_fault}
-use Rattle.sixel_base.specs.History.{Token, Sixel, Repeat, Raster, Color, Return, Newline, Skip}
+use Rattle.sixel_base.specs.History.{Token, Sixel, Repeat}
 use Rattle.sixel_base.specs.History.{History, read}
-use Rattle.sixel_base.specs.Lenient.{count_limit, effective, fault, ignored_count, tolerated}
+use Rattle.sixel_base.specs.Lenient.{count_limit, effective, ignored_count, tolerated}
 use Rattle.sixel_base.specs.Lenient.{without}
 use Rattle.sixel_base.specs.Limits.{Limit}
 use Rattle.sixel_base.specs.Payload.{fault_of, first_fault, settled, settled_tokens}
@@ -27,27 +23,20 @@ use Rattle.sixel_decoder.specs.inside.Painter.{Draws, Shows}
 use Rattle.sixel_decoder.specs.inside.Runs.{IsRun, IsSixelByte, bits_of}
 use Rattle.sixel_decoder.proofs.SixelRuns.{IsRun-take, fold_one, fold_run, with_sixels}
 use Rattle.sixel_decoder.proofs.TokenFaults.{fault_found}
+use Rattle.std.proofs.lemmas.Bool.Decides.{nat_tests}
 
 -- a failed allocation may be answered whatever was found
 pub memory_along : (e : SixelError) (may : Bool) (found found' : Option Fault) → is_fault e ≡ false
     → Faults e may found → Faults e may found'
-memory_along (InvalidDimensions w h) may found found' not_fault is = absurd (cc not_fault)
-memory_along (BufferSizeMismatch w h) may found found' not_fault is = absurd (cc not_fault)
-memory_along (InvalidData t) may found found' not_fault is = absurd (cc not_fault)
-memory_along NoSixelData may found found' not_fault is = absurd (cc not_fault)
-memory_along IntegerOverflow may found found' not_fault is = absurd (cc not_fault)
-memory_along OutOfMemory may found found' not_fault is = is
+memory_along e may found found' not_fault is = grind (arith, nat_tests)
 
 -- one more token that was drawn
 pub has_drawn_more : {C : Type 0} {canvas : Ghosts C} (o : Origin) (painter : Painter C canvas)
     (n : ℕ) (token : Token) (h : History)
     → Shows o painter (token ∷ effective o.pixel_limit h) → n ≡ ignored_count o.pixel_limit h
     → HasDrawn o painter n (token ∷ h)
-has_drawn_more o painter n token h shows count = record {
-  shows = subst (λ (w : History). Shows o painter w)
-      (sym (effective-more o.pixel_limit token h shows.faultless)) shows;
-  count = count ∙ sym (count-more o.pixel_limit token h shows.faultless);
-}
+has_drawn_more o painter n token h shows count =
+    grind (arith, nat_tests, effective-more, count-more)
 
 -- one that is ignored
 pub has_drawn_without : {C : Type 0} {canvas : Ghosts C} (o : Origin) (painter : Painter C canvas)
@@ -56,13 +45,8 @@ pub has_drawn_without : {C : Type 0} {canvas : Ghosts C} (o : Origin) (painter :
     → Shows o painter (without token (effective o.pixel_limit h))
     → n ≡ ignored_count o.pixel_limit h
     → HasDrawn o painter (min (n + 1) count_limit) (token ∷ h)
-has_drawn_without o painter n token h f on found shows count = record {
-  shows = subst (λ (w : History). Shows o painter w)
-      (sym (effective-without o.pixel_limit token h f on found)) shows;
-  count =
-      ap (λ (m : ℕ). min (m + 1) count_limit) count
-      ∙ sym (count-without o.pixel_limit token h f on found);
-}
+has_drawn_without o painter n token h f on found shows count =
+    grind (arith, effective-without, count-without)
 
 -- a command that was drawn, or has a fault that may be ignored
 pub tolerates_command : {C : Type 0} {canvas : Ghosts C} (result : Result (Unit {0}) SixelError)
@@ -72,34 +56,20 @@ pub tolerates_command : {C : Type 0} {canvas : Ghosts C} (result : Result (Unit 
     → IfErr result (λ error. is_fault error ≡ true → new ≡ old)
     → Tolerates (tolerated_result old.pixel_limit.lenient result) o new
     (tolerated_count old.pixel_limit.lenient result n) (token ∷ h)
-tolerates_command (Ok _) o old new n token h other state draws kept =
-    has_drawn_more o new n token h draws state.count
-tolerates_command {C} {canvas} (Err e) o old new n token h other state draws kept =
-    let limit : Limit = o.pixel_limit in
-    subst (λ (w : Limit). Tolerates (tolerated_result w.lenient (Err e)) o new
-    (tolerated_count {A = Unit {0}} w.lenient (Err e) n) (token ∷ h))
-    (sym state.shows.limit)
-    ((elim limit.lenient as
-    (λ t. limit.lenient ≡ t
-    → Tolerates (tolerated_result t (Err e)) o new (tolerated_count {A = Unit {0}} t (Err e) n)
-    (token ∷ h)) [
-      | false ↦ λ off.
-          subst (λ (w : Option Fault). Faults e false w) (effective-strict limit token h off) draws
-      | true ↦ λ on.
-          (elim (is_fault e) as
-          (λ t. is_fault e ≡ t
-          → Tolerates (cond t (Ok tt) (Err e)) o new (cond t (min (n + 1) count_limit) n)
-          (token ∷ h)) [
-            | false ↦ λ not_fault. memory_along e false _ (fault limit (token ∷ h)) not_fault draws
-            | true ↦ λ is.
-                fault_found e false (first_fault limit (token ∷ effective limit h))
-                (HasDrawn o new (min (n + 1) count_limit) (token ∷ h)) draws is (λ f found.
-                has_drawn_without o new n token h f on found
-                (subst (λ (w : History). Shows o new w) (sym (other (effective limit h)))
-                (subst (λ (w : Painter C canvas). Shows o w (effective limit h)) (sym (kept is))
-                state.shows)) state.count)
-          ]) refl
-    ]) refl)
+tolerates_command result o old new n token h other state draws kept =
+    grind (arith, has_drawn_more, effective-strict, memory_along, fault_found, has_drawn_without)
+
+-- so it is in the words of `tolerate`
+pub tolerates : {C : Type 0} {canvas : Ghosts C} (outcome result : Result (Unit {0}) SixelError)
+    (lenient : Bool) (o : Origin) (old new : Painter C canvas) (n m : ℕ) (token : Token)
+    (h : History)
+    → lenient ≡ old.pixel_limit.lenient → result ≡ tolerated_result lenient outcome
+    → m ≡ tolerated_count lenient outcome n → ((w : History) → without token w ≡ w)
+    → HasDrawn o old n h → Draws outcome o new (token ∷ effective o.pixel_limit h) false
+    → IfErr outcome (λ error. is_fault error ≡ true → new ≡ old)
+    → Tolerates result o new m (token ∷ h)
+tolerates outcome result lenient o old new n m token h on is counts other state draws kept =
+    rw (is, counts, on) (tolerates_command outcome o old new n token h other state draws kept)
 
 -- ---- sixels at the front of bytes
 
@@ -182,45 +152,12 @@ has_drawn_ignored e o old new n h bytes some is lenient faulty state refused sho
 
 -- ---- how many sixels there are
 
-sixels-without : (token : Token) (h : History) → sixels (without token h) ≤ sixels (token ∷ h)
-sixels-without (Sixel bits) h = omega arith
-sixels-without (Repeat text) h = omega arith
-sixels-without (Raster text) h = omega arith
-sixels-without (Color text) h = omega arith
-sixels-without Return h = omega arith
-sixels-without Newline h = omega arith
-sixels-without (Skip byte) h = omega arith
-
-sixels-more : (token : Token) (g h : History) → sixels g ≤ sixels h
-    → sixels (token ∷ g) ≤ sixels (token ∷ h)
-sixels-more (Sixel bits) g h le = omega (arith, le)
-sixels-more (Repeat text) g h le = le
-sixels-more (Raster text) g h le = le
-sixels-more (Color text) g h le = le
-sixels-more Return g h le = le
-sixels-more Newline g h le = le
-sixels-more (Skip byte) g h le = le
-
 -- tolerated tokens have no more sixels than all
 sixels-tolerated : (limit : Limit) (h : History) → sixels (tolerated limit h) ≤ sixels h
 sixels-tolerated limit [] = omega arith
-sixels-tolerated limit (token ∷ h) =
-    let older : History = tolerated limit h in
-    let le : sixels (token ∷ older) ≤ sixels (token ∷ h) =
-    sixels-more token older h (sixels-tolerated limit h) in
-    elim (is_none (fault_of limit token older)) as
-    (λ n. sixels (cond n (token ∷ older) (without token older)) ≤ sixels (token ∷ h)) [
-      | true ↦ le
-      | false ↦ omega (arith, le, sixels-without token older)
-    ]
+sixels-tolerated limit (token ∷ h) = grind (arith, nat_tests, sixels-tolerated limit h)
 
 -- nor have those that take effect
 pub sixels-settled : (limit : Limit) (bytes : List ℕ)
     → sixels (settled_tokens limit bytes) ≤ sixels (settled bytes)
-sixels-settled limit bytes =
-    elim limit.lenient as
-    (λ t. sixels (cond t (tolerated limit (settled bytes)) (settled bytes))
-    ≤ sixels (settled bytes)) [
-      | true ↦ sixels-tolerated limit (settled bytes)
-      | false ↦ omega arith
-    ]
+sixels-settled limit bytes = grind (arith, nat_tests, sixels-tolerated)

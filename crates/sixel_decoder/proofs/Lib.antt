@@ -24,6 +24,7 @@ pub mod FinalRows
 pub mod FinishedImages
 pub mod Sessions
 pub mod DcsFinishes
+pub mod FedImages
 pub mod Feeds
 pub mod ImageEnds
 pub mod Lanes

@@ -1,13 +1,13 @@
 -- How a parser stands once it has opened a command with the digits after it.
 use Rattle.std.proofs.Common.{◌≡◌, ℕ, suc, ◌+◌, ◌<◌, ◌≤◌, ◌⊎◌, false, List, [], ◌∷◌, length, get_or}
-use Rattle.std.proofs.Common.{take, drop, get_or-take, length-take, refl, sym, ap, ◌∙◌, subst, inl}
-use Rattle.std.proofs.Common.{inr, arith}
+use Rattle.std.proofs.Common.{take, drop, get_or-take, length-take, refl, sym, ap, ◌∙◌, subst}
+use Rattle.std.proofs.Common.{arith}
 use Rattle.std.specs.Prelude.{IsTrue, fold}
 use Rattle.std.specs.List.{list_all}
 use Rattle.std.proofs.lemmas.Bool.Decides.{nat_tests}
 use Rattle.std.proofs.lemmas.Grind.{common_steps}
 use Rattle.sixel_base.specs.Bytes.{is_digit, is_parameter}
-use Rattle.sixel_base.specs.History.{Sixel, Repeat, Raster, Color, Return, Newline, Skip, History}
+use Rattle.sixel_base.specs.History.{Repeat, Color, History}
 use Rattle.sixel_base.specs.History.{goes_on, read}
 use Rattle.sixel_base.specs.Stroke.{Origin}
 use Rattle.sixel_base.specs.inside.Parameters.{IsDigit, Keeps}
@@ -24,29 +24,14 @@ AreDigits bytes = (k : ℕ) → k < length bytes → IsDigit (get_or bytes k 0)
 
 -- no token goes on with a repeat introducer
 goes_on_repeat : (h : History) → goes_on h 33 ≡ false
-goes_on_repeat [] = refl
-goes_on_repeat (Sixel _ ∷ h) = refl
-goes_on_repeat (Repeat _ ∷ h) = refl
-goes_on_repeat (Raster _ ∷ h) = refl
-goes_on_repeat (Color _ ∷ h) = refl
-goes_on_repeat (Return ∷ h) = refl
-goes_on_repeat (Newline ∷ h) = refl
-goes_on_repeat (Skip _ ∷ h) = refl
+goes_on_repeat h = grind (arith, nat_tests)
 
 -- nor with a color introducer
 goes_on_color : (h : History) → goes_on h 35 ≡ false
-goes_on_color [] = refl
-goes_on_color (Sixel _ ∷ h) = refl
-goes_on_color (Repeat _ ∷ h) = refl
-goes_on_color (Raster _ ∷ h) = refl
-goes_on_color (Color _ ∷ h) = refl
-goes_on_color (Return ∷ h) = refl
-goes_on_color (Newline ∷ h) = refl
-goes_on_color (Skip _ ∷ h) = refl
+goes_on_color h = grind (arith, nat_tests)
 
 pub goes_on_numbered : (h : History) (byte : ℕ) → (byte ≡ 33) ⊎ (byte ≡ 35) → goes_on h byte ≡ false
-goes_on_numbered h byte (inl is) = ap (goes_on h) is ∙ goes_on_repeat h
-goes_on_numbered h byte (inr is) = ap (goes_on h) is ∙ goes_on_color h
+goes_on_numbered h byte e = grind (arith, nat_tests)
 
 all_digits : (bytes : List ℕ) → AreDigits bytes → IsTrue (list_all is_digit bytes)
 all_digits [] are = refl
@@ -64,9 +49,7 @@ all_parameters (byte ∷ bytes) are =
 
 AreDigits-take : (n : ℕ) (bytes : List ℕ) → n ≤ length bytes
     → ((k : ℕ) → k < n → IsDigit (get_or bytes k 0)) → AreDigits (take n bytes)
-AreDigits-take n bytes le are k lt =
-    subst IsDigit (sym (get_or-take n bytes k 0 (omega (arith, lt, length-take n bytes))))
-    (are k (omega (arith, lt, length-take n bytes)))
+AreDigits-take n bytes le are k lt = grind (arith, nat_tests, get_or-take, length-take)
 
 -- the byte at the front, and the digits after it
 fold_front : (h : History) (bytes : List ℕ) (first n : ℕ) → 0 < length bytes

@@ -1,31 +1,28 @@
 -- How far the rows of an image are reached, and its sizes.
-use Rattle.std.proofs.Common.{◌≡◌, ℕ, suc, zero, ◌+◌, ◌*◌, ◌≤◌, Bool, true, false, max, min, nat_lt}
-use Rattle.std.proofs.Common.{cond, List, [], ◌∷◌, Option, Some, None, refl, arith}
-use Rattle.std.specs.Prelude.{◌&&◌, is_none}
+use Rattle.std.proofs.Common.{◌≡◌, ℕ, suc, zero, ◌+◌, ◌*◌, ◌≤◌, Bool, false, nat_lt}
+use Rattle.std.proofs.Common.{List, [], ◌∷◌, Option, None, refl, arith}
+use Rattle.std.specs.Prelude.{◌&&◌}
 use Rattle.std.specs.Option.{option_or}
 use Rattle.std.proofs.Math.Nat.{mul-suc}
 use Rattle.std.proofs.lemmas.Nat.{mul-le}
 use Rattle.std.proofs.lemmas.Bool.Decides.{nat_tests}
 use Rattle.std.proofs.lemmas.Bool.{le-ltb, le-leb}
 use Rattle.sixel_base.specs.History.{Sixel, Repeat, Raster, Color, Return, Newline, Skip, History}
-use Rattle.sixel_base.specs.History.{history_of}
-use Rattle.sixel_base.specs.Bytes.{front, is_terminated}
 use Rattle.sixel_base.specs.Fault.{Fault}
 use Rattle.sixel_base.specs.Fields.{field}
 use Rattle.sixel_base.specs.Limits.{Limit, side_limit}
-use Rattle.sixel_base.specs.Lenient.{effective, tolerated, with_tolerated}
-use Rattle.sixel_base.specs.Payload.{cropped_height, extent_fault, fault_of, first_fault, closed}
+use Rattle.sixel_base.specs.Lenient.{effective}
+use Rattle.sixel_base.specs.Payload.{cropped_height, extent_fault, first_fault, closed}
 use Rattle.sixel_base.specs.Payload.{payload_area}
-use Rattle.sixel_base.specs.Clip.{clipped_bits, is_inside}
-use Rattle.sixel_base.specs.Picture.{is_struck, total}
+use Rattle.sixel_base.specs.Clip.{is_inside}
+use Rattle.sixel_base.specs.Picture.{total}
 use Rattle.sixel_base.specs.Place.{across, down, height, raster_height, span, width}
 use Rattle.sixel_base.specs.Reach.{payload_reached_area, row_reach, reached_area}
 use Rattle.sixel_base.proofs.ToleratedTokens.{effective-same}
 
 -- a test that fails last
 fails_last : (a : Bool) → (a && false) ≡ false
-fails_last true = refl
-fails_last false = refl
+fails_last a = grind (arith, nat_tests)
 
 -- no sixel covers a row from the height on
 pub row_reach-past : (limit : Limit) (h : History) (row : ℕ) → height h ≤ row
@@ -48,15 +45,7 @@ row_reach-past limit (Skip _ ∷ h) row past = row_reach-past limit h row past
 -- no row is reached beyond the width
 row_reach-most : (limit : Limit) (h : History) (row : ℕ) → row_reach limit h row ≤ width h
 row_reach-most limit [] row = omega arith
-row_reach-most limit (Sixel bits ∷ h) row =
-    elim (is_inside limit h && is_struck (down h) (clipped_bits limit (down h) bits) row) as
-    (λ t.
-    cond t (max (row_reach limit h row) (min (across h + span h) limit.columns))
-    (row_reach limit h row)
-    ≤ max (width h) (across h + span h)) [
-      | true ↦ omega (arith, row_reach-most limit h row)
-      | false ↦ omega (arith, row_reach-most limit h row)
-    ]
+row_reach-most limit (Sixel bits ∷ h) row = grind (arith, nat_tests, row_reach-most limit h row)
 row_reach-most limit (Repeat _ ∷ h) row = row_reach-most limit h row
 row_reach-most limit (Raster _ ∷ h) row = omega (arith, row_reach-most limit h row)
 row_reach-most limit (Color _ ∷ h) row = row_reach-most limit h row
@@ -72,15 +61,13 @@ total-most f bound (suc n) most = rw mul-suc (omega (arith, total-most f bound n
 
 -- the reached area is at most the picture's
 reached_area-most : (limit : Limit) (h : History) → reached_area limit h ≤ width h * height h
-reached_area-most limit h =
-    total-most (row_reach limit h) (width h) (height h) (row_reach-most limit h)
+reached_area-most limit h = grind (arith, nat_tests, total-most, row_reach-most)
 
 -- ---- the size of a picture
 
 -- no first of two faults means that neither is there
 pub both_none : (a b : Option Fault) → option_or a b ≡ None → (a ≡ None) × (b ≡ None)
-both_none None b is = (refl, is)
-both_none (Some f) b is = absurd cc
+both_none a b is = grind (arith, nat_tests)
 
 -- an extent without a fault has its sides within theirs
 extent-fits : (limit : Limit) (right lower : ℕ) (h : History)
@@ -113,12 +100,7 @@ raster_height-most : (h : History) → raster_height h ≤ height h
 raster_height-most [] = omega arith
 raster_height-most (Sixel bits ∷ h) = omega (arith, raster_height-most h)
 raster_height-most (Repeat _ ∷ h) = raster_height-most h
-raster_height-most (Raster text ∷ h) =
-    elim (nat_lt 0 (field text 3)) as
-    (λ t. cond t (field text 3) (raster_height h) ≤ max (height h) (field text 3)) [
-      | true ↦ omega arith
-      | false ↦ omega (arith, raster_height-most h)
-    ]
+raster_height-most (Raster text ∷ h) = grind (arith, nat_tests, raster_height-most h)
 raster_height-most (Color _ ∷ h) = raster_height-most h
 raster_height-most (Return ∷ h) = raster_height-most h
 raster_height-most (Newline ∷ h) = raster_height-most h
@@ -126,71 +108,19 @@ raster_height-most (Skip _ ∷ h) = raster_height-most h
 
 -- so an image is at most as high as the extent, and inside a clip as high as that inside the clip
 pub cropped_height-most : (crop : Bool) (h : History) → cropped_height crop h ≤ height h
-cropped_height-most crop h =
-    elim (crop && nat_lt 0 (raster_height h)) as
-    (λ t. cond t (raster_height h) (height h) ≤ height h) [
-      | true ↦ raster_height-most h
-      | false ↦ omega arith
-    ]
+cropped_height-most crop h = grind (arith, nat_tests, nat_lt, raster_height-most)
 
 -- raster attributes make a picture no smaller
 raster-area : (limit : Limit) (text : List ℕ) (h : History)
     → reached_area limit h ≤ width (Raster text ∷ h) * height (Raster text ∷ h)
-raster-area limit text h =
-    omega (
-      arith,
-      reached_area-most limit h,
-      mul-le (width h) (height h) (width (Raster text ∷ h)) (height (Raster text ∷ h)) (omega arith)
-          (omega arith),
-    )
+raster-area limit text h = grind (arith, nat_tests, reached_area-most, mul-le)
 
 -- the effective closed tokens reach no more than the picture of all effective tokens has
 closed-area : (limit : Limit) (h : History) → reached_area limit (effective limit (closed h))
     ≤ width (effective limit h) * height (effective limit h)
-closed-area limit [] = reached_area-most limit (effective limit [])
-closed-area limit (Sixel bits ∷ h) = reached_area-most limit (effective limit (Sixel bits ∷ h))
-closed-area limit (Repeat text ∷ h) =
-    omega (
-      arith,
-      reached_area-most limit (effective limit h),
-      effective-same (λ (w : History). width w * height w) limit (Repeat text) h (λ w. refl)
-          (λ w. refl),
-    )
-closed-area limit (Raster text ∷ h) =
-    let older : History = tolerated limit h in
-    elim limit.lenient as
-    (λ t. reached_area limit (cond t older h)
-    ≤ width (cond t (with_tolerated limit (Raster text) older) (Raster text ∷ h))
-    * height (cond t (with_tolerated limit (Raster text) older) (Raster text ∷ h))) [
-      | true ↦
-          elim (is_none (fault_of limit (Raster text) older)) as
-          (λ n. reached_area limit older
-          ≤ width (cond n (Raster text ∷ older) older) * height
-          (cond n (Raster text ∷ older) older)) [
-            | true ↦ raster-area limit text older
-            | false ↦ reached_area-most limit older
-          ]
-      | false ↦ raster-area limit text h
-    ]
-closed-area limit (Color text ∷ h) =
-    omega (
-      arith,
-      reached_area-most limit (effective limit h),
-      effective-same (λ (w : History). width w * height w) limit (Color text) h (λ w. refl)
-          (λ w. refl),
-    )
-closed-area limit (Return ∷ h) = reached_area-most limit (effective limit (Return ∷ h))
-closed-area limit (Newline ∷ h) = reached_area-most limit (effective limit (Newline ∷ h))
-closed-area limit (Skip byte ∷ h) = reached_area-most limit (effective limit (Skip byte ∷ h))
+closed-area limit h = grind (arith, nat_tests, reached_area-most, effective-same, raster-area)
 
 -- those of a payload reach no more than its picture has
 pub settled-area : (limit : Limit) (bytes : List ℕ)
     → payload_reached_area limit bytes ≤ payload_area limit bytes
-settled-area limit bytes =
-    let h : History = history_of (front bytes) in
-    elim (is_terminated bytes) as
-    (λ t. reached_area limit (effective limit (cond t h (closed h)))
-    ≤ width (effective limit h) * height (effective limit h)) [
-      | true ↦ reached_area-most limit (effective limit h)
-      | false ↦ closed-area limit h
-    ]
+settled-area limit bytes = grind (arith, nat_tests, reached_area-most, closed-area)

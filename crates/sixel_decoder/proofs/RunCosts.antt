@@ -1,13 +1,11 @@
 -- What the runs of a history have cost a canvas, against its sixels and how far they reach.
-use Rattle.std.proofs.Common.{◌≡◌, ℕ, suc, ◌+◌, ◌-◌, ◌*◌, ◌≤◌, ◌∷◌, [], max, min, None, refl}
-use Rattle.std.proofs.Common.{ap, arith, cond, false, true, ◌∙◌}
-use Rattle.std.specs.Prelude.{◌&&◌, nat_lt, if◌then◌else◌}
+use Rattle.std.proofs.Common.{◌≡◌, ℕ, suc, ◌+◌, ◌*◌, ◌≤◌, ◌∷◌, [], min, None, refl}
+use Rattle.std.proofs.Common.{arith, cond, false, true, ◌∙◌}
 use Rattle.std.proofs.lemmas.Bool.Decides.{nat_tests}
 use Rattle.sixel_base.specs.History.{Sixel, Repeat, Raster, Color, Return, Newline, Skip, History}
 use Rattle.sixel_base.specs.Clip.{clipped_bits, is_inside}
 use Rattle.sixel_base.specs.Limits.{Limit, repeat_limit}
-use Rattle.sixel_base.specs.Payload.{fault_of, first_fault}
-use Rattle.sixel_base.specs.Picture.{is_struck}
+use Rattle.sixel_base.specs.Payload.{first_fault}
 use Rattle.sixel_base.specs.Place.{across, down, height, span}
 use Rattle.sixel_base.specs.Reach.{row_reach, reached_area}
 use Rattle.sixel_canvas.specs.inside.Drawn.{Work, run}
@@ -15,7 +13,7 @@ use Rattle.sixel_canvas.specs.inside.RowCanvas.{RowCanvasState, HasCost, IsDrawn
 use Rattle.sixel_canvas.specs.inside.RowCanvas.{row_canvas_work, runs_least, runs_most}
 use Rattle.sixel_canvas.proofs.RowCosts.{drawn_cost}
 use Rattle.sixel_canvas.proofs.Totals.{total-same}
-use Rattle.sixel_decoder.specs.Paints.{sixels, sixel_paints, least_paints, least_count}
+use Rattle.sixel_decoder.specs.Paints.{sixels, least_paints, least_count}
 use Rattle.sixel_decoder.specs.Paints.{most_sixel_paints}
 use Rattle.sixel_decoder.specs.inside.Runs.{runs_of}
 use Rattle.sixel_decoder.proofs.RowExtents.{both_none, row_reach-past}
@@ -24,19 +22,7 @@ use Rattle.sixel_decoder.proofs.RowExtents.{both_none, row_reach-past}
 row_edge-history : (limit : Limit) (h : History) (row : ℕ)
     → row_edge (runs_of limit h) row ≡ row_reach limit h row
 row_edge-history limit [] row = refl
-row_edge-history limit (Sixel bits ∷ h) row =
-    let cut : ℕ = clipped_bits limit (down h) bits in
-    let right : ℕ = min (across h + span h) limit.columns in
-    elim (is_inside limit h) as
-    (λ t.
-    row_edge (cond t (run (across h) right (down h) cut ∷ runs_of limit h) (runs_of limit h)) row
-    ≡ cond (t && is_struck (down h) cut row) (max (row_reach limit h row) right)
-    (row_reach limit h row)) [
-      | true ↦ ap
-          (λ (edge : ℕ). if is_struck (down h) cut row then max edge right else edge)
-          (row_edge-history limit h row)
-      | false ↦ row_edge-history limit h row
-    ]
+row_edge-history limit (Sixel bits ∷ h) row = grind (arith, nat_tests, row_edge-history limit h row)
 row_edge-history limit (Repeat _ ∷ h) row = row_edge-history limit h row
 row_edge-history limit (Raster _ ∷ h) row = row_edge-history limit h row
 row_edge-history limit (Color _ ∷ h) row = row_edge-history limit h row
@@ -48,18 +34,7 @@ row_edge-history limit (Skip _ ∷ h) row = row_edge-history limit h row
 runs_least-history : (limit : Limit) (h : History)
     → runs_least (runs_of limit h) ≡ least_paints limit h
 runs_least-history limit [] = refl
-runs_least-history limit (Sixel bits ∷ h) =
-    let cut : ℕ = clipped_bits limit (down h) bits in
-    let right : ℕ = min (across h + span h) limit.columns in
-    elim (is_inside limit h) as
-    (λ t.
-    runs_least (cond t (run (across h) right (down h) cut ∷ runs_of limit h) (runs_of limit h))
-    ≡ least_paints limit h
-    + cond (t && nat_lt 0 cut) (sixel_paints (right - across h)) 0) [
-      | true ↦ ap (λ (n : ℕ). n + (if nat_lt 0 cut then sixel_paints (right - across h) else 0))
-          (runs_least-history limit h)
-      | false ↦ omega (arith, runs_least-history limit h)
-    ]
+runs_least-history limit (Sixel bits ∷ h) = grind (arith, nat_tests, runs_least-history limit h)
 runs_least-history limit (Repeat _ ∷ h) = runs_least-history limit h
 runs_least-history limit (Raster _ ∷ h) = runs_least-history limit h
 runs_least-history limit (Color _ ∷ h) = runs_least-history limit h
@@ -71,9 +46,7 @@ runs_least-history limit (Skip _ ∷ h) = runs_least-history limit h
 pub span-fits : (limit : Limit) (h : History) → first_fault limit h ≡ None → span h ≤ repeat_limit
 span-fits limit [] is = omega arith
 span-fits limit (Sixel bits ∷ h) is = omega arith
-span-fits limit (Repeat text ∷ h) is =
-    let own : fault_of limit (Repeat text) h ≡ None = (both_none (first_fault limit h) _ is).1 in
-    grind (arith, nat_tests, own)
+span-fits limit (Repeat text ∷ h) is = grind (arith, nat_tests)
 span-fits limit (Raster _ ∷ h) is = span-fits limit h (both_none (first_fault limit h) _ is).0
 span-fits limit (Color _ ∷ h) is = span-fits limit h (both_none (first_fault limit h) _ is).0
 span-fits limit (Return ∷ h) is = span-fits limit h (both_none (first_fault limit h) _ is).0

@@ -1,9 +1,9 @@
 -- What a feed answers beside its count and its status: a session that was accepted had no fault, a
 -- feed takes no more bytes than there are, and once the end has come it takes none.
 use Rattle.std.proofs.Common.{◌≡◌, ℕ, ◌+◌, ◌≤◌, Bool, true, false, List, [], ◌∷◌, ◌++◌, refl, ap}
-use Rattle.std.proofs.Common.{sym, ◌∙◌, arith, Option, Some, None, Result, Ok, Err, length}
+use Rattle.std.proofs.Common.{sym, ◌∙◌, arith, Option, Some, None, length}
 use Rattle.std.proofs.Common.{length-append, subst}
-use Rattle.std.specs.Prelude.{◌==◌, nat_lt, is_none, is_some, IfOk, IfErr, MatchBool}
+use Rattle.std.specs.Prelude.{◌==◌, nat_lt, is_none, is_some, MatchBool}
 use Rattle.std.proofs.lemmas.List.{length-drop}
 use Rattle.std.proofs.lemmas.Bool.{false≢true}
 use Rattle.std.proofs.lemmas.Bool.Decides.{nat_tests}
@@ -15,12 +15,9 @@ use Rattle.sixel_base.specs.declared.error.SixelError.TheVariants.{OutOfMemory}
 use Rattle.sixel_base.specs.Fault.{Faults}
 use Rattle.sixel_base.specs.Bytes.{front, count, first_terminator}
 use Rattle.sixel_base.specs.History.{history_of}
-use Rattle.sixel_base.specs.Payload.{fed_fault, settled, growths, payload_fault, payload_wants}
+use Rattle.sixel_base.specs.Payload.{fed_fault, settled, growths}
 use Rattle.sixel_base.specs.Stroke.{Origin}
 use Rattle.sixel_base.specs.declared.state.DecoderState.{DecoderState}
-use Rattle.sixel_base.specs.declared.status.SixelFeedResult.{SixelFeedResult}
-use Rattle.sixel_base.specs.declared.status.SixelFeedStatus.TheVariants.{Terminated}
-use Rattle.sixel_base.specs.declared.status.SixelDcsFeedResult.{SixelDcsFeedResult}
 use Rattle.sixel_base.specs.declared.status.SixelDcsFeedStatus.{SixelDcsFeedStatus}
 use Rattle.sixel_base.specs.declared.status.SixelDcsFeedStatus.TheVariants.{NeedMoreData, Complete}
 use Rattle.sixel_base.specs.declared.status.SixelDcsFeedStatus.TheVariants.{Cancelled, Interrupted}
@@ -32,21 +29,18 @@ use Rattle.sixel_base.specs.Dcs.{Stage, Heading, Failing, Reading, introduced, s
 use Rattle.sixel_base.specs.Dcs.{stage_count, stage_fault, after_terminator, end_count}
 use Rattle.sixel_base.specs.Dcs.{payload_count, payload_status, dcs_status, dcs_count, dcs_fault}
 use Rattle.sixel_base.specs.Dcs.{dcs_growths, has_ended, IsSameString}
-use Rattle.sixel_base.specs.Lenient.{fault}
 use Rattle.sixel_base.specs.Limits.{Limit}
 use Rattle.sixel_base.proofs.ToleratedTokens.{effective-fault}
-use Rattle.sixel_base.specs.Status.{status_of}
 use Rattle.sixel_decoder.specs.inside.PayloadParser.{StandsAfter}
 use Rattle.sixel_decoder.specs.inside.DcsParser.{HasFollowed, is_failed}
 use Rattle.sixel_decoder.specs.inside.PayloadReader.{HasRead}
-use Rattle.sixel_decoder.proofs.Chunks.{shown_after, first_terminator-ended}
+use Rattle.sixel_decoder.proofs.Chunks.{shown_after}
 use Rattle.sixel_decoder.proofs.Chunks.{before_terminator-whole}
 use Rattle.sixel_decoder.proofs.DcsChunks.{heading, reading_fits}
-use Rattle.sixel_decoder.proofs.Finality.{count_ended, settled_ended, status_ended, fed_fault_stays}
+use Rattle.sixel_decoder.proofs.Finality.{status_ended, fed_fault_stays}
 use Rattle.sixel_decoder.proofs.Finality.{growths_stay, dcs_count_ended, dcs_fault_ended}
-use Rattle.sixel_decoder.proofs.Finality.{dcs_growths_ended, dcs_fault_stays, dcs_growths_stay}
+use Rattle.sixel_decoder.proofs.Finality.{dcs_fault_stays, dcs_growths_stay}
 use Rattle.sixel_decoder.proofs.Terminators.{drop-count, escape_waits, failing_stays}
-use Rattle.sixel_decoder.proofs.PayloadFaults.{payload_refused}
 use Rattle.sixel_decoder.proofs.ParserSteps.{Faults-along}
 use Rattle.sixel_decoder.proofs.DcsEnds.{count-fits, count_open, count_at, status_at}
 
@@ -59,7 +53,7 @@ never_refused NoSixelData may not is = is
 never_refused IntegerOverflow may not is = is
 never_refused OutOfMemory may not is = false≢true (sym not ∙ is)
 
-no_growth : (a b : ℕ) → b ≡ a → nat_lt a b ≡ false
+pub no_growth : (a b : ℕ) → b ≡ a → nat_lt a b ≡ false
 no_growth a b same = grind (arith, nat_tests)
 
 -- what holds at either answer of a test
@@ -85,28 +79,6 @@ read_sound (Some parser) o terminator bytes is accepted =
     ∙ (shown_after (is_some (first_terminator bytes)) o parser (history_of (front bytes))
     stands).shows.faultless
 
--- a feed after the terminator consumes no byte and reports it again
-pub frame_over :
-    (limit : Limit) (result : Result SixelFeedResult SixelError) (fed piece fed' : List ℕ) (t : ℕ)
-    → first_terminator fed ≡ Some t → fed' ≡ fed ++ piece
-    → fed_fault limit fed ≡ None → IfOk result (λ r. count fed + r.consumed ≡ count fed')
-    → IfOk result (λ r. r.status ≡ status_of (first_terminator fed'))
-    → IfErr result
-    (λ e. Faults e (nat_lt (growths (settled fed)) (growths (settled fed'))) (fed_fault limit fed'))
-    → result ≡ Ok (record { consumed = 0; status = Terminated t })
-frame_over limit (Ok r) fed piece fed' t some joined sound counted stands refused =
-    let none : r.consumed ≡ 0 =
-    omega (arith, counted, ap count joined, count_ended fed piece t some) in
-    let same : r.status ≡ Terminated t =
-    stands ∙ ap status_of (ap first_terminator joined ∙ first_terminator-ended fed piece t some) in
-    λ i. Ok (record { consumed = none i; status = same i })
-frame_over limit (Err e) fed piece fed' t some joined sound counted stands refused =
-    let same : settled fed' ≡ settled fed = ap settled joined ∙ settled_ended fed piece t some in
-    let fine : fed_fault limit fed' ≡ None = ap (fault limit) same ∙ sound in
-    absurd (never_refused e _ (no_growth _ _ (ap growths same))
-    (subst (λ f. Faults e (nat_lt (growths (settled fed)) (growths (settled fed'))) f)
-    fine refused))
-
 -- all bytes are rejected with the error of a beginning
 pub frame_refused : (e : SixelError) (limit : Limit) (fed left bytes : List ℕ) (n : ℕ)
     → fed ++ left ≡ bytes → Faults e (nat_lt n (growths (settled fed))) (fed_fault limit fed)
@@ -117,15 +89,6 @@ frame_refused e limit fed left bytes n joined refused =
     (Faults-along e _ (nat_lt 0 (growths (settled all))) (fed_fault limit fed) (fed_fault limit all)
     (λ may. grind (arith, nat_tests, growths_stay fed left))
     (fed_fault_stays limit fed left) refused)
-
--- so decoding all bytes in one call fails with the error of a feed
-pub frame_refused_with : (limit : Limit) (n : ℕ) (result : Result SixelFeedResult SixelError)
-    (fed left bytes : List ℕ) → fed ++ left ≡ bytes
-    → IfErr result (λ e. Faults e (nat_lt n (growths (settled fed))) (fed_fault limit fed))
-    → (e : SixelError) → result ≡ Err e
-    → Faults e (payload_wants limit bytes) (payload_fault limit bytes)
-frame_refused_with limit n result fed left bytes joined refused e is =
-    payload_refused e limit bytes (frame_refused e limit fed left bytes n joined (rw is at refused))
 
 -- ---- a DCS sequence
 
@@ -236,54 +199,11 @@ pub dcs_count-most : (bytes piece : List ℕ)
 dcs_count-most bytes piece =
     count_most_by bytes piece (stage bytes) (has_ended (dcs_status bytes)) refl refl
 
--- a feed after the end consumes no byte and reports the end again
-pub string_over :
-    (limit : Limit) (result : Result SixelDcsFeedResult SixelError) (fed piece fed' : List ℕ)
-    → has_ended (dcs_status fed) ≡ true → fed' ≡ fed ++ piece
-    → dcs_fault limit fed ≡ None → IfOk result (λ r. dcs_count fed + r.consumed ≡ dcs_count fed')
-    → IfOk result (λ r. r.status ≡ dcs_status fed')
-    → IfErr result
-    (λ e. Faults e (nat_lt (dcs_growths fed) (dcs_growths fed')) (dcs_fault limit fed'))
-    → result ≡ Ok (record { consumed = 0; status = dcs_status fed })
-string_over limit (Ok r) fed piece fed' over joined sound counted stands refused =
-    let none : r.consumed ≡ 0 =
-    omega (arith, counted, ap dcs_count joined, dcs_count_ended fed piece over) in
-    let same : r.status ≡ dcs_status fed =
-    stands ∙ (ap dcs_status joined ∙ status_ended fed piece over) in
-    λ i. Ok (record { consumed = none i; status = same i })
-string_over limit (Err e) fed piece fed' over joined sound counted stands refused =
-    let fine : dcs_fault limit fed' ≡ None =
-    ap (dcs_fault limit) joined ∙ (dcs_fault_ended limit fed piece over ∙ sound) in
-    let same : dcs_growths fed' ≡ dcs_growths fed =
-    ap dcs_growths joined ∙ dcs_growths_ended fed piece over in
-    absurd (never_refused e _ (no_growth _ _ same)
-    (subst (λ f. Faults e (nat_lt (dcs_growths fed) (dcs_growths fed')) f) fine refused))
-
-pub string_within : (result : Result SixelDcsFeedResult SixelError) (fed piece fed' : List ℕ)
-    → fed' ≡ fed ++ piece
-    → IfOk result (λ r. dcs_count fed + r.consumed ≡ dcs_count fed')
-    → IfOk result (λ r. r.consumed ≤ length piece)
-string_within (Ok r) fed piece fed' joined counted =
-    omega (arith, counted, ap dcs_count joined, dcs_count-most fed piece)
-string_within (Err e) fed piece fed' joined counted = tt
-
 -- what follows the end means nothing
 pub same_string : (limit : Limit) (fed more : List ℕ) → has_ended (dcs_status fed) ≡ true
     → IsSameString limit fed (fed ++ more)
-same_string limit fed more over = record {
-  count = dcs_count_ended fed more over;
-  status = status_ended fed more over;
-  fault = dcs_fault_ended limit fed more over;
-}
-
--- so a feed that reports the end is the last one with an effect
-pub string_same : (limit : Limit) (result : Result SixelDcsFeedResult SixelError)
-    (fed more : List ℕ)
-    → IfOk result (λ r. r.status ≡ dcs_status fed)
-    → IfOk result (λ r. has_ended r.status ≡ true → IsSameString limit fed (fed ++ more))
-string_same limit (Ok r) fed more stands = λ ended.
-    same_string limit fed more (ap has_ended (sym stands) ∙ ended)
-string_same limit (Err e) fed more stands = tt
+same_string limit fed more over =
+    grind (arith, nat_tests, dcs_count_ended, status_ended, dcs_fault_ended)
 
 -- all bytes are rejected with the error of a beginning
 pub string_refused : (e : SixelError) (limit : Limit) (fed left bytes : List ℕ) (n : ℕ)
@@ -295,12 +215,3 @@ string_refused e limit fed left bytes n joined refused =
     (Faults-along e _ (nat_lt 0 (dcs_growths all)) (dcs_fault limit fed) (dcs_fault limit all)
     (λ may. grind (arith, nat_tests, dcs_growths_stay fed left))
     (dcs_fault_stays limit fed left) refused)
-
--- so the error of a feed is that of all bytes
-pub string_refused_with : (limit : Limit) (n : ℕ) (result : Result SixelDcsFeedResult SixelError)
-    (fed left : List ℕ)
-    → IfErr result (λ e. Faults e (nat_lt n (dcs_growths fed)) (dcs_fault limit fed))
-    → (e : SixelError) → result ≡ Err e
-    → Faults e (nat_lt 0 (dcs_growths (fed ++ left))) (dcs_fault limit (fed ++ left))
-string_refused_with limit n result fed left refused e is =
-    string_refused e limit fed left (fed ++ left) n refl (rw is at refused)

@@ -1,32 +1,23 @@
 -- The rows that bits set, of several sixels together.
-use Rattle.std.proofs.Common.{◌≡◌, ℕ, zero, suc, ◌+◌, ◌/◌, ◌%◌, ◌^◌, ◌<◌, ◌≤◌, Bool, true, false}
-use Rattle.std.proofs.Common.{cond, List, [], ◌∷◌, max, length, refl, ap, sym, ◌∙◌, arith}
+use Rattle.std.proofs.Common.{◌≡◌, ℕ, zero, suc, ◌/◌, ◌%◌, ◌^◌, ◌≤◌, Bool, true, false}
+use Rattle.std.proofs.Common.{cond, List, [], ◌∷◌, max, length, refl, ap, ◌∙◌, arith}
 use Rattle.std.specs.Prelude.{◌||◌, ◌==◌}
-use Rattle.std.specs.Int.{bit_at, to_le_bytes, w64}
+use Rattle.std.specs.Int.{to_le_bytes, w64}
 use Rattle.std.specs.Int.Bits.{bit_or}
 use Rattle.std.specs.Simd.Lanes.{fold_l, zip2}
-use Rattle.std.proofs.lemmas.Bool.{lt-ltb}
-use Rattle.std.proofs.Math.Nat.{max-zero, zero-max}
 use Rattle.std.proofs.lemmas.Nat.{or_mod, or_shr}
 use Rattle.std.proofs.lemmas.Nat.Bits.{bit_at_or, bit_at-lt}
 use Rattle.sixel_base.specs.DrawnHeight.{set_rows_within, set_rows, lowered}
 use Rattle.sixel_base.specs.Picture.{is_set}
 use Rattle.sixel_decoder.specs.inside.Runs.{most_rows}
+use Rattle.std.proofs.lemmas.Bool.Decides.{nat_tests}
 
 -- a bit of two numbers together
 one_of : (m n : ℕ) → m ≤ 1 → n ≤ 1 → (max m n == 1) ≡ ((m == 1) || (n == 1))
-one_of zero zero a b = refl
-one_of zero (suc zero) a b = refl
-one_of zero (suc (suc n)) a b = absurd (omega (arith, b))
-one_of (suc zero) zero a b = refl
-one_of (suc zero) (suc zero) a b = refl
-one_of (suc zero) (suc (suc n)) a b = absurd (omega (arith, b))
-one_of (suc (suc m)) n a b = absurd (omega (arith, a))
+one_of m n a b = grind (arith, nat_tests)
 
 is_set-or : (a b k : ℕ) → is_set (bit_or a b) k ≡ (is_set a k || is_set b k)
-is_set-or a b k =
-    ap (λ n. n == 1) (bit_at_or a b k)
-    ∙ one_of (bit_at a k) (bit_at b k) (omega (arith, bit_at-lt a k)) (omega (arith, bit_at-lt b k))
+is_set-or a b k = grind (arith, nat_tests, bit_at_or, one_of, bit_at-lt)
 
 few : (bits k : ℕ) → set_rows_within bits k ≤ k
 few bits zero = omega arith
@@ -35,23 +26,14 @@ few bits (suc k) = elim (is_set bits k) as (λ t. cond t (suc k) (set_rows_withi
   | false ↦ omega (arith, few bits k)
 ]
 
-pub set_rows_few : (bits : ℕ) → set_rows bits ≤ 6
-set_rows_few bits = few bits 6
-
 or-cases : (s t : Bool) (k m n : ℕ) → m ≤ k → n ≤ k
     → cond (s || t) (suc k) (max m n) ≡ max (cond s (suc k) m) (cond t (suc k) n)
-or-cases true true k m n a b = omega arith
-or-cases true false k m n a b = omega (arith, b)
-or-cases false true k m n a b = omega (arith, a)
-or-cases false false k m n a b = refl
+or-cases s t k m n a b = grind (arith, nat_tests)
 
 within-or : (a b k : ℕ)
     → set_rows_within (bit_or a b) k ≡ max (set_rows_within a k) (set_rows_within b k)
 within-or a b zero = refl
-within-or a b (suc k) =
-    rw (is_set-or a b k, within-or a b k)
-    (or-cases (is_set a k) (is_set b k) k (set_rows_within a k) (set_rows_within b k)
-    (few a k) (few b k))
+within-or a b (suc k) = grind (arith, nat_tests, is_set-or, or-cases, few, within-or a b k)
 
 -- the rows of sixels together are the greatest of theirs
 pub set_rows-or : (a b : ℕ) → set_rows (bit_or a b) ≡ max (set_rows a) (set_rows b)
@@ -71,24 +53,10 @@ most_rows-zip (a ∷ lanes) [] same = absurd (omega (arith, same))
 most_rows-zip (a ∷ lanes) (b ∷ more) same =
     omega (arith, set_rows-or a b, most_rows-zip lanes more (omega (arith, same)))
 
--- some rows of a band
-pub lowered_some : (before top rows : ℕ) → 0 < rows
-    → lowered before top rows ≡ max before (top + rows)
-lowered_some before top rows some = rw (lt-ltb 0 rows some) refl
-
 -- rows of one band, and then more of them
 pub lowered-again : (before top a b : ℕ)
     → lowered (lowered before top a) top b ≡ lowered before top (max a b)
-lowered-again before top zero b = ap (lowered before top) (sym (zero-max b))
-lowered-again before top (suc a) zero =
-    ap (lowered before top) (sym (max-zero (suc a)))
-lowered-again before top (suc a) (suc b) =
-    omega (
-      arith,
-      lowered_some before top (suc a) (omega arith),
-      lowered_some (lowered before top (suc a)) top (suc b) (omega arith),
-      lowered_some before top (max (suc a) (suc b)) (omega arith),
-    )
+lowered-again before top a b = grind (arith, nat_tests)
 
 byte-or : (a b k : ℕ)
     → bit_or a b / 2 ^ k % 256 ≡ bit_or (a / 2 ^ k % 256) (b / 2 ^ k % 256)

@@ -8,6 +8,7 @@ use Rattle.sixel_decoder.specs.declared.painter.Painter.{Painter}
 use Rattle.sixel_decoder.specs.inside.DrawnRows.{drawn_rows}
 use Rattle.sixel_decoder.specs.inside.Painter.{Shows}
 use Rattle.sixel_decoder.proofs.DrawnHeights.{drawn_within}
+use Rattle.std.proofs.lemmas.Bool.Decides.{nat_tests}
 
 pub shown_drawn : {C : Type 0} {canvas : Ghosts C} (o : Origin) (painter : Painter C canvas)
     (h : History) → Shows o painter h
@@ -18,11 +19,4 @@ shown_drawn o painter h shows = ap (drawn_rows painter.drawn) shows.top ∙ show
 pub drawn_fits : {C : Type 0} {canvas : Ghosts C} (o : Origin) (painter : Painter C canvas)
     (h : History) → Shows o painter h
     → drawn_rows painter.drawn (canvas.top painter.canvas) < 2 ^ 64
-drawn_fits o painter h shows =
-    omega (
-      arith,
-      shown_drawn o painter h shows,
-      drawn_within o.pixel_limit h,
-      shows.height,
-      painter.height_fits,
-    )
+drawn_fits o painter h shows = grind (arith, nat_tests, shown_drawn, drawn_within)

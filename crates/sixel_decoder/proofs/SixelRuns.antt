@@ -4,8 +4,7 @@ use Rattle.std.proofs.Common.{◌≡◌, ℕ, suc, ◌+◌, ◌*◌, ◌<◌, �
 use Rattle.std.proofs.Common.{length, get_or, take, length-take, get_or-take, subst, refl, sym, ap}
 use Rattle.std.proofs.Common.{◌∙◌, None, arith}
 use Rattle.std.specs.Prelude.{fold, nat_lt}
-use Rattle.std.proofs.lemmas.Bool.{le-ltb, le-leb, lt-ltb}
-use Rattle.sixel_base.specs.History.{Sixel, Repeat, Raster, Color, Return, Newline, Skip, History}
+use Rattle.sixel_base.specs.History.{Sixel, History}
 use Rattle.sixel_base.specs.History.{goes_on, read}
 use Rattle.sixel_base.specs.Payload.{first_fault, closed, growths}
 use Rattle.sixel_base.specs.Clip.{clipped_height, clipped_width}
@@ -16,7 +15,6 @@ use Rattle.sixel_base.specs.Place.{span, across, down, width, height}
 use Rattle.sixel_base.specs.Settings.{ratio_of}
 use Rattle.sixel_base.specs.Lenient.{fault}
 use Rattle.sixel_base.specs.Stroke.{Origin, registers, color, ratio}
-use Rattle.sixel_base.proofs.Histories.{fold-spelling}
 use Rattle.sixel_canvas.specs.declared.drawing.Canvas.{Ghosts}
 use Rattle.sixel_decoder.specs.Report.{raster_size}
 use Rattle.sixel_decoder.specs.inside.Lenient.{HasDrawn}
@@ -26,38 +24,19 @@ use Rattle.sixel_decoder.specs.declared.payload_parser.OpenCommand.TheVariants.{
 use Rattle.sixel_decoder.specs.inside.PayloadParser.{IsDrawn, Stands, StandsIn}
 use Rattle.sixel_decoder.specs.inside.Runs.{IsSixelByte, IsRun, bits_of}
 use Rattle.sixel_canvas.specs.inside.Drawn.{run}
-use Rattle.sixel_decoder.proofs.ParserSteps.{growths-closed}
+use Rattle.std.proofs.lemmas.Bool.Decides.{nat_tests}
 
 -- the history after sixels with these bits
 abbrev pub with_sixels : History → List ℕ → History
 with_sixels h [] = h
 with_sixels h (bits ∷ more) = with_sixels (Sixel bits ∷ h) more
 
--- no token goes on with a sixel
-pub goes_on_sixel : (h : History) (bits : ℕ) → goes_on h (63 + bits) ≡ false
-goes_on_sixel [] bits = refl
-goes_on_sixel (Sixel _ ∷ h) bits = refl
-goes_on_sixel (Repeat _ ∷ h) bits =
-    rw (le-leb 48 (63 + bits) (omega arith), le-ltb (63 + bits) 58 (omega arith)) refl
-goes_on_sixel (Raster _ ∷ h) bits =
-    rw (le-leb 48 (63 + bits) (omega arith), le-ltb (63 + bits) 60 (omega arith)) refl
-goes_on_sixel (Color _ ∷ h) bits =
-    rw (le-leb 48 (63 + bits) (omega arith), le-ltb (63 + bits) 60 (omega arith)) refl
-goes_on_sixel (Return ∷ h) bits = refl
-goes_on_sixel (Newline ∷ h) bits = refl
-goes_on_sixel (Skip _ ∷ h) bits = refl
-
 -- a sixel is read as one, whatever came before
 pub read_sixel : (h : History) (byte : ℕ) → IsSixelByte byte → read h byte ≡ Sixel (byte - 63) ∷ h
-read_sixel h byte is =
-    let same : byte ≡ 63 + (byte - 63) = omega (arith, is.0) in
-    ap (read h) same
-    ∙ fold-spelling h (Sixel (byte - 63)) (omega (arith, is.0, is.1)) (goes_on_sixel h (byte - 63))
+read_sixel h byte is = grind (arith, nat_tests)
 
 pub goes_on_byte : (h : History) (byte : ℕ) → IsSixelByte byte → goes_on h byte ≡ false
-goes_on_byte h byte is =
-    let same : byte ≡ 63 + (byte - 63) = omega (arith, is.0) in
-    ap (goes_on h) same ∙ goes_on_sixel h (byte - 63)
+goes_on_byte h byte is = grind (arith, nat_tests)
 
 -- reading a run
 pub fold_run : (h : History) (run : List ℕ) → IsRun run
@@ -95,29 +74,7 @@ height-inside limit n bits h inside = omega (arith, inside.lower)
 
 pub IsInside-sixel : (limit : Limit) (n bits : ℕ) (h : History) → IsInside limit (suc n) h
     → IsInside limit n (Sixel bits ∷ h)
-IsInside-sixel limit n bits h inside =
-    let wide = width-inside limit n bits h inside in
-    let high = height-inside limit n bits h inside in
-    record {
-      single = refl;
-      right = omega (arith, inside.single, inside.right);
-      lower = omega (arith, inside.lower);
-      wide = omega (arith, wide, inside.wide);
-      high = omega (arith, high, inside.high);
-      columns = omega (arith, inside.single, inside.columns);
-      rows = inside.rows;
-      area = rw (wide, high) inside.area;
-      faultless =
-          rw (
-            inside.faultless,
-            wide,
-            high,
-            le-ltb 1000000 (across h + span h)
-                (omega (arith, inside.single, inside.right, inside.wide)),
-            le-ltb 1000000 (down h + 6) (omega (arith, inside.lower, inside.high)),
-            le-ltb limit.pixels (clipped_width limit h * clipped_height limit h) inside.area,
-          ) refl;
-    }
+IsInside-sixel limit n bits h inside = grind (arith, nat_tests)
 
 -- what stays, and where the next sixel stands
 pub record IsPassed (limit : Limit) (o : Origin) (n : ℕ) (h after : History) : Type 0 where
@@ -166,9 +123,7 @@ IsPassed-sixels limit o h (bits ∷ more) inside =
 -- the bytes at the front are a run
 pub IsRun-take : (n : ℕ) (bytes : List ℕ) → n ≤ length bytes
     → ((k : ℕ) → k < n → IsSixelByte (get_or bytes k 0)) → IsRun (take n bytes)
-IsRun-take n bytes le are k lt =
-    subst IsSixelByte (sym (get_or-take n bytes k 0 (omega (arith, lt, length-take n bytes))))
-    (are k (omega (arith, lt, length-take n bytes)))
+IsRun-take n bytes le are k lt = grind (arith, nat_tests, get_or-take, length-take)
 
 pub length-front : (run bytes : List ℕ) (len : ℕ) → run ≡ take len bytes → len ≤ length bytes
     → length run ≡ len
@@ -212,8 +167,7 @@ Stands-run o new h n bytes ground some le are shows =
 -- one sixel at the front
 pub fold_one : (h : History) (bytes : List ℕ) → 0 < length bytes → IsSixelByte (get_or bytes 0 0)
     → fold read h (take 1 bytes) ≡ Sixel (get_or bytes 0 0 - 63) ∷ h
-fold_one h [] some is = absurd (omega (arith, some))
-fold_one h (byte ∷ bytes) some is = read_sixel h byte is
+fold_one h bytes some is = grind (arith, nat_tests)
 
 -- a parser whose painter has drawn it
 pub Stands-one : {C : Type 0} {canvas : Ghosts C} (o : Origin) (new : PayloadParser C canvas)
@@ -221,22 +175,11 @@ pub Stands-one : {C : Type 0} {canvas : Ghosts C} (o : Origin) (new : PayloadPar
     → new.command ≡ Ground → 0 < length bytes → IsSixelByte (get_or bytes 0 0)
     → HasDrawn o new.painter new.ignored (Sixel (get_or bytes 0 0 - 63) ∷ h)
     → Stands o new (fold read h (take 1 bytes))
-Stands-one o new h bytes ground some sixel shows =
-    let after : History = Sixel (get_or bytes 0 0 - 63) ∷ h in
-    let is : IsDrawn o new after = record { ended = λ byte. refl; shows = shows } in
-    subst (λ (w : History). Stands o new w)
-    (sym (fold_one h bytes some sixel))
-    (subst (λ (p : OpenCommand). StandsIn p o new after) (sym ground) is)
+Stands-one o new h bytes ground some sixel shows = grind (arith, nat_tests, fold_one)
 
 -- why a sixel can be rejected
 pub refused_sixel : (e : SixelError) (limit : Limit) (h : History) (byte : ℕ) → IsSixelByte byte
     → Faults e true (fault limit (Sixel (byte - 63) ∷ h))
     → Faults e (nat_lt (growths (closed h)) (growths (closed (read h byte))))
     (fault limit (closed (read h byte)))
-refused_sixel e limit h byte is refused =
-    let grown : nat_lt (growths (closed h)) (growths h + 1) ≡ true =
-    lt-ltb (growths (closed h)) (growths h + 1) (omega (arith, growths-closed h)) in
-    subst (λ (w : History).
-    Faults e (nat_lt (growths (closed h)) (growths (closed w))) (fault limit (closed w)))
-    (sym (read_sixel h byte is))
-    (rw grown refused)
+refused_sixel e limit h byte is refused = grind (arith, nat_tests)

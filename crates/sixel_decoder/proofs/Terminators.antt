@@ -1,6 +1,6 @@
 -- How a payload's end goes on as more bytes come.
-use Rattle.std.proofs.Common.{◌≡◌, ℕ, ◌+◌, ◌<◌, ◌≤◌, suc, Bool, true, false, cond, List, [], ◌∷◌}
-use Rattle.std.proofs.Common.{◌++◌, refl, ap, sym, ◌∙◌, subst, arith, Some, None, length, drop}
+use Rattle.std.proofs.Common.{◌≡◌, ℕ, ◌+◌, ◌<◌, ◌≤◌, suc, true, false, cond, List, [], ◌∷◌}
+use Rattle.std.proofs.Common.{◌++◌, refl, ap, ◌∙◌, arith, Some, None, length, drop}
 use Rattle.std.proofs.Common.{drop-cons, take, get_or, add-one, append_assoc}
 use Rattle.std.specs.Prelude.{◌==◌, ◌||◌}
 use Rattle.std.proofs.Math.Seq.{take-suc}
@@ -11,16 +11,15 @@ use Rattle.sixel_base.specs.Fault.{Fault, Malformed, BadHeader}
 use Rattle.sixel_base.specs.Bytes.{is_terminator, carrying, count, first_terminator}
 use Rattle.sixel_base.specs.Bytes.{before_terminator}
 use Rattle.sixel_base.specs.Settings.{Settings}
-use Rattle.sixel_base.specs.declared.status.SixelDcsFeedStatus.TheVariants.{NeedMoreData, Complete}
-use Rattle.sixel_base.specs.declared.status.SixelDcsFeedStatus.TheVariants.{Cancelled, Interrupted}
+use Rattle.sixel_base.specs.declared.status.SixelDcsFeedStatus.TheVariants.{NeedMoreData}
 use Rattle.sixel_base.specs.Header.{Begun, Faulty, headed, headed_by, header_rest, header_text}
 use Rattle.sixel_base.specs.Header.{settings_of}
-use Rattle.sixel_base.specs.Dcs.{Introduced, Waiting, Absent, Entered, introduced, escaped, Stage}
-use Rattle.sixel_base.specs.Dcs.{Heading, Failing, Reading, stage_after, stage_by, stage}
-use Rattle.sixel_base.specs.Dcs.{after_terminator, end_status, end_count, escape_status}
-use Rattle.sixel_base.specs.Dcs.{escape_count}
+use Rattle.sixel_base.specs.Dcs.{Introduced, Waiting, Absent, Entered, introduced, Stage}
+use Rattle.sixel_base.specs.Dcs.{Failing, Reading, stage_after, stage_by, stage}
+use Rattle.sixel_base.specs.Dcs.{after_terminator, end_status, end_count}
 use Rattle.sixel_decoder.proofs.DcsHeaders.{introduced-entered, header_rest-ended}
 use Rattle.sixel_decoder.proofs.DcsHeaders.{header_front-ended}
+use Rattle.std.proofs.lemmas.Bool.Decides.{nat_tests}
 
 pub after_terminator-none : (bytes more : List ℕ) → first_terminator bytes ≡ None
     → after_terminator (bytes ++ more) ≡ after_terminator more
@@ -61,42 +60,16 @@ drop-count (byte ∷ bytes) t some =
           let r = drop-count bytes t is in (rw add-one (rw add-one at r.0), omega (arith, r.1))
     ]) some
 
-escape_waits_by : (a b c : Bool) (t : ℕ) (rest : List ℕ)
-    → cond a Complete (cond b (Cancelled t) (cond c (escape_status rest) (Interrupted t)))
-    ≡ NeedMoreData
-    → (c ≡ true) × (rest ≡ []) × (a ≡ false) × (b ≡ false)
-escape_waits_by true b c t rest waits = absurd cc
-escape_waits_by false true c t rest waits = absurd cc
-escape_waits_by false false false t rest waits = absurd cc
-escape_waits_by false false true t [] waits = (refl, refl, refl, refl)
-escape_waits_by false false true t (byte ∷ rest) waits =
-    absurd ((elim (byte == 92) as
-    (λ w. cond w Complete (Interrupted 27) ≡ NeedMoreData → ⊥)
-    [ true ↦ λ e. cc | false ↦ λ e. cc ]) waits)
-
 -- only ESC without a byte after it leaves a string open
 pub escape_waits : (t : ℕ) (rest : List ℕ) → end_status t rest ≡ NeedMoreData
     → ((t == 27) ≡ true) × (rest ≡ []) × ((t == 0x9c) ≡ false) × ((t == 0x18 || t == 0x1a) ≡ false)
-escape_waits t rest waits =
-    escape_waits_by (t == 0x9c) (t == 0x18 || t == 0x1a) (t == 27) t rest waits
-
-end_stays_by : (a b c : Bool) (t : ℕ) (more : List ℕ)
-    → (cond a Complete (cond b (Cancelled t) (cond c NeedMoreData (Interrupted t))) ≡ NeedMoreData
-    → ⊥)
-    → (cond a Complete (cond b (Cancelled t) (cond c (escape_status more) (Interrupted t)))
-    ≡ cond a Complete (cond b (Cancelled t) (cond c NeedMoreData (Interrupted t))))
-    × (cond (a || b) 1 (cond c (escape_count more) 0) ≡ cond (a || b) 1 (cond c 1 0))
-end_stays_by true b c t more ended = (refl, refl)
-end_stays_by false true c t more ended = (refl, refl)
-end_stays_by false false true t more ended = absurd (ended refl)
-end_stays_by false false false t more ended = (refl, refl)
+escape_waits t rest waits = grind (arith, nat_tests)
 
 -- a string that has ended stays so
 pub end_stays : (t : ℕ) (rest more : List ℕ) → (end_status t rest ≡ NeedMoreData → ⊥)
     → (end_status t (rest ++ more) ≡ end_status t rest)
     × (end_count t (rest ++ more) ≡ end_count t rest)
-end_stays t [] more ended = end_stays_by (t == 0x9c) (t == 0x18 || t == 0x1a) (t == 27) t more ended
-end_stays t (byte ∷ rest) more ended = (refl, refl)
+end_stays t rest more ended = grind (arith, nat_tests)
 
 -- ---- a payload goes on
 
@@ -129,51 +102,18 @@ staged_reading rest more (byte ∷ tail) s payload ended is =
 stage_reading_by : (bytes more : List ℕ) (i : Introduced) (s : Settings) (payload : List ℕ)
     → introduced bytes ≡ i → stage_by i ≡ Reading s payload
     → stage (bytes ++ more) ≡ Reading s (payload ++ more)
-stage_reading_by bytes more Waiting s payload e is = absurd cc
-stage_reading_by bytes more Absent s payload e is = absurd cc
-stage_reading_by bytes more (Entered rest) s payload e is =
-    ap stage_by (introduced-entered bytes rest more e)
-    ∙ staged_reading rest more (header_rest rest) s payload refl is
+stage_reading_by bytes more i s payload e is = grind (arith, introduced-entered, staged_reading)
 
 -- the bytes after a payload's are its own
 pub stage_reading : (bytes more : List ℕ) (s : Settings) (payload : List ℕ)
     → stage bytes ≡ Reading s payload → stage (bytes ++ more) ≡ Reading s (payload ++ more)
-stage_reading bytes more s payload is =
-    stage_reading_by bytes more (introduced bytes) s payload refl is
+stage_reading bytes more s payload is = grind (arith, stage_reading_by)
 
 -- ---- what is rejected before a payload stays rejected
 
 introduced-absent : (bytes more : List ℕ) → introduced bytes ≡ Absent
     → introduced (bytes ++ more) ≡ Absent
-introduced-absent [] more is = absurd cc
-introduced-absent (byte ∷ []) more is =
-    (elim (byte == 0x90) as
-    (λ t.
-    cond t (Entered []) (cond (byte == 27) Waiting Absent) ≡ Absent
-    → cond t (Entered more) (cond (byte == 27) (escaped more) Absent) ≡ Absent) [
-      | true ↦ λ e. absurd cc
-      | false ↦ elim (byte == 27) as
-          (λ t. cond t Waiting Absent ≡ Absent → cond t (escaped more) Absent ≡ Absent)
-          [ true ↦ λ e. absurd cc | false ↦ λ e. refl ]
-    ]) is
-introduced-absent (byte ∷ next ∷ bytes) more is =
-    (elim (byte == 0x90) as (λ t. cond t (Entered (next ∷ bytes))
-    (cond (byte == 27) (escaped (next ∷ bytes)) Absent) ≡ Absent
-    → cond t (Entered (next ∷ (bytes ++ more)))
-    (cond (byte == 27) (escaped (next ∷ (bytes ++ more))) Absent) ≡ Absent) [
-      | true ↦ λ e. absurd cc
-      | false ↦ elim (byte == 27) as
-          (λ t.
-          cond t (escaped (next ∷ bytes)) Absent ≡ Absent
-          → cond t (escaped (next ∷ (bytes ++ more))) Absent ≡ Absent) [
-            | true ↦ elim (next == 80) as
-                (λ t.
-                cond t (Entered bytes) Absent ≡ Absent
-                → cond t (Entered (bytes ++ more)) Absent ≡ Absent)
-                [ true ↦ λ e. absurd cc | false ↦ λ e. refl ]
-            | false ↦ λ e. refl
-          ]
-    ]) is
+introduced-absent bytes more is = grind (arith, nat_tests)
 
 failing_after : (rest more h : List ℕ) (f : Fault) → header_rest rest ≡ h
     → stage_after rest (headed_by h) ≡ Failing f
@@ -207,10 +147,7 @@ failing_stays bytes more f is = failing_by bytes more (introduced bytes) f refl 
 
 refused_by : (e : SixelError) (was now : Stage) → ((f : Fault) → was ≡ Failing f → now ≡ Failing f)
     → IsStageFault e was → IsStageFault e now
-refused_by e Heading now stays refused = absurd refused
-refused_by e (Failing f) now stays refused =
-    subst (λ (w : Stage). IsStageFault e w) (sym (stays f refl)) refused
-refused_by e (Reading s payload) now stays refused = absurd refused
+refused_by e was now stays refused = grind (arith, nat_tests)
 
 pub refused_stays : (e : SixelError) (bytes more : List ℕ) → IsStageFault e (stage bytes)
     → IsStageFault e (stage (bytes ++ more))
@@ -222,17 +159,9 @@ pub pieces_join : (before piece : List ℕ) (index : ℕ) → index < length pie
     → ((before ++ take index piece) ++ (get_or piece index 0 ∷ [])) ++ drop (index + 1) piece
     ≡ before ++ piece
 pieces_join before piece index within =
-    let byte : List ℕ = get_or piece index 0 ∷ [] in
-    let splits : drop index piece ≡ byte ++ drop (index + 1) piece =
-    rw (add-one, drop-cons piece index 0) refl in
-    append_assoc (before ++ take index piece) byte (drop (index + 1) piece)
-    ∙ (ap (λ w. (before ++ take index piece) ++ w) (sym splits)
-    ∙ (append_assoc before (take index piece) (drop index piece)
-    ∙ ap (λ w. before ++ w) (take-append-drop index piece)))
+    grind (arith, nat_tests, add-one, drop-cons, append_assoc, take-append-drop)
 
 -- the bytes before a chunk, a beginning of the chunk and the next byte
 pub pieces_step : (before piece : List ℕ) (index : ℕ) → index < length piece
     → (before ++ take index piece) ++ (get_or piece index 0 ∷ []) ≡ before ++ take (index + 1) piece
-pieces_step before piece index within =
-    append_assoc before (take index piece) (get_or piece index 0 ∷ [])
-    ∙ ap (λ (w : List ℕ). before ++ w) (rw (add-one, take-suc piece index 0 within) refl)
+pieces_step before piece index within = grind (arith, nat_tests, append_assoc, add-one, take-suc)

@@ -1,4 +1,5 @@
 pub mod DcsCalls
+pub mod FedImages
 pub mod FinalRows
 pub mod FinishedImages
 pub mod ImageEnds

@@ -17,7 +17,7 @@ use sixel_canvas::drawing::Canvas;
 
 /// Returns the result of a command, whose fault may be ignored and is counted then.
 #[inline(always)]
-fn tolerate(lenient: bool, outcome: Result<()>, ignored: &mut u64) -> Result<()>
+pub fn tolerate(lenient: bool, outcome: Result<()>, ignored: &mut u64) -> Result<()>
     ensures result { result ≡ tolerated_result lenient outcome }
     ensures count { ignored.new ≡ tolerated_count lenient outcome ignored.old }
 {
@@ -35,47 +35,6 @@ fn tolerate(lenient: bool, outcome: Result<()>, ignored: &mut u64) -> Result<()>
 }
 
 impl<C: Canvas + Drop> Painter<C> {
-    /// Closes a repeat introducer.
-    #[inline(always)]
-    pub fn close_repeat(&mut self, parameters: &Parameters, ignored: &mut u64) -> Result<()>
-        ensures tolerates { (o : Origin) (h : History) (text : List ℕ) → Keeps parameters.now text
-            → HasDrawn o self.old ignored.old h
-            → Tolerates result o self.new ignored.new (Repeat text ∷ h) }
-        ensures released { OnOk result
-            (C.released self.new.canvas ≡ C.released self.old.canvas) }
-    {
-        let lenient = self.pixel_limit.lenient();
-        let outcome = self.set_repeat(parameters);
-        tolerate(lenient, outcome, ignored)
-    }
-
-    /// Closes raster attributes.
-    #[inline(always)]
-    pub fn close_raster(&mut self, parameters: &Parameters, ignored: &mut u64) -> Result<()>
-        ensures tolerates { (o : Origin) (h : History) (text : List ℕ) → Keeps parameters.now text
-            → HasDrawn o self.old ignored.old h
-            → Tolerates result o self.new ignored.new (Raster text ∷ h) }
-        ensures released { OnOk result
-            (C.released self.new.canvas ≡ C.released self.old.canvas) }
-    {
-        let lenient = self.pixel_limit.lenient();
-        let outcome = self.set_raster(parameters);
-        tolerate(lenient, outcome, ignored)
-    }
-
-    /// Moves to the next band.
-    #[inline(always)]
-    pub fn move_down(&mut self, ignored: &mut u64) -> Result<()>
-        ensures tolerates { (o : Origin) (h : History) → HasDrawn o self.old ignored.old h
-            → Tolerates result o self.new ignored.new (Newline ∷ h) }
-        ensures released { OnOk result
-            (C.released self.new.canvas ≡ C.released self.old.canvas) }
-    {
-        let lenient = self.pixel_limit.lenient();
-        let outcome = self.new_line();
-        tolerate(lenient, outcome, ignored)
-    }
-
     /// Draws or ignores sixels at the front of the bytes, one at least, and returns how many.
     #[inline(always)]
     pub fn draw_sixels(&mut self, bytes: &[u8], ignored: &mut u64) -> Result<usize>

@@ -20,9 +20,11 @@ mod painter;
 mod payload_parser;
 mod payload_reader;
 mod raster;
+mod received;
 
 pub use dcs_reader::DcsReader;
 pub use decoded_payload::DecodedPayload;
 pub use image_end::{SequenceEnd, payload_end};
 pub use one_shot::{decode_found, decode_payload};
 pub use payload_reader::PayloadReader;
+pub use received::{Received, Status};

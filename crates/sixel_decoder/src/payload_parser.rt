@@ -20,6 +20,7 @@ ghost use Rattle.sixel_decoder.specs.declared.payload_parser.OpenCommand.TheVari
 
 use crate::bytes::{is_ignored, is_numbered, is_parameter, is_sixel, is_terminator, tail};
 use crate::decoded_payload::DecodedPayload;
+use crate::lenience::tolerate;
 use crate::painter::Painter;
 use sixel_base::Result;
 use sixel_base::parameters::{Digits, KEPT_FIELDS, Parameters};
@@ -264,12 +265,16 @@ impl<C: Canvas + Drop> PayloadParser<C> {
         self.command = OpenCommand::Ground;
         match command {
             OpenCommand::Ground => Ok(()),
-            OpenCommand::InRepeat => self
-                .painter
-                .close_repeat(&self.parameters, &mut self.ignored),
-            OpenCommand::InRaster => self
-                .painter
-                .close_raster(&self.parameters, &mut self.ignored),
+            OpenCommand::InRepeat => {
+                let lenient = self.painter.pixel_limit.lenient();
+                let outcome = self.painter.set_repeat(&self.parameters);
+                tolerate(lenient, outcome, &mut self.ignored)
+            }
+            OpenCommand::InRaster => {
+                let lenient = self.painter.pixel_limit.lenient();
+                let outcome = self.painter.set_raster(&self.parameters);
+                tolerate(lenient, outcome, &mut self.ignored)
+            }
             OpenCommand::InColor => {
                 self.painter.select(&self.parameters);
                 Ok(())
@@ -335,7 +340,11 @@ impl<C: Canvas + Drop> PayloadParser<C> {
                 self.painter.carriage_return();
                 Ok(())
             }
-            b'-' => self.painter.move_down(&mut self.ignored),
+            b'-' => {
+                let lenient = self.painter.pixel_limit.lenient();
+                let outcome = self.painter.new_line();
+                tolerate(lenient, outcome, &mut self.ignored)
+            }
             _ => Ok(()),
         }
     }

@@ -1,6 +1,8 @@
 //! A terminal that stores its receiver in a struct.
 
-use icy_sixel::{DcsSettings, Result, SixelFeedStatus, SixelImage, SixelReceiver, Status};
+use icy_sixel::{
+    DcsSettings, Result, SixelDecoder, SixelFeedStatus, SixelImage, SixelReceiver, Status,
+};
 use std::alloc::Global;
 
 /// The images of a terminal.
@@ -23,11 +25,12 @@ impl Images {
     ///
     /// The background is that of an opaque image.
     pub fn new(background: [u8; 3], width: usize, height: usize) -> Self {
-        let mut receiver = SixelReceiver::new();
-        receiver.set_register(0, background);
-        receiver.set_pixel_limit(width.saturating_mul(height));
-        receiver.set_clip(width, usize::MAX);
-        receiver.set_raster_crop(true);
+        let mut decoder = SixelDecoder::new();
+        decoder.set_register(0, background);
+        decoder.set_pixel_limit(width.saturating_mul(height));
+        decoder.set_clip(width, usize::MAX);
+        decoder.set_raster_crop(true);
+        let receiver = SixelReceiver::with_decoder(decoder);
         Self { receiver }
     }
 

@@ -5,7 +5,7 @@
 ghost use Rattle.std.specs.Prelude.{◌≡◌, ◌*◌, true, false, OnErr, IfOk, length};
 ghost use Rattle.sixel_base.specs.Dcs.{dcs_in_payload};
 ghost use Rattle.sixel_base.specs.Decoder.{IsSetAs};
-ghost use Rattle.sixel_decoder.specs.DcsCalls.{begun, IsFed};
+ghost use Rattle.sixel_decoder.specs.DcsCalls.{IsFed};
 ghost use Rattle.sixel_decoder.specs.FinishedImages.{IsFinished};
 ghost use Rattle.sixel_decoder.specs.Progress.{IsDrawnHeight, IsPaintCount, IsSizeSoFar};
 ghost use Rattle.sixel_decoder.specs.Progress.{IsWriteCount};
@@ -17,15 +17,14 @@ use crate::sixel_image::SixelImage;
 use sixel_base::{Result, SixelError};
 use sixel_canvas::row_canvas::RowCanvas;
 use sixel_decoder::DcsReader;
-use std::alloc::Global;
 
 /// A DCS sequence that is decoded in chunks.
 ///
 /// The session borrows its decoder until it is finished, aborted or dropped. Only a successful
 /// [`finish`](Self::finish) changes the decoder's registers.
 pub struct SixelDcsStreamDecoder<'a, P = DcsReader<RowCanvas>> {
-    owner: &'a mut SixelDecoder,
-    reader: P,
+    pub(super) owner: &'a mut SixelDecoder,
+    pub(super) reader: P,
 }
 
 impl<'a, P: Drop> Drop for SixelDcsStreamDecoder<'a, P> {
@@ -43,19 +42,6 @@ impl<'a, P: Drop> Drop for SixelDcsStreamDecoder<'a, P> {
 
 impl<'a> SixelDcsStreamDecoder<'a> {
     ghost use Rattle.icy_sixel.specs.Sessions.{sequence, sequence_owner};
-
-    /// Creates a session that was fed nothing.
-    pub(crate) fn begin(alloc: Global, owner: &'a mut SixelDecoder) -> Self
-        ensures owner { (sequence_owner result).ghost_name ≡ owner.entry.ghost_name }
-        ensures registers { (sequence_owner result).now ≡ owner.old }
-        ensures session { sequence result ≡ begun owner.old }
-    {
-        let state = owner.state;
-        SixelDcsStreamDecoder {
-            owner,
-            reader: DcsReader::new(alloc, state),
-        }
-    }
 
     /// Reads a chunk up to the end of the DCS sequence, and consumes no byte after it.
     ///

@@ -3,10 +3,10 @@
 //! The contracts of its calls are the records of `PayloadCalls` in `sixel_decoder`.
 
 ghost use Rattle.std.specs.Prelude.{◌≡◌, ◌<◌, ◌+◌, ◌*◌, ◌≤◌, OnErr, IfOk, length};
-ghost use Rattle.sixel_base.specs.Decoder.{IsSetAs, origin_of};
+ghost use Rattle.sixel_base.specs.Decoder.{IsSetAs};
 ghost use Rattle.sixel_base.specs.Payload.{payload_area};
 ghost use Rattle.sixel_decoder.specs.FinishedImages.{IsFinished};
-ghost use Rattle.sixel_decoder.specs.PayloadCalls.{begun, IsFed};
+ghost use Rattle.sixel_decoder.specs.PayloadCalls.{IsFed};
 ghost use Rattle.sixel_decoder.specs.Progress.{IsDrawnHeight, IsPaintCount, IsSizeSoFar};
 ghost use Rattle.sixel_decoder.specs.Progress.{IsWriteCount};
 ghost use Rattle.sixel_decoder.specs.Reception.{of_payload};
@@ -17,15 +17,14 @@ use crate::sixel_image::SixelImage;
 use sixel_base::{Result, SixelError};
 use sixel_canvas::row_canvas::RowCanvas;
 use sixel_decoder::PayloadReader;
-use std::alloc::Global;
 
 /// A payload that is decoded in chunks.
 ///
 /// The session borrows its decoder until it is finished, aborted or dropped. Only a successful
 /// [`finish`](Self::finish) changes the decoder's registers.
 pub struct SixelStreamDecoder<'a, F = PayloadReader<RowCanvas>> {
-    owner: &'a mut SixelDecoder,
-    reader: F,
+    pub(super) owner: &'a mut SixelDecoder,
+    pub(super) reader: F,
 }
 
 impl<'a, F: Drop> Drop for SixelStreamDecoder<'a, F> {
@@ -43,19 +42,6 @@ impl<'a, F: Drop> Drop for SixelStreamDecoder<'a, F> {
 
 impl<'a> SixelStreamDecoder<'a> {
     ghost use Rattle.icy_sixel.specs.Sessions.{payload, payload_owner};
-
-    /// Creates a session that was fed nothing.
-    pub(crate) fn begin(alloc: Global, owner: &'a mut SixelDecoder, settings: DcsSettings) -> Self
-        ensures owner { (payload_owner result).ghost_name ≡ owner.entry.ghost_name }
-        ensures registers { (payload_owner result).now ≡ owner.old }
-        ensures session { payload result ≡ begun (origin_of owner.old settings) }
-    {
-        let state = owner.state;
-        SixelStreamDecoder {
-            owner,
-            reader: PayloadReader::new(alloc, state, settings),
-        }
-    }
 
     /// Reads a chunk up to its first terminator, which it does not consume.
     ///

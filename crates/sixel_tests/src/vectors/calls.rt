@@ -124,20 +124,24 @@ fn make(alloc: Global, found: &mut String, receiver: &mut SixelReceiver, call: &
 /// Makes a call that changes a setting or a register.
 fn set(receiver: &mut SixelReceiver, word: &str, argument: &str) -> Result<()> {
     match word {
-        "reset" => receiver.reset_palette(),
-        "crop" => receiver.set_raster_crop(argument == "on"),
+        "reset" => receiver.decoder_mut().reset_palette(),
+        "crop" => receiver.decoder_mut().set_raster_crop(argument == "on"),
         "lenient" => receiver.set_lenient(argument == "on"),
         "transparent" => receiver.set_transparent(argument == "on"),
-        "limit" => receiver.set_pixel_limit(argument.parse::<usize>()?),
+        "limit" => receiver
+            .decoder_mut()
+            .set_pixel_limit(argument.parse::<usize>()?),
         "clip" => {
             let (width, height) = clip(argument)?;
-            receiver.set_clip(width, height);
+            receiver.decoder_mut().set_clip(width, height);
         }
         "set" => {
             let (register, value) = argument
                 .split_once(' ')
                 .ok_or(VectorError::Check("no color"))?;
-            receiver.set_register(register.parse::<u8>()?, color(value)?);
+            receiver
+                .decoder_mut()
+                .set_register(register.parse::<u8>()?, color(value)?);
         }
         _ => return Err(VectorError::Check("no call")),
     }
@@ -156,8 +160,7 @@ fn push_tried(found: &mut String, receiver: &mut SixelReceiver, bytes: &[u8]) ->
 /// Writes the color of a register.
 fn push_register(found: &mut String, receiver: &SixelReceiver, register: &str) -> Result<()> {
     let register = register.parse::<u8>()?;
-    let color = receiver.register(register);
-    ensure(receiver.decoder().register(register) == color, "decoder")?;
+    let color = receiver.decoder().register(register);
     found.push('\t')?;
     push_hexadecimal(found, &color)
 }

@@ -29,23 +29,10 @@ witnesses-le Member max_colors base entries witnesses h =
 
 -- a number of colors without a fault is at most 256
 count-le : (most : ℕ) → ¬ (color_count_fault most ≡ Some ColorCount) → most ≤ 256
-count-le most none =
-    ⊎_elim (λ (more : 256 < most).
-    let e : color_count_fault most ≡ Some ColorCount = grind (arith, nat_tests, more) in
-    absurd (none e))
-    (λ (l : most ≤ 256). l) (cases_lt 256 most)
+count-le most none = grind (arith, nat_tests)
 
 pub write_refined-requires-clause-colors : goal.write_refined-requires-clause-colors
-write_refined-requires-clause-colors c =
-    let whole = c.buffers_code-code.ensures.whole c.if-code.false in
-    omega (
-      arith,
-      c.in-Ok.ensures.refined.few,
-      count-le c.args.max_colors (λ e. c.in-Ok.ensures.colors whole e),
-      c.buffers_code-code.ensures.colors c.if-code.false,
-      c.min.ensures,
-      c.from.ensures,
-    )
+write_refined-requires-clause-colors c = grind (arith, nat_tests)
 
 pub write_refined-requires-clause-witnesses : goal.write_refined-requires-clause-witnesses
 write_refined-requires-clause-witnesses c =

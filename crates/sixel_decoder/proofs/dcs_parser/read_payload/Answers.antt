@@ -1,9 +1,10 @@
-use Rattle.std.proofs.Common.{◌≡◌, ◌+◌, ◌++◌, List, ℕ, Some, sym, ap, ◌∙◌}
+use Rattle.std.proofs.Common.{◌≡◌, ◌+◌, ◌++◌, List, ℕ, Some, refl, sym, ap, ◌∙◌}
 use Rattle.std.specs.Prelude.{nat_lt}
 use Rattle.std.proofs.lemmas.Result.{err_from_is_err_and}
 use Rattle.sixel_base.specs.Bytes.{count, first_terminator}
 use Rattle.sixel_base.specs.Fault.{Faults}
 use Rattle.sixel_base.specs.Payload.{fed_fault, settled, growths}
+use Rattle.sixel_base.specs.Status.{status_of}
 use Rattle.sixel_decoder.proofs.DcsEnds.{ended_at, terminated_by}
 use Rattle.sixel_decoder.proofs.DcsChunks.{payload_follows, payload_refuses}
 use Rattle.sixel_decoder.proofs.Feeds.{open_follows}
@@ -17,7 +18,7 @@ returns-in_err-fed-clause-follows g c = λ decoder before is.
     let refused : Faults e
     (nat_lt (growths (settled payload)) (growths (settled (payload ++ piece))))
     (fed_fault c.args.reader.now.origin.pixel_limit (payload ++ piece)) =
-    rw (is.accepted, c.in_err-fed.ensures.bytes) at c.in_err-fed.ensures.error in
+    rw (is.accepted, c.in_err-fed.ensures.fed.bytes refl) at c.in_err-fed.ensures.fed.error in
     let p = err_from_is_err_and c.from_residual.result c.from_residual.ensures.1 in
     rw (p.1, p.2)
     (payload_refuses e c.args.reader.now decoder c.args.ended.now before piece is refused)
@@ -32,15 +33,18 @@ returns-in-Terminated-clause-follows g c = λ decoder before is.
     let payload : List ℕ = c.args.reader.now.bytes in
     let piece : List ℕ = c.args.chunk.now in
     let now = c.in_ok-fed.ensures in
+    let bytes = now.fed.bytes refl in
+    let told = now.fed.status in
+    let stands : c.in_ok-fed.fed.status ≡ status_of (first_terminator c.feed.new.self.bytes) = cc in
     let t = c.in-Terminated.terminator in
     let some : first_terminator (payload ++ piece) ≡ Some t =
-    ap first_terminator (sym now.bytes)
+    ap first_terminator (sym bytes)
     ∙ terminated_by (first_terminator c.feed.new.self.bytes) t
-    (sym c.in-Terminated.is ∙ now.status) in
+    (sym c.in-Terminated.is ∙ stands) in
     let counted : count payload + c.in_ok-fed.fed.consumed ≡ count (payload ++ piece) =
-    now.consumed ∙ ap count now.bytes in
+    now.fed.consumed ∙ ap count bytes in
     let goes = c.end_now-end.ensures.ends payload is.ending some counted in
     payload_follows g.row.C.Denot c.args.reader.now c.feed.new.self decoder c.args.ended.now
     (Some c.end_now-end.result.status) before piece _ _ is
-    now.origin now.bytes now.ok.1 now.faultless goes
+    now.origin bytes now.fed.ok.1 now.fed.faultless goes
     (ap Some goes.1 ∙ sym (ended_at (payload ++ piece) t some))

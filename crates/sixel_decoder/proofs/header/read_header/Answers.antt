@@ -4,6 +4,8 @@ use Rattle.sixel_base.specs.Header.{is_header, settings_of}
 use Rattle.sixel_base.specs.inside.Parameters.{Keeps}
 use Rattle.sixel_decoder.proofs.HeaderReads.{reads_on, begins_at, text_at, refused_at, open_at}
 use Rattle.sixel_decoder.proofs.header.read_header.Goals as goal
+use Rattle.std.proofs.Common.{arith}
+use Rattle.std.proofs.lemmas.Bool.Decides.{nat_tests}
 
 pub header-init : goal.header-init
 header-init c = record { read = []; keeps = c.new-header.ensures; ahead = refl; rest = refl }
@@ -23,9 +25,7 @@ ended : (c : goal.In-Ok-Some)
     → (is_header (get_or c.args.bytes.now c.header.index 0) ≡ false)
     × (get_or c.args.bytes.now c.header.index 0 ≡ 113)
     × (c.in-Ok-Some.settings ≡ settings_of c.header.invariant.read)
-ended c =
-    rw c.in-Ok-Some.field-0-is at
-    (c.in-Ok-Some.ensures c.header.invariant.read c.header.invariant.keeps)
+ended c = grind (arith, nat_tests)
 
 pub returns-in-Ok-Some-clause-payload : goal.returns-in-Ok-Some-clause-payload
 returns-in-Ok-Some-clause-payload c =

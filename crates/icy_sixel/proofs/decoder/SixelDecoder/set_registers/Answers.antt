@@ -1,4 +1,4 @@
-use Rattle.std.proofs.Common.{◌≡◌, ◌+◌, ◌<◌, ◌≤◌, drop, length, ap, sym, ◌∙◌, ◌⊎◌, inl, inr, arith}
+use Rattle.std.proofs.Common.{◌≡◌, ◌+◌, ◌≤◌, length, ap, sym, ◌∙◌, ◌⊎◌, inl, inr, arith}
 use Rattle.std.proofs.lemmas.Bool.{cases_lt}
 use Rattle.sixel_base.specs.declared.state.DecoderState.{DecoderState}
 use Rattle.icy_sixel.proofs.RegisterRange.{with_colors-done, with_colors-next}
@@ -7,23 +7,15 @@ use Rattle.icy_sixel.proofs.decoder.SixelDecoder.set_registers.Goals as goal
 
 pub loop-place-preserved : goal.loop-place-preserved
 loop-place-preserved c =
-    let place = c.loop-place.place in
-    let first = c.args.first in
-    let colors = c.args.colors.now in
-    let registers = c.loop-place.self-inside.state.registers in
-    let inside : place < length colors = grind arith in
-    let there : c.from-start.result + place ≡ first + place = grind arith in
-    record {
-      registers = λ _. c.set.ensures.size;
-      colored =
-          ap (λ changed. with_colors changed (first + (place + 1)) (drop (place + 1) colors))
-          c.set.ensures.defined
-          ∙ sym (with_colors-next registers first place (c.from-start.result + place) colors there
-          inside)
-          ∙ c.loop-place.invariant.colored;
-      crop = c.loop-place.invariant.crop;
-      limit = c.loop-place.invariant.limit;
-    }
+    grind (
+      arith,
+      c.set.ensures.size,
+      c.set.ensures.defined,
+      with_colors-next,
+      c.loop-place.invariant.colored,
+      c.loop-place.invariant.crop,
+      c.loop-place.invariant.limit,
+    )
 
 pub returns : goal.returns
 returns c =

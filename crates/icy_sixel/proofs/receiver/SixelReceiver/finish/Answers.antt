@@ -1,5 +1,4 @@
-use Rattle.std.proofs.Common.{◌≡◌, ◌∙◌, Ok, ap, min, refl, rules, subst, sym}
-use Rattle.sixel_base.specs.Payload.{Image}
+use Rattle.std.proofs.Common.{◌≡◌, ◌∙◌, Ok, ap, refl, rules, subst, sym}
 use Rattle.sixel_decoder.specs.FinishedImages.{IsTaken, shown_whole}
 use Rattle.sixel_decoder.proofs.FinishedImages.{finished_as}
 use Rattle.icy_sixel.specs.FinalRows.{pixel_so_far}
@@ -10,6 +9,8 @@ use Rattle.icy_sixel.specs.declared.receiver.SixelReceiver.TheInside.{Inside}
 use Rattle.icy_sixel.proofs.receiver.SixelReceiver.finish.Goals as goal
 use Rattle.icy_sixel.proofs.receiver.SixelReceiver.finish.Goals.{in-Nothing, in-Payload}
 use Rattle.icy_sixel.proofs.receiver.SixelReceiver.finish.Goals.{in-ControlString}
+use Rattle.std.proofs.Common.{arith}
+use Rattle.std.proofs.lemmas.Bool.Decides.{nat_tests}
 
 -- the picture is that of the image that was open
 is_taken : (c : goal.After-from_picture)
@@ -36,11 +37,7 @@ is_taken c =
     subst (IsTaken image) was taken
 
 pub returns-clause-first : goal.returns-clause-first
-returns-clause-first c =
-    let image : Reception = c.args.self.now.image in
-    let done = c.from_picture.ensures in
-    let shown = done.image (pixel_so_far image.start image.form image.bytes) in
-    done.first ∙ (is_taken c).first ∙ ap (λ (i : Image). min image.released i.height) (sym shown)
+returns-clause-first c = grind (arith, nat_tests)
 
 pub returns-clause-report : goal.returns-clause-report
 returns-clause-report c = c.from_picture.ensures.report ∙ (is_taken c).report

@@ -1,22 +1,38 @@
-use Rattle.std.proofs.Common.{◌∷◌, [], rules}
-use Rattle.std.specs.Prelude.{IsTrue}
-use Rattle.icy_sixel.specs.ReceiverCalls.{IsCounted}
-use Rattle.icy_sixel.specs.inside.Receiving.{reception_of}
+use Rattle.std.proofs.Common.{◌∷◌, [], Bool, Ok, refl}
+use Rattle.std.specs.Bool.{then_some}
+use Rattle.std.specs.Prelude.{IfSome, IsTrue}
+use Rattle.sixel_decoder.specs.declared.received.Received.{Received}
+use Rattle.icy_sixel.specs.ReceiverCalls.{IsFed}
+use Rattle.icy_sixel.specs.inside.Receiving.{receiver_of}
 use Rattle.icy_sixel.proofs.Chunks.{payload_fed_counted, string_fed_counted}
 use Rattle.icy_sixel.proofs.receiver.SixelReceiver.try_byte.Goals as goal
 use Rattle.icy_sixel.proofs.receiver.SixelReceiver.try_byte.Goals.{in-Payload, in-ControlString}
+use Rattle.std.proofs.Common.{arith}
+use Rattle.std.proofs.lemmas.Bool.Decides.{nat_tests}
 
--- the byte belongs to the image
-counted : (c : goal.After-then_some) → IsTrue c.match-self.is_read.0
-    → IsCounted c.args.self.now.image (reception_of c.match-self.self-inside.open)
-    (c.args.byte ∷ []) (record { consumed = 1; status = c.match-self.is_read.1 })
-counted c = elim c.match-self.branch [
-  | in-Payload w ↦ rw (← c.self.view_is, w.in-Payload.is, w.self-inside-is, w.is_read-is)
-      (λ is. payload_fed_counted _ _ (c.args.byte ∷ []) _ (w.try_byte.ensures.fed is))
+-- the byte was read
+fed : (c : goal.After-then_some) → IsTrue c.match-self.is_read.0
+    → IsFed c.args.self.now (receiver_of c.match-self.self-inside) (c.args.byte ∷ [])
+    (Ok (record { consumed = 1; status = c.match-self.is_read.1 }))
+fed c = elim c.match-self.branch [
+  | in-Payload w ↦ rw (← c.self.view_is, w.in-Payload.is, w.self-inside-is, w.is_read-is) (λ is.
+      let now = w.try_byte.ensures.fed is in record {
+        decoder = refl;
+        fed = now.fed;
+        counted = payload_fed_counted _ _ (c.args.byte ∷ []) _ now;
+      })
   | in-ControlString w ↦
       rw (← c.self.view_is, w.in-ControlString.is, w.self-inside-is, w.is_read-is) (λ is.
-      string_fed_counted _ _ (c.args.byte ∷ []) _ (w.try_byte-in-ControlString.ensures.fed is))
+      let now = w.try_byte-in-ControlString.ensures.fed is in record {
+        decoder = refl;
+        fed = now;
+        counted = string_fed_counted _ _ (c.args.byte ∷ []) _ now;
+      })
 ]
 
+of_test : (test : Bool) (received : Received) (P : Received → Type 0)
+    → (IsTrue test → P received) → IfSome (then_some test received) P
+of_test test received P is = grind (arith, nat_tests)
+
 pub returns-clause-fed : goal.returns-clause-fed
-returns-clause-fed c = search (rules, counted c)
+returns-clause-fed c = rw c.then_some.ensures (of_test _ _ _ (fed c))

@@ -11,6 +11,4 @@ returns-then-chunk-index-eq45-clause-band c =
     c.bytes.invariant is)
 
 pub returns-clause-band : goal.returns-clause-band
-returns-clause-band c =
-    band_whole c.args.chunk.now
-    (λ k less is. c.bytes.invariant k (omega (arith, less, c.bytes-test.false)) is)
+returns-clause-band c = grind (arith, nat_tests, band_whole, c.bytes.invariant, c.bytes-test.false)

@@ -1,4 +1,4 @@
-use Rattle.std.proofs.Common.{◌≡◌, List, ℕ, sym, subst, refl}
+use Rattle.std.proofs.Common.{◌≡◌, List, ℕ, sym, refl}
 use Rattle.std.specs.Prelude.{All, IfErr, IfOk, MatchOption, OnOk, Result, Err, string_bytes, ◌<◌}
 use Rattle.sixel_base.specs.declared.error.SixelError.{SixelError}
 use Rattle.sixel_base.specs.declared.error.SixelError.TheVariants.{OutOfMemory}
@@ -8,8 +8,10 @@ use Rattle.sixel_encoder.specs.declared.form.TextForm.TheVariants.{Compact}
 use Rattle.sixel_encoder.specs.Encoding.{image_fault}
 use Rattle.icy_sixel.specs.ImageView.{image_value}
 use Rattle.sixel_encoder.proofs.EncodedText.{hidden-written, one_string-written}
-use Rattle.sixel_encoder.proofs.EncodedText.{read_back-written, readable-written, short-written}
+use Rattle.sixel_encoder.proofs.EncodedText.{read_back-written, short-written}
 use Rattle.icy_sixel.proofs.sixel_image.SixelImage.encode_compact.Goals as goal
+use Rattle.std.proofs.Common.{arith}
+use Rattle.std.proofs.lemmas.Bool.Decides.{nat_tests}
 
 -- what is ensured of a compact output
 record Encoded {S : Type 0} (bytes : S → List ℕ) (result : Result S SixelError) (k : ℕ)
@@ -23,11 +25,7 @@ record Encoded {S : Type 0} (bytes : S → List ℕ) (result : Result S SixelErr
 told : (c : goal.After-encode_source)
     → Encoded string_bytes c.encode_source.result c.args.options.now.max_colors
     (image_value c.args.self.now)
-told c =
-    let ensured = c.encode_source.ensures in
-    subst (Encoded string_bytes c.encode_source.result c.args.options.now.max_colors)
-    c.source.ensures
-    (record { refused = ensured.refused; text = ensured.text; bytes_of = ensured.bytes })
+told c = grind (arith, nat_tests)
 
 pub returns-clause-refused : goal.returns-clause-refused
 returns-clause-refused c = (told c).refused
@@ -58,8 +56,7 @@ returns-clause-one_string c = λ limit room.
     (told c).refused (told c).bytes_of (told c).text room
 
 pub returns-clause-readable : goal.returns-clause-readable
-returns-clause-readable c =
-    readable-written c.encode_source.result (image_value c.args.self.now) (told c).refused
+returns-clause-readable c = grind (arith, nat_tests)
 
 pub returns-clause-read_back : goal.returns-clause-read_back
 returns-clause-read_back c = λ decoder reads.

@@ -1,4 +1,4 @@
-use Rattle.std.proofs.Common.{◌≡◌, List, ℕ, sym, subst}
+use Rattle.std.proofs.Common.{◌≡◌, List, ℕ, sym}
 use Rattle.std.specs.Prelude.{All, IfErr, IfOk, MatchOption, OnOk, Result, Err, string_bytes, ◌<◌}
 use Rattle.sixel_base.specs.declared.error.SixelError.{SixelError}
 use Rattle.sixel_base.specs.declared.error.SixelError.TheVariants.{OutOfMemory}
@@ -7,8 +7,10 @@ use Rattle.sixel_encoder.specs.declared.form.TextForm.TheVariants.{Plain}
 use Rattle.sixel_encoder.specs.Encoding.{IsText, image_fault}
 use Rattle.icy_sixel.specs.ImageView.{image_value}
 use Rattle.sixel_encoder.proofs.EncodedText.{shortest-written, hidden-written, one_string-written}
-use Rattle.sixel_encoder.proofs.EncodedText.{readable-written, read_back-written, again-written}
+use Rattle.sixel_encoder.proofs.EncodedText.{read_back-written, again-written}
 use Rattle.icy_sixel.proofs.sixel_image.SixelImage.encode_with.Goals as goal
+use Rattle.std.proofs.Common.{arith}
+use Rattle.std.proofs.lemmas.Bool.Decides.{nat_tests}
 
 -- what is ensured of an encoded image
 record Encoded {S : Type 0} (bytes : S → List ℕ) (result : Result S SixelError) (k : ℕ)
@@ -22,11 +24,7 @@ record Encoded {S : Type 0} (bytes : S → List ℕ) (result : Result S SixelErr
 told : (c : goal.After-encode_source)
     → Encoded string_bytes c.encode_source.result c.args.options.now.max_colors
     (image_value c.args.self.now)
-told c =
-    let ensured = c.encode_source.ensures in
-    subst (Encoded string_bytes c.encode_source.result c.args.options.now.max_colors)
-    c.source.ensures
-    (record { refused = ensured.refused; text = ensured.text; bytes_of = ensured.bytes })
+told c = grind (arith, nat_tests)
 
 pub returns-clause-refused : goal.returns-clause-refused
 returns-clause-refused c = (told c).refused
@@ -53,8 +51,7 @@ returns-clause-one_string c = λ limit room.
     c.args.options.now.max_colors (told c).refused (told c).bytes_of (told c).text room
 
 pub returns-clause-readable : goal.returns-clause-readable
-returns-clause-readable c =
-    readable-written c.encode_source.result (image_value c.args.self.now) (told c).refused
+returns-clause-readable c = grind (arith, nat_tests)
 
 pub returns-clause-read_back : goal.returns-clause-read_back
 returns-clause-read_back c = λ decoder reads.

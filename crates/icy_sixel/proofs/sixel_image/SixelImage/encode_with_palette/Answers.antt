@@ -1,25 +1,17 @@
-use Rattle.std.proofs.Common.{length, sym, subst}
-use Rattle.std.specs.Prelude.{IfOk, string_bytes}
-use Rattle.sixel_base.specs.CallFault.{FailsBy, color_count_fault}
-use Rattle.sixel_base.specs.Payload.{Image}
-use Rattle.sixel_encoder.specs.IndexedDrawing.{IsPaletteText, palette_fault}
+use Rattle.std.proofs.Common.{length, sym}
+use Rattle.std.specs.Prelude.{string_bytes}
+use Rattle.sixel_base.specs.CallFault.{color_count_fault}
 use Rattle.icy_sixel.specs.ImageView.{image_value}
-use Rattle.sixel_encoder.proofs.PaletteText.{hidden-returned, readable-returned}
+use Rattle.sixel_encoder.proofs.PaletteText.{hidden-returned}
 use Rattle.icy_sixel.proofs.sixel_image.SixelImage.encode_with_palette.Goals as goal
+use Rattle.std.proofs.Common.{arith}
+use Rattle.std.proofs.lemmas.Bool.Decides.{nat_tests}
 
 pub returns-clause-fault : goal.returns-clause-fault
-returns-clause-fault c =
-    subst (λ (image : Image).
-    FailsBy (palette_fault image (length c.args.colors.now)) c.encode_in_palette.result)
-    c.source.ensures c.encode_in_palette.ensures.fault
+returns-clause-fault c = grind (arith, nat_tests)
 
 pub returns-clause-text : goal.returns-clause-text
-returns-clause-text c =
-    subst (λ (image : Image).
-    IfOk c.encode_in_palette.result
-    (λ text. IsPaletteText image c.args.colors.now c.args.mapping c.args.form
-    (string_bytes text)))
-    c.source.ensures c.encode_in_palette.ensures.text
+returns-clause-text c = grind (arith, nat_tests)
 
 pub returns-clause-hidden : goal.returns-clause-hidden
 returns-clause-hidden c = λ other bytes same also.
@@ -29,6 +21,4 @@ returns-clause-hidden c = λ other bytes same also.
     (returns-clause-fault c) (returns-clause-text c) (sym same) also
 
 pub returns-clause-readable : goal.returns-clause-readable
-returns-clause-readable c =
-    readable-returned c.encode_in_palette.result (image_value c.args.self.now)
-    (color_count_fault (length c.args.colors.now)) (returns-clause-fault c)
+returns-clause-readable c = grind (arith, nat_tests)

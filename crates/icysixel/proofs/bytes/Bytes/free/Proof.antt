@@ -2,7 +2,7 @@
 use Rattle.std.proofs.Common.{arith, inl, inr, ◌⊎◌}
 use mathlib.Core.Path.{◌≡◌, refl, sym, subst, ap, ◌∙◌}
 use mathlib.Core.List.{List, [], ◌∷◌, ◌++◌}
-use mathlib.Core.Bool.{Bool, true, false, not}
+use mathlib.Core.Bool.{Bool, not}
 use Prim.Native.Nat.{◌<◌, ◌^◌, ◌*◌, ◌-◌, ◌+◌}
 use lib.Dec.{T, T_not, lit<}
 use seplogic.Ra.Ura.{Ura}
@@ -58,6 +58,7 @@ use Rattle.icysixel.specs.contracts.bytes.Bytes.free as F
 use Rattle.icysixel.specs.contracts.bytes.Bytes.free.Key.{name as #self}
 use Rattle.icysixel.proofs.bytes.Bytes.free.Statement as stated
 use Rattle.icysixel.proofs.bytes.Bytes.free.Code as code
+use Rattle.std.proofs.lemmas.Bool.Decides.{nat_tests}
 
 abbrev From : Slot 1
 From = plain (λ _. Bytes.the_row)
@@ -69,8 +70,7 @@ abbrev stayed : Stays (F.ended).signature.params (F.ended).kept
 stayed = (stay_dropped From yes, (stay_dropped By yes, tt))
 
 cases : (y : Bool) → (T y) ⊎ (T (not y))
-cases true = inl tt
-cases false = inr tt
+cases y = grind (arith, nat_tests)
 
 abbrev Frees : {M : Type 1} {𝓤 : Ura M} (𝓛 : Logic 𝓤) → (Memory → SProp 𝓤) → (Routine → Fun 𝓤)
     → Contract 𝓤

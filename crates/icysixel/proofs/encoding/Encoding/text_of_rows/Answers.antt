@@ -3,6 +3,7 @@ use Rattle.icysixel.specs.Encodings.{format_of}
 use Rattle.icysixel.specs.Formats.{is_rgba}
 use Rattle.icysixel.proofs.Conversion.{rgba_len, rgba_same}
 use Rattle.icysixel.proofs.encoding.Encoding.text_of_rows.Goals as goal
+use Rattle.std.proofs.lemmas.Bool.Decides.{nat_tests}
 
 pub text_of_image-requires-clause-count : goal.text_of_image-requires-clause-count
 text_of_image-requires-clause-count c =
@@ -14,7 +15,4 @@ text_of_image-requires-clause-count c =
 
 pub text_of_image-requires-clause-pixels : goal.text_of_image-requires-clause-pixels
 text_of_image-requires-clause-pixels c =
-    let encoding = c.args.self.now in
-    let is : is_rgba (format_of encoding) ≡ true = grind arith in
-    rgba_same (format_of encoding) c.args.rows.now (encoding.width * encoding.height) is
-    (text_of_image-requires-clause-count c)
+    grind (arith, nat_tests, rgba_same, text_of_image-requires-clause-count)

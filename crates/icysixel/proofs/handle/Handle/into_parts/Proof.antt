@@ -1,5 +1,5 @@
 -- `into_parts` moves two fields, and what they own goes with them: what a box of the state owns.
-use Rattle.std.proofs.Common.{◌≡◌, true, Option, Some, None}
+use Rattle.std.proofs.Common.{◌≡◌, true, Option, Some}
 use Rattle.std.specs.Prelude.{is_some}
 use mathlib.Core.Path.{refl, sym, subst}
 use mathlib.Core.List.{List, [], ◌∷◌, ◌++◌}
@@ -34,14 +34,15 @@ use Rattle.icysixel.specs.contracts.handle.Handle.into_parts as F
 use Rattle.icysixel.specs.contracts.handle.Handle.into_parts.Key.{name as #self}
 use Rattle.icysixel.proofs.handle.Handle.into_parts.Statement as stated
 use Rattle.icysixel.proofs.handle.Handle.into_parts.Code as code
+use Rattle.std.proofs.Common.{arith}
+use Rattle.std.proofs.lemmas.Bool.Decides.{nat_tests}
 
 abbrev stayed : Stays (F.ended).signature.params (F.ended).kept
 stayed = (stay_dropped From yes, tt)
 
 some_of : (o : Option State.the_row.Denot) → is_some o ≡ true
     → (x : State.the_row.Denot) × (o ≡ Some x)
-some_of None held = absurd cc
-some_of (Some x) held = (x, refl)
+some_of o held = grind (arith, nat_tests)
 
 module _ {M : Type 1} {𝓤 : Ura M} (𝓛 : Logic 𝓤) (at_mem : Memory → SProp 𝓤) (run : Routine → Fun 𝓤)
     (𝓣 : Tables 𝓤 𝓛.H) where

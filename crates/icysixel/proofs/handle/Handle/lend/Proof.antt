@@ -1,6 +1,6 @@
 -- `lend` lends the state as a box lends its value: the handle and the box own the same, and the
 -- handle follows what is lent.
-use Rattle.std.proofs.Common.{◌≡◌, true, Option, Some, None}
+use Rattle.std.proofs.Common.{◌≡◌, true, Option, Some}
 use Rattle.std.specs.Prelude.{is_some}
 use mathlib.Core.Path.{refl}
 use Prim.Native.Nat.{ℕ}
@@ -50,14 +50,15 @@ use Rattle.icysixel.specs.contracts.handle.Handle.lend as F
 use Rattle.icysixel.specs.contracts.handle.Handle.lend.Key.{name as #self}
 use Rattle.icysixel.proofs.handle.Handle.lend.Statement as stated
 use Rattle.icysixel.proofs.handle.Handle.lend.Code as code
+use Rattle.std.proofs.Common.{arith}
+use Rattle.std.proofs.lemmas.Bool.Decides.{nat_tests}
 
 abbrev stayed : Stays (F.ended).signature.params (F.ended).kept
 stayed = (stay_dropped (mut_ref_to (0 ∷ []) tt (plain (λ _. Handle.the_row))) no, tt)
 
 some_of : (o : Option State.the_row.Denot) → is_some o ≡ true
     → (x : State.the_row.Denot) × (o ≡ Some x)
-some_of None held = absurd cc
-some_of (Some x) held = (x, refl)
+some_of o held = grind (arith, nat_tests)
 
 module _ {M : Type 1} {𝓤 : Ura M} (𝓛 : Logic 𝓤) (at_mem : Memory → SProp 𝓤) (run : Routine → Fun 𝓤)
     (κ : Lft) (q : Share) (rb ro : ℕ) (γ : GName) (h : Handle.the_row.Denot) where

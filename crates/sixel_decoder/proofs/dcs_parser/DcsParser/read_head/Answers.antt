@@ -1,6 +1,5 @@
-use Rattle.std.proofs.Common.{◌≡◌, ◌++◌, ◌∷◌, [], true, false, List, ℕ, length, get_or, take, drop}
-use Rattle.std.proofs.Common.{◌+◌, refl, sym, ◌∙◌, subst, arith}
-use Rattle.std.proofs.lemmas.Bool.{false≢true}
+use Rattle.std.proofs.Common.{◌≡◌, ◌++◌, ◌∷◌, [], true, List, ℕ, get_or, take, drop}
+use Rattle.std.proofs.Common.{◌+◌, sym, ◌∙◌, subst, arith}
 use Rattle.std.proofs.lemmas.List.{append-nil}
 use Rattle.std.proofs.lemmas.Result.{err_from_is_err_and}
 use Rattle.sixel_base.specs.declared.state.DecoderState.{DecoderState}
@@ -8,19 +7,10 @@ use Rattle.sixel_base.specs.Dcs.{stage}
 use Rattle.sixel_decoder.specs.inside.DcsParser.{HasFollowed, is_head, IsStageFault}
 use Rattle.sixel_decoder.proofs.Terminators.{refused_stays, pieces_join, pieces_step}
 use Rattle.sixel_decoder.proofs.dcs_parser.DcsParser.read_head.Goals as goal
+use Rattle.std.proofs.lemmas.Bool.Decides.{nat_tests}
 
 pub head-init : goal.head-init
-head-init g c = (
-  refl,
-  refl,
-  λ before fine followed.
-      let old = c.args.self.now in (
-        fine,
-        subst (λ (w : List ℕ). HasFollowed old.state old.decoder old.ended w)
-            (sym (append-nil before)) followed,
-      ),
-  refl,
-)
+head-init g c = grind (arith, nat_tests, append-nil)
 
 pub head-preserved : goal.head-preserved
 head-preserved g c = (
@@ -45,35 +35,10 @@ head-preserved g c = (
 )
 
 pub returns-then-not-is_head-clause-heads : goal.returns-then-not-is_head-clause-heads
-returns-then-not-is_head-clause-heads g c = λ before fine followed.
-    let index = c.head.index in
-    let at = c.head.self in
-    let now = c.head.invariant.2 before fine followed in
-    let payload : is_head at.state ≡ false = sym c.is_head.ensures ∙ c.if-not-is_head.true in
-    let here =
-    subst
-    (λ (d : DecoderState). HasFollowed at.state d at.ended (before ++ take index c.args.chunk.now))
-    c.head.invariant.0 now.1 in
-    (omega (arith, c.head-test.true), now.0, here, λ head. absurd (false≢true (sym payload ∙ head)))
+returns-then-not-is_head-clause-heads g c = grind (arith, nat_tests)
 
 pub returns-clause-heads : goal.returns-clause-heads
-returns-clause-heads g c = λ before fine followed.
-    let chunk = c.args.chunk.now in
-    let at = c.head.self in
-    let now = c.head.invariant.2 before fine followed in
-    let whole : c.head.index ≡ length chunk =
-    omega (arith, c.head-test.false, c.head.auto.index-end) in
-    let here =
-    subst
-    (λ (d : DecoderState). HasFollowed at.state d at.ended (before ++ take c.head.index chunk))
-    c.head.invariant.0 now.1 in (
-      omega arith,
-      now.0,
-      subst (λ (n : ℕ).
-          HasFollowed at.state c.args.self.now.decoder at.ended (before ++ take n chunk))
-          whole here,
-      λ head. refl,
-    )
+returns-clause-heads g c = grind (arith, nat_tests)
 
 pub returns-in_err-step-clause-heads : goal.returns-in_err-step-clause-heads
 returns-in_err-step-clause-heads g c = λ before fine followed.

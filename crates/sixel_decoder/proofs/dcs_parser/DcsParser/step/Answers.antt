@@ -10,31 +10,17 @@ use Rattle.sixel_decoder.specs.inside.DcsParser.{HasFollowed, IsInHeader, IsInPa
 use Rattle.sixel_decoder.specs.declared.dcs_parser.DcsState.{DcsState}
 use Rattle.sixel_decoder.proofs.DcsHeaders.{header_goes_on, header_begins, header_refuses}
 use Rattle.sixel_decoder.proofs.dcs_parser.DcsParser.step.Goals as goal
+use Rattle.std.proofs.Common.{arith}
+use Rattle.std.proofs.lemmas.Bool.Decides.{nat_tests}
 
 pub returns-in-27-clause-steps : goal.returns-in-27-clause-steps
-returns-in-27-clause-steps g c = λ before head is.
-    let old = c.args.self.now in
-    let it : (before ≡ []) × (old.ended ≡ None) =
-    subst (λ (p : DcsState _). HasFollowed p old.decoder old.ended before) c.in-Start.is is in
-    rw (c.in-27.is, it.0) (refl, (refl, it.1))
+returns-in-27-clause-steps g c = grind (arith, nat_tests)
 
 pub returns-in-144-clause-steps : goal.returns-in-144-clause-steps
-returns-in-144-clause-steps g c = λ before head is.
-    let old = c.args.self.now in
-    let it : (before ≡ []) × (old.ended ≡ None) =
-    subst (λ (p : DcsState _). HasFollowed p old.decoder old.ended before) c.in-Start.is is in
-    let begun : IsInHeader c.new.result (144 ∷ []) =
-    record { rest = []; entered = refl; going = refl; keeps = c.new.ensures } in
-    rw (c.in-144.is, it.0) (refl, (begun, it.1))
+returns-in-144-clause-steps g c = grind (arith, nat_tests)
 
 pub returns-in-80-clause-steps : goal.returns-in-80-clause-steps
-returns-in-80-clause-steps g c = λ before head is.
-    let old = c.args.self.now in
-    let it : (before ≡ 27 ∷ []) × (old.ended ≡ None) =
-    subst (λ (p : DcsState _). HasFollowed p old.decoder old.ended before) c.in-Escape.is is in
-    let begun : IsInHeader c.new-in-80.result (27 ∷ 80 ∷ []) =
-    record { rest = []; entered = refl; going = refl; keeps = c.new-in-80.ensures } in
-    rw (c.in-80.is, it.0) (refl, (begun, it.1))
+returns-in-80-clause-steps g c = grind (arith, nat_tests)
 
 pub returns-in-Ok-None-clause-steps : goal.returns-in-Ok-None-clause-steps
 returns-in-Ok-None-clause-steps g c = λ before head is.

@@ -1,26 +1,22 @@
-use Rattle.std.proofs.Common.{◌≡◌, ◌∙◌, ℕ, List, ◌++◌, Result, Err, false, refl, rules}
-use Rattle.std.specs.Prelude.{Bool, nat_lt, None}
+use Rattle.std.proofs.Common.{◌≡◌, ◌∙◌, ℕ, List, ◌++◌, ap, false, refl}
+use Rattle.std.specs.Prelude.{nat_lt}
 use Rattle.std.proofs.lemmas.Bool.{false_from_ne_true}
-use Rattle.sixel_base.specs.declared.error.SixelError.{SixelError}
-use Rattle.sixel_base.specs.declared.status.SixelDcsFeedResult.{SixelDcsFeedResult}
 use Rattle.sixel_base.specs.Dcs.{dcs_fault, dcs_growths}
-use Rattle.sixel_base.specs.Fault.{Faults, IsFault, DcsStreamFailed}
-use Rattle.sixel_base.specs.Limits.{Limit}
+use Rattle.sixel_base.specs.Fault.{Faults}
+use Rattle.sixel_decoder.specs.FedImages.{of_sequence_fed}
+use Rattle.sixel_decoder.specs.Reception.{of_sequence}
+use Rattle.sixel_decoder.specs.declared.received.Status.TheVariants.{Dcs}
 use Rattle.sixel_decoder.specs.inside.DcsParser.{is_failed}
 use Rattle.sixel_decoder.specs.inside.DcsReader.{session_of}
+use Rattle.sixel_decoder.proofs.FedImages.{image_fed, image_rejected}
 use Rattle.sixel_decoder.proofs.ImageEnds.{end_of, refused_begun}
-use Rattle.sixel_decoder.proofs.Feeds.{string_fed}
-use Rattle.sixel_decoder.proofs.Sessions.{MatchBool-from_each, followed_sound, string_over}
-use Rattle.sixel_decoder.proofs.Sessions.{string_refused_with}
+use Rattle.sixel_decoder.proofs.Sessions.{followed_sound}
 use Rattle.sixel_decoder.proofs.dcs_reader.DcsReader.feed.Goals as goal
+use Rattle.std.proofs.Common.{arith}
+use Rattle.std.proofs.lemmas.Bool.Decides.{nat_tests}
 
 pub invariant_of-self : goal.invariant_of-self
-invariant_of-self g c =
-    let inside = c.self.inside in
-    let accepted : is_failed inside.parser.state ≡ false =
-    false_from_ne_true (is_failed inside.parser.state) c.in-Ok.ensures.failed in
-    rw (c.extend.ensures, c.in-Ok.ensures.decoder)
-    (c.in-Ok.ensures.follows inside.log.bytes accepted c.self.invariant).3
+invariant_of-self g c = grind (arith, nat_tests)
 
 pub returns-in-Ok : goal.returns-in-Ok
 returns-in-Ok g c =
@@ -30,49 +26,24 @@ returns-in-Ok g c =
     let accepted : is_failed state ≡ false =
     false_from_ne_true (is_failed state) c.in-Ok.ensures.failed in
     let goes = c.in-Ok.ensures.follows bytes accepted c.self.invariant in
-    let sound : dcs_fault inside.parser.decoder.pixel_limit bytes ≡ None =
-    followed_sound state inside.parser.decoder inside.parser.ended bytes c.self.invariant
-    accepted in
+    let sound = followed_sound state inside.parser.decoder inside.parser.ended bytes
+    c.self.invariant accepted in
     rw (← c.self.view_is)
-    (string_fed (session_of inside) _ c.feed.new.self.state c.feed.new.self.ended c.args.chunk.now
-    c.in-Ok.fed accepted sound goes c.in-Ok.ensures.decoder c.extend.ensures goes.2
-    c.in-Ok.ensures.released)
+    (image_fed (of_sequence (session_of inside)) _ c.args.chunk.now (of_sequence_fed c.in-Ok.fed)
+    accepted goes.2 refl c.in-Ok.ensures.decoder c.in-Ok.ensures.released c.extend.ensures sound
+    (goes.0, ap Dcs goes.1, goes.4))
 
 pub returns-in-Err : goal.returns-in-Err
 returns-in-Err g c =
     let inside = c.self.inside in
-    let error : SixelError = c.in-Err.error in
-    let limit : Limit = inside.parser.decoder.pixel_limit in
+    let parser = inside.parser in
     let bytes : List ℕ = inside.log.bytes in
-    let piece : List ℕ = c.args.chunk.now in
-    let now : List ℕ = bytes ++ piece in
-    let result : Result SixelDcsFeedResult SixelError = Err error in
-    let grows : Bool = nat_lt (dcs_growths bytes) (dcs_growths now) in
-    let told : is_failed inside.parser.state ≡ false → Faults error grows (dcs_fault limit now) =
-    λ fine. c.in-Err.ensures.follows bytes fine c.self.invariant in
-    let sound : is_failed inside.parser.state ≡ false → dcs_fault limit bytes ≡ None =
-    followed_sound inside.parser.state inside.parser.decoder inside.parser.ended bytes
-    c.self.invariant in
-    record {
-      start = rw (← c.self.view_is) (c.fail.ensures.decoder ∙ c.in-Err.ensures.decoder);
-      released = search rules;
-      bytes = rw (← c.self.view_is) c.extend.ensures;
-      ok = search rules;
-      err = search rules;
-      faultless = search rules;
-      sound = rw (← c.self.view_is) sound;
-      over = rw (← c.self.view_is) (λ was ended.
-          string_over limit result bytes piece now ended refl (sound was) tt tt (told was));
-      over_for_good = search rules;
-      consumed = search rules;
-      within = search rules;
-      status = search rules;
-      error = rw (← c.self.view_is, c.extend.ensures)
-          (MatchBool-from_each (is_failed inside.parser.state) (IsFault error DcsStreamFailed)
-          (Faults error grows (dcs_fault limit now)) c.in-Err.ensures.failed told);
-      refused_for_good = rw (← c.self.view_is, c.extend.ensures) (λ e more is was.
-          string_refused_with limit _ result now more (told was) e is);
-    }
+    rw (← c.self.view_is)
+    (image_rejected (of_sequence (session_of inside)) _ c.args.chunk.now c.in-Err.error
+    (rw c.fail.ensures.state refl) refl (c.fail.ensures.decoder ∙ c.in-Err.ensures.decoder)
+    c.extend.ensures
+    (followed_sound parser.state parser.decoder parser.ended bytes c.self.invariant)
+    c.in-Err.ensures.failed (λ fine. c.in-Err.ensures.follows bytes fine c.self.invariant))
 
 pub invariant_of-self-in-Err : goal.invariant_of-self-in-Err
 invariant_of-self-in-Err g c =

@@ -1,13 +1,16 @@
-use Rattle.std.proofs.Common.{◌≡◌, ◌∷◌, [], false, ℕ, List, refl, subst, None}
-use Rattle.sixel_base.specs.declared.status.SixelDcsFeedStatus.TheVariants as string_status
+use Rattle.std.proofs.Common.{◌≡◌, ◌∷◌, [], false, ℕ, List, refl, ap, subst, None}
+use Rattle.sixel_base.specs.declared.status.SixelDcsFeedStatus.TheVariants.{NeedMoreData}
 use Rattle.sixel_base.specs.declared.status.SixelFeedStatus.TheVariants as payload_status
 use Rattle.sixel_base.specs.Dcs.{dcs_fault}
 use Rattle.sixel_decoder.specs.DcsCalls.{byte_read}
+use Rattle.sixel_decoder.specs.Reception.{of_sequence}
 use Rattle.sixel_decoder.specs.declared.dcs_parser.DcsState.{DcsState}
 use Rattle.sixel_decoder.specs.declared.dcs_parser.DcsState.TheVariants.{Payload}
+use Rattle.sixel_decoder.specs.declared.received.Status.TheVariants.{Dcs}
 use Rattle.sixel_decoder.specs.inside.DcsParser.{Follows, HasFollowed, IsInPayload, is_failed}
 use Rattle.sixel_decoder.specs.inside.DcsReader.{session_of}
-use Rattle.sixel_decoder.proofs.Feeds.{open_follows, string_fed}
+use Rattle.sixel_decoder.proofs.FedImages.{image_fed}
+use Rattle.sixel_decoder.proofs.Feeds.{open_follows}
 use Rattle.sixel_decoder.proofs.Sessions.{followed_sound}
 use Rattle.sixel_decoder.proofs.dcs_reader.DcsReader.try_byte.Given.{Over}
 use Rattle.sixel_decoder.proofs.dcs_reader.DcsReader.try_byte.Goals as goal
@@ -38,9 +41,9 @@ returns-clause-fed g c = λ told.
     let sound : dcs_fault parser.decoder.pixel_limit inside.log.bytes ≡ None =
     followed_sound parser.state parser.decoder parser.ended inside.log.bytes c.self.invariant
     accepted in
+    let goes = followed g c in
     rw (← c.self.view_is)
-    (string_fed {C = g.row.C.Denot} (session_of inside) _ (Payload c.try_byte.new.self) parser.ended
-    (c.args.byte ∷ [])
-    (record { consumed = 1; status = string_status.NeedMoreData }) accepted sound (followed g c)
-    refl c.push.ensures refl
-    (rw c.in-Payload.is (c.try_byte.ensures.fed c.if-not-try_byte.false).released))
+    (image_fed (of_sequence (session_of inside)) _ (c.args.byte ∷ [])
+    (record { consumed = 1; status = Dcs NeedMoreData }) accepted refl refl refl
+    (rw c.in-Payload.is (c.try_byte.ensures.fed c.if-not-try_byte.false).fed.released)
+    c.push.ensures sound (goes.0, ap Dcs goes.1, goes.4))

@@ -2,7 +2,6 @@ use Rattle.std.proofs.Common.{arith, ◌≡◌, ℕ, ◌+◌, ◌-◌, ◌*◌, 
 use Rattle.std.proofs.Common.{append-nil, inl, inr, min}
 use Rattle.std.proofs.Math.Nat.{mul-le-mul_left}
 use Rattle.std.proofs.lemmas.Bool.{cases_lt}
-use Rattle.std.proofs.lemmas.Result.{err_from_is_err_and}
 use Rattle.sixel_base.specs.Clip.{clipped_pixel, clipped_width}
 use Rattle.sixel_base.specs.DrawnHeight.{image_drawn_height}
 use Rattle.sixel_base.specs.Limits.{Limit}
@@ -12,24 +11,19 @@ use Rattle.sixel_base.specs.Place.{raster_height}
 use Rattle.sixel_base.specs.Settings.{mode_of, ratio_of}
 use Rattle.sixel_base.specs.declared.settings.BackgroundMode.{BackgroundMode}
 use Rattle.sixel_base.specs.declared.settings.PixelAspectRatio.{PixelAspectRatio}
-use Rattle.sixel_base.proofs.PictureBytes.{joined-add, joined-same}
+use Rattle.sixel_base.proofs.PictureBytes.{joined-add}
 use Rattle.sixel_base.specs.Stroke.{pixel, ratio}
 use Rattle.sixel_decoder.proofs.Clips.{clipped_picture}
 use Rattle.sixel_decoder.proofs.ImageAreas.{low}
 use Rattle.sixel_decoder.proofs.painter.Painter.take_image.Goals as goal
+use Rattle.std.proofs.lemmas.Bool.Decides.{nat_tests}
 
 -- pictures of equal pixels
 picture-same : (f g : ℕ → ℕ → List ℕ) (width height : ℕ)
     → ((column row : ℕ) → f column row ≡ g column row)
     → picture f width height ≡ picture g width height
 unfolding picture
-picture-same f g width height same =
-    joined-same (λ row. joined (λ column. f column row) width)
-    (λ row. joined (λ column. g column row) width)
-    height
-    (λ row _.
-    joined-same (λ column. f column row) (λ column. g column row) width
-    (λ column _. same column row))
+picture-same f g width height same = grind (arith, nat_tests)
 
 -- the rows that are left, below those above the first of them
 picture-left : (p q : ℕ → ℕ → List ℕ) (width height released first : ℕ)
@@ -126,6 +120,4 @@ returns-clause-ends g c = λ o h shows.
     )
 
 pub returns-in_err-pixels-clause-ends : goal.returns-in_err-pixels-clause-ends
-returns-in_err-pixels-clause-ends g c = λ o h shows.
-    let p = err_from_is_err_and c.from_residual.result c.from_residual.ensures.1 in
-    rw (p.1, p.2, shows.faultless) refl
+returns-in_err-pixels-clause-ends g c = grind (arith, nat_tests)

@@ -1,19 +1,40 @@
-use Rattle.std.proofs.Common.{sym, subst}
+use Rattle.std.proofs.Common.{refl, sym, subst}
 use Rattle.sixel_base.specs.Lenient.{effective}
 use Rattle.sixel_decoder.specs.inside.Lenient.{Tolerates, HasDrawn}
 use Rattle.sixel_decoder.specs.inside.PayloadParser.{IsOpen, StandsIn}
 use Rattle.sixel_decoder.specs.declared.payload_parser.OpenCommand.{OpenCommand}
-use Rattle.sixel_base.specs.History.{History, Repeat, Color}
-use Rattle.sixel_decoder.proofs.LenientTokens.{has_drawn_more}
+use Rattle.sixel_base.specs.History.{History, Repeat, Raster, Color}
+use Rattle.sixel_decoder.proofs.LenientTokens.{has_drawn_more, tolerates}
 use Rattle.sixel_decoder.proofs.payload_parser.PayloadParser.close.Goals as goal
 
 pub returns-in-InRepeat-clause-drawn : goal.returns-in-InRepeat-clause-drawn
 returns-in-InRepeat-clause-drawn g c = λ o h stands.
     let is : IsOpen Repeat o c.args.self.now h =
     subst (λ (p : OpenCommand). StandsIn p o c.args.self.now h) c.in-InRepeat.is stands in
-    subst (λ (w : History). Tolerates c.close_repeat.result o c.close_repeat.new.self
-    c.close_repeat.new.ignored w)
-    (sym is.newest) (c.close_repeat.ensures.tolerates o is.older is.text is.keeps is.shows)
+    let drawn = c.set_repeat-outcome in
+    let told = c.tolerate in
+    subst (λ (w : History). Tolerates told.result o drawn.new.self told.new.ignored w)
+    (sym is.newest)
+    (tolerates drawn.result told.result c.lenient-lenient.result o c.args.self.now.painter
+    drawn.new.self c.args.self.now.ignored told.new.ignored (Repeat is.text) is.older
+    c.lenient-lenient.ensures told.ensures.result told.ensures.count (λ w. refl) is.shows
+    (drawn.ensures.draws o (effective o.pixel_limit is.older) is.text is.keeps is.shows.shows)
+    drawn.ensures.kept)
+
+pub returns-in-InRaster-clause-drawn : goal.returns-in-InRaster-clause-drawn
+returns-in-InRaster-clause-drawn g c = λ o h stands.
+    let is : IsOpen Raster o c.args.self.now h =
+    subst (λ (p : OpenCommand). StandsIn p o c.args.self.now h) c.in-InRaster.is stands in
+    let drawn = c.set_raster-outcome in
+    let told = c.tolerate-in-InRaster in
+    subst (λ (w : History). Tolerates told.result o drawn.new.self told.new.ignored w)
+    (sym is.newest)
+    (tolerates drawn.result told.result c.lenient-lenient-in-InRaster.result o
+    c.args.self.now.painter drawn.new.self c.args.self.now.ignored told.new.ignored
+    (Raster is.text) is.older c.lenient-lenient-in-InRaster.ensures told.ensures.result
+    told.ensures.count (λ w. refl) is.shows
+    (drawn.ensures.draws o (effective o.pixel_limit is.older) is.text is.keeps is.shows.shows)
+    drawn.ensures.kept)
 
 pub returns-in-InColor-clause-drawn : goal.returns-in-InColor-clause-drawn
 returns-in-InColor-clause-drawn g c = λ o h stands.

@@ -1,4 +1,4 @@
-use Rattle.std.proofs.Common.{◌≡◌, ◌-◌, ◌∷◌, ℕ, List, true, false, get_or, inl, inr, subst, sym}
+use Rattle.std.proofs.Common.{◌≡◌, ◌-◌, ◌∷◌, ℕ, List, true, false, get_or, subst, sym}
 use Rattle.std.proofs.Common.{◌∙◌, arith}
 use Rattle.std.specs.Prelude.{◌⊎◌}
 use Rattle.std.proofs.lemmas.Result.{err_from_is_err_and}
@@ -21,17 +21,16 @@ use Rattle.sixel_decoder.proofs.payload_parser.PayloadParser.read_chunk.Goals.{
   then-not-is_ignored+in_ok-push,
 }
 use Rattle.sixel_decoder.proofs.payload_parser.PayloadParser.read_chunk.Goals.{else-not-is_ignored}
+use Rattle.std.proofs.lemmas.Bool.Decides.{nat_tests}
 
 -- a byte that opens a command with a number is printable
 numbered_printable : (byte : ℕ) → (byte ≡ 33) ⊎ (byte ≡ 35) → IsPrintable byte
-numbered_printable byte (inl is) = (omega (arith, is), omega (arith, is))
-numbered_printable byte (inr is) = (omega (arith, is), omega (arith, is))
+numbered_printable byte h = grind (arith, nat_tests)
 
 -- ---- a sixel
 
 pub draw_sixels-requires-clause-some : goal.draw_sixels-requires-clause-some
-draw_sixels-requires-clause-some g c =
-    rw (c.tail.ensures, splits_at c.args.chunk.now c.bytes.index c.bytes-test.true) (omega arith)
+draw_sixels-requires-clause-some g c = grind (arith, c.tail.ensures, splits_at, c.bytes-test.true)
 
 pub draw_sixels-requires-clause-sixel : goal.draw_sixels-requires-clause-sixel
 draw_sixels-requires-clause-sixel g c =
@@ -100,8 +99,7 @@ bytes-preserved-then-is_sixel g c =
 
 pub open_numbered-read-requires-clause-some : goal.open_numbered-read-requires-clause-some
 open_numbered-read-requires-clause-some g c =
-    rw (c.tail-then-is_numbered.ensures, splits_at c.args.chunk.now c.bytes.index c.bytes-test.true)
-    (omega arith)
+    grind (arith, nat_tests, c.tail-then-is_numbered.ensures, splits_at, c.bytes-test.true)
 
 pub open_numbered-read-requires-clause-numbered : goal.open_numbered-read-requires-clause-numbered
 open_numbered-read-requires-clause-numbered g c =

@@ -42,5 +42,6 @@ returns-clause-fed g c = λ told.
     c.self.invariant was in
     rw (← c.self.view_is)
     (payload_fed (session_of inside) _ (c.args.byte ∷ [])
-    (record { consumed = 1; status = NeedMoreData }) was sound (goes.0, goes.1) goes.3 refl
-    c.push.ensures refl (rw c.in-Reading.is c.try_byte.ensures.released))
+    (record { consumed = 1; status = NeedMoreData }) was refl refl
+    (rw c.in-Reading.is c.try_byte.ensures.released) c.push.ensures sound
+    (goes.0, goes.1, goes.3))

@@ -22,13 +22,14 @@ returns-in_err-feed-clause-refused c =
     let fed : List ℕ = c.feed.new.self.image.bytes in
     let p = err_from_is_err_and c.from_residual.result c.from_residual.ensures.1 in
     let whole : fed ++ after ≡ c.args.bytes.now =
-    rw (s.bytes (ap is_open now.form), c.split_at.ensures.front, c.split_at.ensures.back)
+    rw (s.fed.bytes (ap is_open now.form), c.split_at.ensures.front, c.split_at.ensures.back)
     (append_assoc before _ _
     ∙ (ap (λ w. before ++ w) (take-append-drop _ c.chunks.rest.now) ∙ now.bytes)) in
     let limit = c.args.self.now.receiver.decoder.pixel_limit in
     rw (p.1, p.2)
     (subst (λ (w : List ℕ). Faults told (payload_wants limit w) (payload_fault limit w)) whole
-    (rw now.start at (s.refused_for_good c.args.settings failed after now.form refl now.accepted)))
+    (rw now.start at
+    (s.fed.refused_for_good c.args.settings told after now.form refl now.accepted)))
 
 no_bytes : (bytes : List ℕ) → true ≡ (length bytes == 0) → bytes ≡ []
 no_bytes [] is = refl

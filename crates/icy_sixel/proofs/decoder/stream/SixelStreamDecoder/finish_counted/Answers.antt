@@ -1,4 +1,4 @@
-use Rattle.std.proofs.Common.{◌≡◌, ℕ, ◌+◌, ◌*◌, ◌≤◌, List, None, ap, ◌∙◌, arith}
+use Rattle.std.proofs.Common.{◌≡◌, ℕ, ◌*◌, ◌≤◌, List, None, ◌∙◌, arith}
 use Rattle.std.proofs.lemmas.Nat.{mul-le}
 use Rattle.sixel_base.specs.Bytes.{front}
 use Rattle.sixel_base.specs.History.{history_of}
@@ -9,15 +9,12 @@ use Rattle.sixel_base.specs.Place.{width, height}
 use Rattle.sixel_base.specs.Stroke.{Origin}
 use Rattle.sixel_decoder.proofs.RowExtents.{cropped_height-most, settled-area, sides-fit}
 use Rattle.icy_sixel.proofs.decoder.stream.SixelStreamDecoder.finish_counted.Goals as goal
+use Rattle.std.proofs.lemmas.Bool.Decides.{nat_tests}
 
 -- the image has at most the pixels of the extent
 fewer : (image : Image) (o : Origin) (bytes : List ℕ) → image ≡ payload_image o bytes
     → image.width * image.height ≤ payload_area o.pixel_limit bytes
-fewer image o bytes is =
-    let h = tokens o.pixel_limit bytes in
-    mul-le image.width image.height (width h) (height h)
-    (omega (arith, ap (λ (i : Image). i.width) is))
-    (omega (arith, ap (λ (i : Image). i.height) is, cropped_height-most o.raster_crop h))
+fewer image o bytes is = grind (arith, nat_tests, mul-le, cropped_height-most)
 
 -- which are few
 few : (limit : Limit) (bytes : List ℕ) → payload_fault limit bytes ≡ None
@@ -29,13 +26,12 @@ few limit bytes sound =
 
 pub with_packed-count-requires : goal.with_packed-count-requires
 with_packed-count-requires c =
-    let session = c.args.self.reader in
-    let done = c.in_ok-image.ensures.finished in
-    omega (
+    grind (
       arith,
-      fewer _ session.origin session.bytes done.image,
-      few session.origin.pixel_limit session.bytes done.faultless,
-      settled-area session.origin.pixel_limit session.bytes,
+      c.in_ok-image.ensures.finished,
+      fewer,
+      few,
+      settled-area,
       c.canvas_writes-writes.ensures.at_most,
     )
 
@@ -50,7 +46,4 @@ returns-clause-at_most c =
     )
 
 pub returns-clause-counted : goal.returns-clause-counted
-returns-clause-counted c =
-    c.with_packed-count.ensures
-    ∙ ap (λ (n : ℕ). n + c.in_ok-image.image.width * c.in_ok-image.image.height)
-    c.canvas_writes-writes.ensures.value
+returns-clause-counted c = grind (arith, nat_tests)

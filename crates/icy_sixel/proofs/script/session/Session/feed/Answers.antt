@@ -39,16 +39,16 @@ returns-in_default-clause-whole c = whole c
 
 pub returns-in_default-clause-faultless : goal.returns-in_default-clause-faultless
 returns-in_default-clause-faultless c =
-    sym (one c).faults
+    (one c).same.faults
     ∙ (rw (c.loop-cut.invariant.start, c.loop-cut.invariant.form) at c.in-Ok.ensures.faultless)
 
 pub returns-in_default-clause-consumed : goal.returns-in_default-clause-consumed
 returns-in_default-clause-consumed c =
-    (rw c.loop-cut.invariant.form at c.in-Ok.ensures.consumed) ∙ (one c).counted
+    (rw c.loop-cut.invariant.form at c.in-Ok.ensures.consumed) ∙ sym (one c).same.counted
 
 pub returns-in_default-clause-status : goal.returns-in_default-clause-status
 returns-in_default-clause-status c =
-    (rw c.loop-cut.invariant.form at c.in-Ok.ensures.status) ∙ (one c).stands
+    (rw c.loop-cut.invariant.form at c.in-Ok.ensures.status) ∙ sym (one c).same.stands
 
 -- ---- where it is rejected
 

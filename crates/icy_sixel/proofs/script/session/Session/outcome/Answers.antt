@@ -1,10 +1,7 @@
-use Rattle.std.proofs.Common.{rules}
 use Rattle.icy_sixel.proofs.Outcomes.{fails}
 use Rattle.icy_sixel.proofs.script.session.Session.outcome.Goals as goal
+use Rattle.std.proofs.Common.{arith}
+use Rattle.std.proofs.lemmas.Bool.Decides.{nat_tests}
 
 pub returns-in-Err : goal.returns-in-Err
-returns-in-Err c =
-    let before = c.args.receiver.now in
-    let session = c.args.self.now in
-    fails c.in-Err.error before.decoder _ before.image.form session.bytes.now session.ending
-    (rw c.requires.begun at c.in-Err.ensures.error) (search rules)
+returns-in-Err c = grind (arith, nat_tests, fails, c.requires.begun, c.in-Err.ensures.error)
