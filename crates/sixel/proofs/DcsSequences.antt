@@ -1,20 +1,14 @@
 -- What a session that was fed some of the bytes shows about the DCS sequence at their start.
 use Rattle.std.proofs.Common.{◌≡◌, ℕ, ◌<◌, ◌≤◌, Bool, true, false, List, [], ◌∷◌, ◌++◌, refl, ap}
 use Rattle.std.proofs.Common.{sym, ◌∙◌, subst, arith, length, length-append, Option, Some, None}
-use Rattle.std.specs.Prelude.{◌==◌, if◌then◌else◌, IsSomeAnd}
+use Rattle.std.specs.Prelude.{◌==◌, if◌then◌else◌}
 use Rattle.std.specs.Option.{option_or}
-use Rattle.std.proofs.lemmas.Bool.{false≢true}
 use Rattle.std.proofs.lemmas.Option.{none-some}
 use Rattle.std.proofs.lemmas.Bool.Decides.{nat_tests}
 use Rattle.sixel_base.specs.declared.error.SixelError.{SixelError}
-use Rattle.sixel_base.specs.declared.error.SixelError.TheVariants.{InvalidDimensions}
-use Rattle.sixel_base.specs.declared.error.SixelError.TheVariants.{BufferSizeMismatch, InvalidData}
-use Rattle.sixel_base.specs.declared.error.SixelError.TheVariants.{NoSixelData, IntegerOverflow}
-use Rattle.sixel_base.specs.declared.error.SixelError.TheVariants.{OutOfMemory}
-use Rattle.sixel_base.specs.Fault.{Fault, Faults, Incomplete, IsFault}
+use Rattle.sixel_base.specs.Fault.{Fault, Faults}
 use Rattle.sixel_base.specs.declared.status.SixelDcsFeedStatus.{SixelDcsFeedStatus}
-use Rattle.sixel_base.specs.declared.status.SixelDcsFeedStatus.TheVariants.{NeedMoreData, Complete}
-use Rattle.sixel_base.specs.declared.status.SixelDcsFeedStatus.TheVariants.{Cancelled, Interrupted}
+use Rattle.sixel_base.specs.declared.status.SixelDcsFeedStatus.TheVariants.{NeedMoreData}
 use Rattle.sixel_base.specs.Dcs.{can_finish, dcs_status, dcs_fault, has_ended, end_fault}
 use Rattle.sixel_base.specs.Dcs.{IsSameString}
 use Rattle.sixel_base.specs.Limits.{Limit}
@@ -28,8 +22,7 @@ no_bytes (byte ∷ bytes) is = absurd (grind (arith, nat_tests))
 
 -- there is a byte where a list is not empty
 pub some_bytes : (bytes : List ℕ) → false ≡ (length bytes == 0) → 0 < length bytes
-some_bytes [] is = absurd (false≢true is)
-some_bytes (byte ∷ bytes) is = omega arith
+some_bytes bytes is = grind (arith, nat_tests)
 
 -- With the bytes that follow them, those that were fed are the sequence.
 pub record Begins (fed bytes : List ℕ) : Type 0 where
@@ -42,30 +35,13 @@ begins_fits fed bytes b = omega (arith, length-append fed b.rest, ap length b.jo
 
 sequence_fault-some : (limit : Limit) (bytes : List ℕ) → 0 < length bytes
     → sequence_fault limit bytes ≡ option_or (dcs_fault limit bytes) (end_fault limit bytes)
-sequence_fault-some limit [] some = absurd (omega arith)
-sequence_fault-some limit (byte ∷ bytes) some = refl
-
-named_along : (e : SixelError) (found found' : Option Fault)
-    → ((f : Fault) → found ≡ Some f → found' ≡ Some f)
-    → IsSomeAnd found (IsFault e) → IsSomeAnd found' (IsFault e)
-named_along e None found' stays is = absurd is
-named_along e (Some f) found' stays is =
-    subst (λ w. IsSomeAnd w (IsFault e)) (sym (stays f refl)) is
+sequence_fault-some limit bytes some = grind (arith, nat_tests)
 
 -- an error of a fault is one of any fault that contains it
 Faults-weaker : (e : SixelError) (may : Bool) (found found' : Option Fault)
     → ((f : Fault) → found ≡ Some f → found' ≡ Some f) → Faults e may found
     → Faults e true found'
-Faults-weaker (InvalidDimensions w h) may found found' stays is =
-    named_along (InvalidDimensions w h) found found' stays is
-Faults-weaker (BufferSizeMismatch w h) may found found' stays is =
-    named_along (BufferSizeMismatch w h) found found' stays is
-Faults-weaker (InvalidData t) may found found' stays is =
-    named_along (InvalidData t) found found' stays is
-Faults-weaker NoSixelData may found found' stays is = named_along NoSixelData found found' stays is
-Faults-weaker IntegerOverflow may found found' stays is =
-    named_along IntegerOverflow found found' stays is
-Faults-weaker OutOfMemory may found found' stays is = refl
+Faults-weaker e may found found' stays is = grind (arith, nat_tests)
 
 -- what is wrong with the bytes is the sequence's fault
 pub refused_early : (e : SixelError) (may : Bool) (limit : Limit) (bytes : List ℕ)
@@ -80,41 +56,23 @@ refused_early e may limit bytes some is =
 
 -- a sequence that has not ended waits for more
 pub goes_on : (status : SixelDcsFeedStatus) → false ≡ has_ended status → status ≡ NeedMoreData
-goes_on NeedMoreData going = refl
-goes_on Complete going = absurd (false≢true going)
-goes_on (Cancelled byte) going = absurd (false≢true going)
-goes_on (Interrupted byte) going = absurd (false≢true going)
+goes_on status going = grind (arith, nat_tests)
 
 -- and one that cannot be finished has not ended
 waits_unfinished : (limit : Limit) (fed : List ℕ) (f : Fault) → end_fault limit fed ≡ Some f
     → dcs_status fed ≡ NeedMoreData
-waits_unfinished limit fed f found =
-    (elim (has_ended (dcs_status fed)) as
-    (λ t. has_ended (dcs_status fed) ≡ t → dcs_status fed ≡ NeedMoreData) [
-      | true ↦ λ ended.
-          absurd (none-some f (sym (ap (λ t. if t then None else Some Incomplete)
-          (ended_finishes limit fed ended)) ∙ found))
-      | false ↦ λ going. goes_on _ (sym going)
-    ]) refl
+waits_unfinished limit fed f found = grind (arith, none-some, ended_finishes, goes_on)
 
 -- a sequence that can be finished and has no fault so far has none
 pub finished_faultless : (limit : Limit) (bytes : List ℕ) → 0 < length bytes
     → can_finish limit bytes ≡ true → dcs_fault limit bytes ≡ None
     → sequence_fault limit bytes ≡ None
-finished_faultless limit bytes some finishes faultless =
-    sequence_fault-some limit bytes some
-    ∙ ap (λ o. option_or o (end_fault limit bytes)) faultless
-    ∙ ap (λ t. if t then None else Some Incomplete) finishes
+finished_faultless limit bytes some finishes faultless = grind (arith, nat_tests)
 
 -- one that has no fault at its end can be finished
 pub finishes_faultless : (limit : Limit) (bytes : List ℕ) → end_fault limit bytes ≡ None
     → can_finish limit bytes ≡ true
-finishes_faultless limit bytes =
-    elim (can_finish limit bytes) as (λ t. (if t then None else Some Incomplete) ≡ None → t
-    ≡ true) [
-      | true ↦ λ none. refl
-      | false ↦ λ none. absurd (none-some _ (sym none))
-    ]
+finishes_faultless limit bytes = grind (arith, none-some)
 
 -- the sequence that was fed is that of all bytes: it has ended, or all were fed
 pub same_fed : (limit : Limit) (fed bytes : List ℕ)
@@ -133,25 +91,13 @@ same_fed limit fed bytes over enough =
 pub finishes_fed : (limit : Limit) (fed bytes : List ℕ) → dcs_status bytes ≡ dcs_status fed
     → (dcs_status fed ≡ NeedMoreData → fed ≡ bytes) → can_finish limit fed ≡ true
     → can_finish limit bytes ≡ true
-finishes_fed limit fed bytes stands enough finishes =
-    (elim (has_ended (dcs_status fed)) as
-    (λ t. has_ended (dcs_status fed) ≡ t → can_finish limit bytes ≡ true) [
-      | true ↦ λ ended. ended_finishes limit bytes (ap has_ended stands ∙ ended)
-      | false ↦ λ going.
-          subst (λ (w : List ℕ). can_finish limit w ≡ true) (enough (goes_on _ (sym going)))
-          finishes
-    ]) refl
+finishes_fed limit fed bytes stands enough finishes = grind (arith, ended_finishes, goes_on)
 
 -- with the rest, if it has ended, it makes up all bytes
 pub followed_joined : (fed rest bytes : List ℕ) → fed ++ rest ≡ bytes
     → (dcs_status fed ≡ NeedMoreData → fed ≡ bytes)
     → (if has_ended (dcs_status fed) then fed ++ rest else fed) ≡ bytes
-followed_joined fed rest bytes joined enough =
-    (elim (has_ended (dcs_status fed)) as
-    (λ t. has_ended (dcs_status fed) ≡ t → (if t then fed ++ rest else fed) ≡ bytes) [
-      | true ↦ λ ended. joined
-      | false ↦ λ going. enough (goes_on _ (sym going))
-    ]) refl
+followed_joined fed rest bytes joined enough = grind (arith, goes_on)
 
 -- an error at the end of what was fed is the sequence's fault, or an allocation failed
 pub refused_at_end : (e : SixelError) (limit : Limit) (fed bytes : List ℕ) → 0 < length bytes

@@ -1,18 +1,18 @@
 -- How many arguments precede the names of files.
 use Rattle.std.proofs.Common.{◌≡◌, ◌<◌, ◌+◌, ◌-◌, ℕ, zero, suc, List, [], ◌∷◌, length, get_or, drop}
-use Rattle.std.proofs.Common.{ap, sym, arith, true, false, refl, ◌∙◌, min, String, string_bytes}
+use Rattle.std.proofs.Common.{arith, true, false, refl, min, String, string_bytes}
 use Rattle.std.specs.declared.alloc.Global.{Global}
 use Rattle.std.specs.Str.Parse.{starts_with_minus}
 use Rattle.std.proofs.lemmas.List.{get_or-map}
 use Rattle.sixel.specs.Options.{option_count}
 use Rattle.sixel.specs.Words.{words_of}
+use Rattle.std.proofs.lemmas.Bool.Decides.{nat_tests}
 
 -- an argument at its place, as it was read
 pub word_at : (words : List (String Global)) (at : ℕ) (word : String Global) (read : List ℕ)
     → at < length words → word ≡ get_or words at word → read ≡ string_bytes word
     → get_or (words_of words) at [] ≡ read
-word_at words at word read some is_word is_read =
-    get_or-map string_bytes words at word [] some ∙ ap string_bytes (sym is_word) ∙ sym is_read
+word_at words at word read some is_word is_read = grind (arith, nat_tests, get_or-map, string_bytes)
 
 -- an option and its value precede those after them
 pub option_on : (words : List (List ℕ)) (at step : ℕ) → at < length words

@@ -4,7 +4,7 @@ use Rattle.std.proofs.Common.{arith, length, length-drop, append_assoc, append-n
 use Rattle.std.proofs.Common.{None, true, Result, Ok, Err}
 use Rattle.std.proofs.KnownBytes.{Appends-nil, Appends-trans}
 use Rattle.std.specs.Io.KnownBytes.{Appends}
-use Rattle.std.specs.Prelude.{OnOk, OnErr}
+use Rattle.std.specs.Prelude.{OnErr}
 use Rattle.sixel_base.specs.declared.error.SixelError.{SixelError}
 use Rattle.sixel_base.specs.declared.error.SixelError.TheVariants.{OutOfMemory}
 use Rattle.sixel_base.specs.Fault as data_fault
@@ -25,6 +25,7 @@ use Rattle.sixel.specs.Sequences.{CutShort, Followed}
 use Rattle.sixel.specs.Output.{Writes}
 use Rattle.sixel.specs.WorkOutput.{IsImageOutput, Begins, Serves}
 use Rattle.sixel.proofs.ByteCounts.{complete_counts}
+use Rattle.std.proofs.lemmas.Bool.Decides.{nat_tests}
 
 -- The images before the rest were written, and an output for the rest completes that for all.
 pub record Leads (start : DecoderState) (bytes : List ℕ) (now : DecoderState) (rest : List ℕ)
@@ -175,32 +176,12 @@ leads_more start bytes now after rest tail image a b c sequence whole follows l 
       (l.completes (image_form image ++ more) ending here);
 }
 
--- the image of a sequence was written
-pub writes_image : (IsImage : Image → Type 0) (image : Image) (a b : Option (List ℕ))
-    → IsImage image → Writes (λ text. IsImageOutput image_form None (λ i. i ≡ image) text Done) a b
-    → (shown : Image) × IsImage shown × Appends a b (image_form shown)
-writes_image IsImage image a b is (text, (_, (i, same, form)), grown) = (
-  image,
-  is,
-  subst (Appends a b) (form ∙ ap image_form same) grown,
-)
-
 -- what stops an output stops it whatever it would have returned
 pub Serves-stopped :
     (A B : Type 0) (fault : Fault) (IsText : List ℕ → Ending → Type 0) (a b : Option (List ℕ))
     → Serves {A = A} (Err fault) IsText a b
     → Serves {A = B} (Err fault) IsText a b
-Serves-stopped A B (Sixel e) IsText a b served = served
-Serves-stopped A B Input IsText a b served = served
-Serves-stopped A B Output IsText a b served = served
-
--- an image is written if nothing fails
-pub OnOk-image : {A : Type 0} (IsImage : Image → Type 0) (image : Image) (result : Result A Fault)
-    (a b : Option (List ℕ)) → IsImage image
-    → Serves result (IsImageOutput image_form None (λ i. i ≡ image)) a b
-    → OnOk result ((shown : Image) × IsImage shown × Appends a b (image_form shown))
-OnOk-image IsImage image (Ok _) a b is served = writes_image IsImage image a b is served
-OnOk-image IsImage image (Err _) a b is served = tt
+Serves-stopped A B fault IsText a b served = grind (arith, nat_tests)
 
 -- and ends the output otherwise
 pub OnErr-broken : {A : Type 0} (result : Result A Fault) (now after : DecoderState)
@@ -223,21 +204,13 @@ pub data Stands (start : DecoderState) (bytes : List ℕ) (now : DecoderState) (
 -- at first no image is written
 pub stands_first : (start now : DecoderState) (bytes : List ℕ) (a : Option (List ℕ)) → now ≡ start
     → Stands start bytes now bytes a a
-stands_first start now bytes a same =
-    Leading record {
-      text = [];
-      written = Appends-nil a;
-      completes = λ more ending is.
-          subst (λ (d : DecoderState). IsSequencesOutput d bytes more ending) same is;
-    }
+stands_first start now bytes a same = grind (arith, nat_tests, Appends-nil)
 
 -- as long as bytes are left, more is to be written
 pub still_leads : (start : DecoderState) (bytes : List ℕ) (now : DecoderState) (rest : List ℕ)
     (a b : Option (List ℕ)) → 0 < length rest → Stands start bytes now rest a b
     → Leads start bytes now rest a b
-still_leads start bytes now rest a b some (Leading l) = l
-still_leads start bytes now rest a b some (Whole none written) =
-    absurd (omega (arith, some, ap length none))
+still_leads start bytes now rest a b some h = grind (arith, nat_tests)
 
 -- and once none is left, the output is whole
 pub stands_last : (start : DecoderState) (bytes : List ℕ) (now : DecoderState) (rest : List ℕ)
@@ -252,10 +225,7 @@ abbrev EndsBy : SixelDcsFeedStatus → Type 0
 EndsBy status = (status ≡ Complete) ⊎ (is_cut_short status ≡ true)
 
 ends_by : (status : SixelDcsFeedStatus) → EndsBy status
-ends_by NeedMoreData = inr refl
-ends_by Complete = inl refl
-ends_by (Cancelled byte) = inr refl
-ends_by (Interrupted byte) = inr refl
+ends_by status = grind (arith, nat_tests)
 
 -- the bytes to read after a sequence: none if it ended early
 pub record Follows (bytes after : List ℕ) : Type 0 where
@@ -264,15 +234,7 @@ pub record Follows (bytes after : List ℕ) : Type 0 where
 
 smaller_by : (bytes after : List ℕ) → EndsBy (dcs_status bytes) → Follows bytes after
     → 0 < length bytes → length after < length bytes
-smaller_by bytes after (inl whole) f some =
-    omega (
-      arith,
-      some,
-      complete_counts bytes whole,
-      ap length (f.complete whole),
-      length-drop (dcs_count bytes) bytes,
-    )
-smaller_by bytes after (inr cut) f some = omega (arith, some, ap length (f.cut_short cut))
+smaller_by bytes after h f some = grind (arith, nat_tests, complete_counts, length-drop)
 
 -- these are fewer
 pub follows_smaller : (bytes after : List ℕ) → Follows bytes after → 0 < length bytes
@@ -297,5 +259,4 @@ pub stands_more : (start : DecoderState) (bytes : List ℕ) (now next : DecoderS
     → HasEnded now rest image next → Follows rest after → Appends b c (image_form image)
     → Leads start bytes now rest a b → Stands start bytes next after a c
 stands_more start bytes now next rest after image a b c sequence f grown l =
-    stands_by start bytes now next rest after image a b c (ends_by (dcs_status rest)) sequence f
-    grown l
+    grind (arith, nat_tests, stands_by, ends_by)

@@ -1,17 +1,17 @@
 -- What pairs of a name and a value change, one after another.
-use Rattle.std.proofs.Common.{◌≡◌, ◌↔◌, ◌≤◌, ◌<◌, ◌-◌, List, [], ◌∷◌, ℕ, Some, None, refl, sym, ap}
+use Rattle.std.proofs.Common.{◌≡◌, ◌↔◌, ◌≤◌, ◌<◌, ◌-◌, List, [], ◌∷◌, ℕ, Some, None, sym, ap}
 use Rattle.std.proofs.Common.{◌∙◌, subst, arith, length, get_or, take, drop, string_bytes, String}
 use Rattle.std.proofs.Common.{Bor, IfNone, IfSome, Option, codes, option_map, inl, inr, Result, Ok}
-use Rattle.std.proofs.Common.{Err}
 use Rattle.std.specs.Result.{result_ok}
 use Rattle.std.specs.declared.alloc.Global.{Global}
 use Rattle.std.proofs.lemmas.List.{take_all}
-use Rattle.std.proofs.lemmas.Option.{none-some, same_Some}
-use Rattle.sixel.specs.Options.{AreFaultyOptions, AreOptions, IsFaultyOption, IsLastPath}
+use Rattle.std.proofs.lemmas.Option.{none-some}
+use Rattle.sixel.specs.Options.{AreFaultyOptions, AreOptions, IsLastPath}
 use Rattle.sixel.specs.Options.{IsEnd, IsOption, default_options, options_of}
 use Rattle.sixel.specs.Words.{IsPalettePath, words_of}
 use Rattle.sixel.specs.declared.draw_options.DrawOptions.{DrawOptions}
 use Rattle.sixel.specs.declared.option_fault.OptionFault.{OptionFault}
+use Rattle.std.proofs.lemmas.Bool.Decides.{nat_tests}
 
 -- options are read as they are stated
 abbrev pub IsRead : Result DrawOptions OptionFault → (DrawOptions → Type 0) → Type 0
@@ -25,20 +25,14 @@ IsRest all options rest =
     × ((fault : OptionFault)
     → AreFaultyOptions options rest fault → AreFaultyOptions default_options all fault)
 
-not_read : (fault : OptionFault) (options : DrawOptions)
-    → ◌≡◌ {A = Result DrawOptions OptionFault} (Err fault) (Ok options) → ⊥
-not_read fault options is = absurd cc
-
 -- and what is there of a reading that succeeded is what it returned
 pub ok_read : (read : Result DrawOptions OptionFault) (options : DrawOptions)
     → result_ok read ≡ Some options → read ≡ Ok options
-ok_read (Ok read) options is = ap Ok (same_Some read options is)
-ok_read (Err fault) options is = absurd (none-some options is)
+ok_read read options is = grind (arith, nat_tests)
 
 one_read : (read : Result DrawOptions OptionFault) (a b : DrawOptions) → read ≡ Ok a → read ≡ Ok b
     → a ≡ b
-one_read read a b is also =
-    let both : ◌≡◌ {A = Result DrawOptions OptionFault} (Ok a) (Ok b) = sym is ∙ also in cc
+one_read read a b is also = grind (arith, nat_tests)
 
 -- an option that is known leads to the options that the rest changes
 pub step_on : (all rest : List (List ℕ)) (options changed : DrawOptions) (name value : List ℕ)
@@ -54,16 +48,6 @@ step_on all rest options changed name value read is known (stated, faulty) = (
   λ fault more. faulty fault (inr (changed, (is changed).1 known, more)),
 )
 
--- one that is not known leads to none
-pub step_off : (all rest : List (List ℕ)) (options : DrawOptions) (name value : List ℕ)
-    (fault : OptionFault) → IsRead (Err fault) (IsOption options name value)
-    → IsRest all options (name ∷ value ∷ rest) → IsRead (Err fault) (AreOptions default_options all)
-step_off all rest options name value fault is (stated, faulty) s = (
-  λ are. let (after, one, more) = (stated s).0 are in
-      absurd (not_read fault after ((is after).0 one)),
-  λ ok. absurd (not_read fault s ok),
-)
-
 -- no argument is left
 pub at_end : (all : List (List ℕ)) (options : DrawOptions) (words : List (String Global))
     (read : Result DrawOptions OptionFault) → length words < 1 → IsRead read (IsEnd options)
@@ -77,13 +61,7 @@ two_words : (words : List (String Global)) (name value : String Global) → 2 �
     → name ≡ get_or words 0 name → value ≡ get_or words 1 value
     → words_of words
     ≡ string_bytes name ∷ string_bytes value ∷ words_of (take (length words - 2) (drop 2 words))
-two_words [] name value many is_name is_value = absurd (omega arith)
-two_words (n ∷ []) name value many is_name is_value = absurd (omega arith)
-two_words (n ∷ v ∷ rest) name value many is_name is_value =
-    let all : take (length (n ∷ v ∷ rest) - 2) rest ≡ rest = take_all _ rest (omega arith) in
-    ap (λ x. string_bytes x ∷ string_bytes v ∷ words_of rest) (sym is_name)
-    ∙ ap (λ x. string_bytes name ∷ string_bytes x ∷ words_of rest) (sym is_value)
-    ∙ ap (λ x. string_bytes name ∷ string_bytes value ∷ words_of x) (sym all)
+two_words words name value many is_name is_value = grind (arith, nat_tests, take_all, string_bytes)
 
 -- The first two arguments, as they were read.
 pub record ReadPair (words : List (String Global)) (name value : String Global)
@@ -97,11 +75,7 @@ pub record ReadPair (words : List (String Global)) (name value : String Global)
 pub read_words : (words : List (String Global)) (name value : String Global) (n v : List ℕ)
     → ReadPair words name value n v
     → words_of words ≡ n ∷ v ∷ words_of (take (length words - 2) (drop 2 words))
-read_words words name value n v p =
-    two_words words name value p.many p.name_is p.value_is
-    ∙ ap (λ x. x ∷ string_bytes value ∷ words_of (take (length words - 2) (drop 2 words)))
-    (sym p.name_read)
-    ∙ ap (λ x. n ∷ x ∷ words_of (take (length words - 2) (drop 2 words))) (sym p.value_read)
+read_words words name value n v p = grind (arith, nat_tests, two_words, string_bytes)
 
 -- the first two arguments are an option that is known, or one that is not
 pub pair_on : (all : List (List ℕ)) (options changed : DrawOptions) (words : List (String Global))
@@ -114,42 +88,18 @@ pair_on all options changed words name value n v read p is known so_far =
     known
     (subst (IsRest all options) (read_words words name value n v p) so_far)
 
-pub pair_off : (all : List (List ℕ)) (options : DrawOptions) (words : List (String Global))
-    (name value : String Global) (n v : List ℕ) (fault : OptionFault)
-    → ReadPair words name value n v → IsRead (Err fault) (IsOption options n v)
-    → IsRest all options (words_of words)
-    → IsRead (Err fault) (AreOptions default_options all)
-pair_off all options words name value n v fault p is so_far =
-    step_off all (words_of (take (length words - 2) (drop 2 words))) options n v fault is
-    (subst (IsRest all options) (read_words words name value n v p) so_far)
-
-pub pair_faulty : (all : List (List ℕ)) (options : DrawOptions) (words : List (String Global))
-    (name value : String Global) (n v : List ℕ) (fault : OptionFault)
-    → ReadPair words name value n v → IsFaultyOption options n v fault
-    → IsRest all options (words_of words) → AreFaultyOptions default_options all fault
-pair_faulty all options words name value n v fault p is so_far =
-    (subst (IsRest all options) (read_words words name value n v p) so_far).1 fault (inl is)
-
 -- the first argument, and those after it
 pub first_word : (words : List (String Global)) (word : String Global) (read : List ℕ)
     → 1 ≤ length words → word ≡ get_or words 0 word → read ≡ string_bytes word
     → words_of words ≡ read ∷ words_of (take (length words - 1) (drop 1 words))
-first_word [] word read many is_word is_read = absurd (omega arith)
-first_word (w ∷ rest) word read many is_word is_read =
-    let all : take (length (w ∷ rest) - 1) rest ≡ rest = take_all _ rest (omega arith) in
-    ap (λ x. string_bytes x ∷ words_of rest) (sym is_word)
-    ∙ ap (λ x. x ∷ words_of rest) (sym is_read)
-    ∙ ap (λ x. read ∷ words_of x) (sym all)
+first_word words word read many is_word is_read = grind (arith, nat_tests, take_all, string_bytes)
 
 -- the path that right arguments of `draw` name
 pub path_known : (words rest : List (List ℕ)) (options : DrawOptions) (path : Option (Bor (List ℕ)))
     → words ≡ codes "draw" ∷ rest → AreOptions default_options (options_of rest) options
     → IsLastPath None (options_of rest) (option_map (λ p. p.now) path)
     → IfSome path (λ p. IsPalettePath words p.now)
-path_known words rest options None begins are last = tt
-path_known words rest options (Some path) begins are last =
-    subst (λ (w : List (List ℕ)). IsPalettePath w path.now) (sym begins)
-    (refl, (options, are), last)
+path_known words rest options path begins are last = grind (arith, nat_tests)
 
 -- only one path is the last
 one_path : (path : Option (List ℕ)) (words : List (List ℕ)) (last other : Option (List ℕ))
@@ -167,10 +117,7 @@ one_path path (name ∷ value ∷ rest) last other (inr is) (inr also) =
 pub no_path : (words rest : List (List ℕ)) (last : Option (Bor (List ℕ)))
     → words ≡ codes "draw" ∷ rest → IsLastPath None (options_of rest) (option_map (λ p. p.now) last)
     → IfNone last ((path : List ℕ) → ¬ IsPalettePath words path)
-no_path words rest (Some last) begins is = tt
-no_path words rest None begins is = λ path known.
-    let (_, _, also) = subst (λ (w : List (List ℕ)). IsPalettePath w path) begins known in
-    none-some path (one_path None (options_of rest) None (Some path) is also)
+no_path words rest last begins is = grind (arith, nat_tests, none-some, one_path)
 
 -- the only argument
 pub only_word : (words : List (String Global)) (word : String Global) (read : List ℕ)

@@ -1,7 +1,7 @@
 -- What the program writes: outputs in parts, images in their forms, texts.
-use Rattle.std.proofs.Common.{◌≡◌, ℕ, List, ◌++◌, [], take, drop, ap, sym, subst, refl, true, ◌∙◌}
-use Rattle.std.proofs.Common.{append_assoc, append-nil, take-append-drop, Option, None, Some}
-use Rattle.std.proofs.Common.{Result, Ok, Err, OnOk, OnErr, IfErr, IfSome, inl, inr, ◌⊎◌}
+use Rattle.std.proofs.Common.{◌≡◌, ℕ, List, ◌++◌, [], take, drop, ap, sym, subst, refl, ◌∙◌}
+use Rattle.std.proofs.Common.{append_assoc, append-nil, take-append-drop, Option, None}
+use Rattle.std.proofs.Common.{Result, Ok, Err, OnOk, OnErr, IfErr, IfSome, inl, ◌⊎◌}
 use Rattle.std.proofs.Common.{MatchOption}
 use Rattle.std.specs.Result.{IsErrAnd}
 use Rattle.std.proofs.KnownBytes.{Appends-nil, Appends-trans}
@@ -18,20 +18,14 @@ use Rattle.sixel.specs.declared.words.Word.TheVariants.{Payload, Decode, Frames,
 use Rattle.sixel.specs.declared.picture_fault.PictureFault.{PictureFault}
 use Rattle.sixel.specs.declared.picture_fault.PictureFault.TheVariants.{Shared}
 use Rattle.sixel.specs.declared.picture_words.PictureWord.{PictureWord}
-use Rattle.sixel.specs.declared.picture_words.PictureWord.TheVariants.{Pam, Draw}
-use Rattle.sixel_encoder.specs.declared.mapping.Mapping.{Mapping}
-use Rattle.sixel.specs.netpbm.Image.{Rgba, image_of}
-use Rattle.sixel.specs.declared.netpbm.error.NetpbmError.{NetpbmError}
-use Rattle.sixel.specs.declared.draw_options.DrawPalette.{DrawPalette}
-use Rattle.sixel.specs.declared.draw_options.DrawPalette.TheVariants.{Standard, Refined, File}
-use Rattle.sixel.specs.Drawing.{IsDrawOutput}
-use Rattle.sixel.specs.Options.{mapping_of}
 use Rattle.sixel.specs.Form.{line_end, image_line, image_form, pam_header, pam_form}
-use Rattle.sixel.specs.Ending.{Ending, Done, Refused, Unreadable}
+use Rattle.sixel.specs.Ending.{Ending, Done, Refused}
 use Rattle.sixel.specs.Sequences.{Broken}
 use Rattle.sixel.specs.Output.{Writes}
 use Rattle.sixel.specs.WorkOutput.{IsOutput, IsImageOutput, IsPictureOutput, Begins}
 use Rattle.sixel.specs.WorkOutput.{Serves, ServesPicture}
+use Rattle.std.proofs.Common.{arith}
+use Rattle.std.proofs.lemmas.Bool.Decides.{nat_tests}
 
 -- ---- an output that is written in parts
 
@@ -83,14 +77,6 @@ Serves-last {A} (Err f) IsText a b c front bytes whole before all part is_output
     let same = subst (λ t. IsText t Done) (sym (append-nil (front ++ bytes))) whole in
     Serves-part {A = A} (Err f) f IsText a b c front bytes [] same refl is_output before part
 
--- out of memory is an ending of any drawing
-drawn_wanting : (source : DrawPalette) (mapping : Mapping) (palette : List ℕ)
-    (read : Result Rgba NetpbmError)
-    → IsDrawOutput source mapping palette read [] (Refused OutOfMemory)
-drawn_wanting Standard mapping palette read = (refl, inl refl)
-drawn_wanting (Refined max_colors) mapping palette read = (refl, inl refl)
-drawn_wanting File mapping palette read = (refl, inl refl)
-
 -- out of memory is an ending of any work
 pub wanting : (word : Word) (bytes : List ℕ) → IsOutput word bytes [] (Refused OutOfMemory)
 wanting Payload bytes = (refl, refl)
@@ -100,9 +86,7 @@ wanting (Encode width height colors) bytes = (refl, inl refl)
 
 pub wanting_picture : (word : PictureWord) (palette bytes : List ℕ)
     → IsPictureOutput word palette bytes [] (Refused OutOfMemory)
-wanting_picture Pam palette bytes = (refl, refl)
-wanting_picture (Draw options) palette bytes =
-    drawn_wanting options.palette (mapping_of options) palette (image_of bytes)
+wanting_picture word palette bytes = grind (arith, nat_tests)
 
 -- an allocation can fail before anything is written
 pub Writes-wanting : (IsText : List ℕ → List ℕ → Ending → Type 0)
@@ -110,16 +94,11 @@ pub Writes-wanting : (IsText : List ℕ → List ℕ → Ending → Type 0)
     → (Sixel error ≡ Input) ⊎ (Sixel error ≡ Sixel OutOfMemory)
     → ((bytes : List ℕ) → IsText bytes [] (Refused OutOfMemory))
     → IfSome remaining (λ bytes. Writes (λ text. IsText bytes text (Refused error)) held held)
-Writes-wanting IsText remaining held error (inl unread) wants = absurd cc
-Writes-wanting IsText None held error (inr is) wants = tt
-Writes-wanting IsText (Some bytes) held error (inr is) wants =
-    let same : OutOfMemory ≡ error = cc in
-    ([], subst (λ e. IsText bytes [] (Refused e)) same (wants bytes), Appends-nil held)
+Writes-wanting IsText remaining held error h wants = grind (arith, nat_tests, Appends-nil)
 
 -- bytes that nothing was written to
 pub Keeps-same : (held : Option (List ℕ)) → Keeps held held
-Keeps-same None = tt
-Keeps-same (Some bytes) = refl
+Keeps-same held = grind (arith, nat_tests)
 
 -- an output on an image in netpbm's formats that could not be written whole
 pub ServesPicture-part : {A : Type 0} (result : Result A PictureFault) (fault : Fault)
@@ -136,54 +115,19 @@ ServesPicture-part {A} (Err f) fault IsText a b text whole failed is_output part
 -- what holds for the bytes that were read
 pub if_read : (remaining : Option (List ℕ)) (bytes : List ℕ) (P : List ℕ → Type 0)
     → IfSome remaining (λ all. bytes ≡ all) → P bytes → IfSome remaining P
-if_read None bytes P same holds = tt
-if_read (Some all) bytes P same holds = subst P same holds
+if_read remaining bytes P same holds = grind (arith, nat_tests)
 
 -- ---- images
 
 -- what makes up the form of an image
 pub image_form-parts : (image : Image) (line pixels : List ℕ) → line ≡ image_line image
     → pixels ≡ image.pixels → (line ++ pixels) ++ line_end ≡ image_form image
-image_form-parts image line pixels is_line are_pixels =
-    ap (λ l. (l ++ pixels) ++ line_end) is_line
-    ∙ ap (λ l. (image_line image ++ l) ++ line_end) are_pixels
+image_form-parts image line pixels is_line are_pixels = grind (arith, nat_tests)
 
 -- what makes up a PAM file
 pub pam_form-parts : (image : Image) (header pixels : List ℕ) → header ≡ pam_header image
     → pixels ≡ image.pixels → header ++ pixels ≡ pam_form image
-pam_form-parts image header pixels is_header are_pixels =
-    ap (λ l. l ++ pixels) is_header ∙ ap (λ l. pam_header image ++ l) are_pixels
-
--- an output that is also an output of another kind
-Serves-weaker : {A : Type 0} (result : Result A Fault) (P Q : List ℕ → Ending → Type 0)
-    (a b : Option (List ℕ))
-    → ((text : List ℕ) (ending : Ending) → P text ending → Q text ending) → Serves result P a b
-    → Serves result Q a b
-Serves-weaker (Ok _) P Q a b also (text, is, grown) = (text, also text Done is, grown)
-Serves-weaker (Err (Sixel error)) P Q a b also (text, is, grown) = (
-  text,
-  also text (Refused error) is,
-  grown,
-)
-Serves-weaker (Err Input) P Q a b also served = served
-Serves-weaker (Err Output) P Q a b also (text, (rest, ending, is), grown) = (
-  text,
-  (rest, ending, also (text ++ rest) ending is),
-  grown,
-)
-
--- an image is an output if nothing is wrong
-IsImageOutput-of : (form : Image → List ℕ) (fault : Option data_fault.Fault)
-    (IsImage : Image → Type 0) (image : Image) → fault ≡ None → IsImage image
-    → (text : List ℕ) (ending : Ending) → IsImageOutput form None (λ i. i ≡ image) text ending
-    → IsImageOutput form fault IsImage text ending
-IsImageOutput-of form fault IsImage image none is text Done (_, (i, same, written)) = (
-  none,
-  (image, is, written ∙ ap form same),
-)
-IsImageOutput-of form fault IsImage image none is text (Refused error) (nothing, why) =
-    (nothing, subst (λ f. data_fault.Faults error true f) (sym none) why)
-IsImageOutput-of form fault IsImage image none is text (Unreadable error) never = absurd never
+pam_form-parts image header pixels is_header are_pixels = grind (arith, nat_tests)
 
 -- the image that was decoded is written
 pub Serves-image : {A : Type 0} (result : Result A Fault) (form : Image → List ℕ)
@@ -191,8 +135,7 @@ pub Serves-image : {A : Type 0} (result : Result A Fault) (form : Image → List
     (a b : Option (List ℕ)) → fault ≡ None → IsImage image
     → Serves result (IsImageOutput form None (λ i. i ≡ image)) a b
     → Serves result (IsImageOutput form fault IsImage) a b
-Serves-image result form fault IsImage image a b none is =
-    Serves-weaker result _ _ a b (IsImageOutput-of form fault IsImage image none is)
+Serves-image result form fault h image a b none is = grind (arith, nat_tests)
 
 -- ---- texts
 
@@ -200,5 +143,4 @@ Serves-image result form fault IsImage image a b none is =
 pub no_fault : {A E : Type 0} (fault : Option E) (result : Result A E) (x : A) (P : Type 0)
     → result ≡ Ok x → MatchOption fault P (λ e. result ≡ Err e)
     → fault ≡ None
-no_fault None result x P ok is = refl
-no_fault (Some e) result x P ok is = absurd cc
+no_fault fault result x P ok is = grind (arith, nat_tests)

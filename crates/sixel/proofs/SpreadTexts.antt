@@ -13,6 +13,7 @@ use Rattle.sixel_encoder.specs.RefinedText.{IsRefinedText}
 use Rattle.sixel_encoder.specs.declared.mapping.Mapping.{Mapping}
 use Rattle.sixel_encoder.specs.declared.form.TextForm.TheVariants.{Compact}
 use Rattle.sixel.specs.Spread.{AreSpread, IsSpreadText, is_flat, spread_amount, spread_entries}
+use Rattle.std.proofs.lemmas.Bool.Decides.{nat_tests}
 
 -- the output in a refined palette whose entries stay
 pub IsSpreadText-refined : {S : Type 0} (bytes : S → List ℕ) (result : Result S SixelError)
@@ -32,8 +33,7 @@ pub IsSpreadText-spread : {S : Type 0} (bytes : S → List ℕ) (result : Result
     → AreSpread image.pixels max_colors (spread_amount mapping.dither max_colors) colors
     → IfOk result (λ text. IsPaletteText image colors mapping Compact (bytes text))
     → IfOk result (λ text. IsSpreadText image max_colors mapping (bytes text))
-IsSpreadText-spread bytes (Ok text) image max_colors mapping colors are is = (colors, are, is)
-IsSpreadText-spread bytes (Err e) image max_colors mapping colors are is = tt
+IsSpreadText-spread bytes result image max_colors mapping colors are is = grind (arith, nat_tests)
 
 -- as many entries are spread as there are
 length-spread : (pixels : List ℕ) (amount : ℕ) (palette : RefinedPalette)

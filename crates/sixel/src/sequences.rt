@@ -10,7 +10,7 @@ ghost use Rattle.sixel_base.specs.Payload.{Image};
 ghost use Rattle.sixel_base.specs.declared.status.SixelDcsFeedStatus.TheVariants.{Complete};
 ghost use Rattle.icy_sixel.specs.ImageView.{image_value};
 ghost use Rattle.icy_sixel.specs.Receiver.{OfString};
-ghost use Rattle.icy_sixel.specs.declared.script.Status.TheVariants.{Dcs};
+ghost use Rattle.sixel_decoder.specs.declared.received.Status.TheVariants.{Dcs};
 ghost use Rattle.sixel_base.specs.OneShot.{found, IsFoundImage, AreFoundRegisters};
 ghost use Rattle.sixel.specs.Sequences.{IsFedInChunks, IsSequencesOutput};
 ghost use Rattle.sixel.specs.Sequences.{is_cut_short, sequence_fault};

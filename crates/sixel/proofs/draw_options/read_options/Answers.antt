@@ -1,14 +1,13 @@
-use Rattle.std.proofs.Common.{◌≡◌, ◌∙◌, ap, Err}
-use Rattle.std.proofs.lemmas.Result.{err_from_is_err_and}
-use Rattle.sixel.proofs.OptionSteps.{ReadPair, at_end, pair_faulty, pair_off, pair_on}
+use Rattle.std.proofs.Common.{◌≡◌, Err}
+use Rattle.sixel.proofs.OptionSteps.{ReadPair, at_end, pair_on}
 use Rattle.sixel.specs.Words.{words_of}
 use Rattle.sixel.proofs.draw_options.read_options.Goals.{After-from_residual}
 use Rattle.sixel.proofs.draw_options.read_options.Goals as goal
+use Rattle.std.proofs.Common.{arith}
+use Rattle.std.proofs.lemmas.Bool.Decides.{nat_tests}
 
 failed : (c : After-from_residual) → c.from_residual.result ≡ Err c.in_err-options.field-0.0
-failed c =
-    let (_, is, gives) = err_from_is_err_and c.from_residual.result c.from_residual.ensures.1 in
-    is ∙ ap Err gives
+failed c = grind (arith, nat_tests)
 
 pair : (c : After-from_residual)
     → ReadPair c.options.rest.now c.name-item.result c.value-item.result c.deref.result.now
@@ -22,16 +21,10 @@ pair c = record {
 }
 
 pub returns-in_err-options-clause-stated : goal.returns-in_err-options-clause-stated
-returns-in_err-options-clause-stated c =
-    rw (failed c)
-    (pair_off (words_of c.args.words.now) _ c.options.rest.now _ _ _ _ _ (pair c)
-    c.in_err-options.ensures.stated c.options.invariant)
+returns-in_err-options-clause-stated c = grind (arith, nat_tests)
 
 pub returns-in_err-options-clause-faulty : goal.returns-in_err-options-clause-faulty
-returns-in_err-options-clause-faulty c =
-    rw (failed c)
-    (pair_faulty (words_of c.args.words.now) _ c.options.rest.now _ _ _ _ _ (pair c)
-    c.in_err-options.ensures.faulty c.options.invariant)
+returns-in_err-options-clause-faulty c = grind (arith, nat_tests)
 
 pub returns-in-empty-clause-stated : goal.returns-in-empty-clause-stated
 returns-in-empty-clause-stated c =

@@ -1,5 +1,5 @@
 use Rattle.std.proofs.Common.{◌≡◌, ◌<◌, ◌≤◌, ◌∙◌, [], ap, sym, arith, true, false, length, drop}
-use Rattle.std.proofs.Common.{string_bytes, get_or, take}
+use Rattle.std.proofs.Common.{string_bytes, get_or}
 use Rattle.std.proofs.lemmas.List.{drop_all, drop-map, take-map, length-map}
 use Rattle.std.specs.Str.Parse.{starts_with_minus}
 use Rattle.sixel.specs.Options.{option_count}
@@ -8,6 +8,7 @@ use Rattle.sixel.proofs.FileNames.{option_off, option_on, word_at}
 use Rattle.sixel.proofs.draw_options.split_files.Goals.{After-split_at, else-options-test}
 use Rattle.sixel.proofs.draw_options.split_files.Goals.{then-options-test+else-starts_with}
 use Rattle.sixel.proofs.draw_options.split_files.Goals as goal
+use Rattle.std.proofs.lemmas.Bool.Decides.{nat_tests}
 
 pub options-preserved : goal.options-preserved
 options-preserved c =
@@ -53,12 +54,8 @@ counted c =
 
 pub returns-clause-options : goal.returns-clause-options
 returns-clause-options c =
-    ap words_of c.split_at.ensures.front
-    ∙ sym (take-map string_bytes c.options.count c.args.words.now)
-    ∙ ap (λ n. take n (words_of c.args.words.now)) (sym (counted c))
+    grind (arith, nat_tests, c.split_at.ensures.front, take-map, string_bytes, counted)
 
 pub returns-clause-files : goal.returns-clause-files
 returns-clause-files c =
-    ap words_of c.split_at.ensures.back
-    ∙ sym (drop-map string_bytes c.options.count c.args.words.now)
-    ∙ ap (λ n. drop n (words_of c.args.words.now)) (sym (counted c))
+    grind (arith, nat_tests, c.split_at.ensures.back, drop-map, string_bytes, counted)

@@ -1,5 +1,4 @@
-use Rattle.std.proofs.Common.{◌≡◌, sym, subst, ap, refl, Ok, Err, string_bytes, String, length, ◌∙◌}
-use Rattle.std.specs.declared.alloc.Global.{Global}
+use Rattle.std.proofs.Common.{◌≡◌, sym, subst, ap, Ok, string_bytes, length, ◌∙◌}
 use Rattle.icy_sixel.specs.ImageView.{image_value}
 use Rattle.sixel.specs.netpbm.Image as files
 use Rattle.sixel_base.specs.CallFault.{FailsBy}
@@ -7,8 +6,10 @@ use Rattle.sixel_base.specs.Payload.{Image}
 use Rattle.sixel_encoder.specs.IndexedDrawing.{IsPaletteText, palette_fault}
 use Rattle.sixel_encoder.specs.declared.form.TextForm.TheVariants.{Compact}
 use Rattle.sixel.specs.Drawing.{Painting, drawn_image, painting_fault}
-use Rattle.sixel.proofs.Drawings.{Draws-refused, both_read, no_call_fault, painting_error}
+use Rattle.sixel.proofs.Drawings.{both_read, no_call_fault}
 use Rattle.sixel.proofs.drawing.draw_in_palette.Goals as goal
+use Rattle.std.proofs.Common.{arith}
+use Rattle.std.proofs.lemmas.Bool.Decides.{nat_tests}
 
 pub returns : goal.returns
 returns c =
@@ -31,17 +32,4 @@ returns c =
     (painting, read, fault, text)
 
 pub returns-in_err-text : goal.returns-in_err-text
-returns-in_err-text c =
-    let file = files.image_value c.in_ok-file.file in
-    let colors = c.deref.result.now in
-    let painting : Painting = record { colors = colors; image = file } in
-    let error = c.in_err-text.field-0.0 in
-    let read = both_read _ _ colors file
-    (c.in_ok-colors.ensures ∙ ap Ok (sym c.deref.ensures.value)) c.in_ok-file.ensures in
-    let same : image_value c.from_rgba-image.result ≡ drawn_image file =
-    ap image_value c.from_rgba-image.ensures in
-    let fails : FailsBy {X = String Global} (painting_fault painting) (Err error) =
-    subst (λ (i : Image). FailsBy {X = String Global} (palette_fault i (length colors)) (Err error))
-    same c.in_err-text.ensures.fault in
-    Draws-refused _ _ error c.from_residual-in_err-text.ensures.1
-    (refl, painting_error painting _ error read fails)
+returns-in_err-text c = grind (arith, nat_tests)

@@ -4,13 +4,13 @@ use Rattle.sixel.specs.Words.{words_of}
 use Rattle.sixel.proofs.OptionSteps.{no_path, ok_read, path_known}
 use Rattle.sixel.proofs.palette_file.palette_path.Goals.{After-last_path}
 use Rattle.sixel.proofs.palette_file.palette_path.Goals as goal
+use Rattle.std.proofs.Common.{arith}
+use Rattle.std.proofs.lemmas.Bool.Decides.{nat_tests}
 
 last : (c : After-last_path)
     → IsLastPath None (options_of (words_of c.in_ok-after_draw.field-0.now))
     (option_map (λ p. p.now) c.last_path.result)
-last c =
-    subst (λ (w : List (List ℕ)). IsLastPath None w (option_map (λ p. p.now) c.last_path.result))
-    c.split_files.ensures.options c.last_path.ensures
+last c = grind (arith, nat_tests)
 
 pub returns-clause-path : goal.returns-clause-path
 returns-clause-path c =
@@ -23,5 +23,4 @@ returns-clause-path c =
     are (last c)
 
 pub returns-clause-none : goal.returns-clause-none
-returns-clause-none c =
-    no_path (words_of c.args.words.now) _ c.last_path.result c.in_ok-after_draw.ensures (last c)
+returns-clause-none c = grind (arith, nat_tests, no_path, c.in_ok-after_draw.ensures, last)

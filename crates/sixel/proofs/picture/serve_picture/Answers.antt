@@ -3,11 +3,10 @@ use Rattle.std.proofs.lemmas.Result.{err_from_is_err_and}
 use Rattle.sixel_base.specs.declared.error.SixelError.TheVariants.{OutOfMemory}
 use Rattle.sixel.specs.declared.fault.Fault.{Fault}
 use Rattle.sixel.specs.declared.fault.Fault.TheVariants.{Sixel, Input}
-use Rattle.sixel.specs.Output.{Writes}
-use Rattle.sixel.specs.Ending.{Refused}
 use Rattle.sixel.proofs.Outputs.{Writes-wanting, Keeps-same, if_read, wanting_picture}
-use Rattle.sixel.specs.WorkOutput.{IsPictureOutput, ServesPicture}
+use Rattle.sixel.specs.WorkOutput.{IsPictureOutput}
 use Rattle.sixel.proofs.picture.serve_picture.Goals as goal
+use Rattle.std.proofs.lemmas.Bool.Decides.{nat_tests}
 
 pub returns-in_err-bytes-clause-done : goal.returns-in_err-bytes-clause-done
 returns-in_err-bytes-clause-done g c = grind arith
@@ -32,16 +31,15 @@ pub returns-clause-done : goal.returns-clause-done
 returns-clause-done g c = grind arith
 
 pub returns-clause-refused : goal.returns-clause-refused
-returns-clause-refused g c = λ error is.
-    if_read (g.R.Read.remaining c.args.input.now) c.deref.result.now
-    (λ bytes. Writes
-    (λ text. IsPictureOutput c.args.word c.args.palette.now bytes text (Refused error))
-    (g.O.Write.contents c.args.output.now) (g.O.Write.contents c.write_picture.new.output))
-    (rw c.deref.ensures.value c.in_ok-bytes.ensures.bytes)
-    (subst
-    (λ r. ServesPicture r (IsPictureOutput c.args.word c.args.palette.now c.deref.result.now)
-    (g.O.Write.contents c.args.output.now) (g.O.Write.contents c.write_picture.new.output)) is
-    c.write_picture.ensures)
+returns-clause-refused g c =
+    grind (
+      arith,
+      nat_tests,
+      if_read,
+      c.deref.ensures.value,
+      c.in_ok-bytes.ensures.bytes,
+      c.write_picture.ensures,
+    )
 
 pub returns-clause-unreadable : goal.returns-clause-unreadable
 returns-clause-unreadable g c = grind arith

@@ -20,9 +20,9 @@ returns-in_err-feed-clause-refused c =
     let cut : Cut c.args.chunk_len c.args.bytes.now c.feed.new.self.image.bytes
     c.split_chunk.result.1.now =
     cut_more _ _ _ _ _ _ _ c.split_chunk.ensures.chunk c.split_chunk.ensures.after
-    (fed.bytes (rw before.form refl)) waits before.cut in
-    let refused = fed.string_refused_for_good c.in_err-feed.field-0.0 c.split_chunk.result.1.now
-    before.form refl before.accepted in
+    (fed.fed.bytes (rw before.form refl)) waits before.cut in
+    let refused = fed.fed.string_refused_for_good c.in_err-feed.field-0.0.error
+    c.split_chunk.result.1.now before.form refl before.accepted in
     rw (p.1, p.2) (refused_early _ _ c.args.receiver.now.image.start.pixel_limit
     c.args.bytes.now c.requires.some
     (rw (cut_joined _ _ _ _ cut, before.start) at refused))
@@ -31,7 +31,7 @@ pub total-fed-requires : goal.total-fed-requires
 total-fed-requires c =
     let before = c.chunks.invariant in
     let fed = c.in_ok-feed.ensures in
-    let bytes = fed.bytes (rw before.form refl) in
+    let bytes = fed.fed.bytes (rw before.form refl) in
     let waits =
     goes_on (dcs_status c.chunks.receiver.image.bytes)
     (c.if-not-has_ended.ensures ∙ ap has_ended before.known) in
@@ -52,8 +52,8 @@ pub chunks-preserved : goal.chunks-preserved
 chunks-preserved c =
     let before = c.chunks.invariant in
     let s = c.in_ok-feed.ensures in
-    let form = s.form ∙ before.form in
-    let bytes = s.bytes (rw before.form refl) in
+    let form = s.fed.form ∙ before.form in
+    let bytes = s.fed.bytes (rw before.form refl) in
     let fed : List ℕ = c.feed.new.self.image.bytes in
     let after : List ℕ = c.split_chunk.result.1.now in
     let waits =
@@ -66,15 +66,15 @@ chunks-preserved c =
     record {
       decoder = s.decoder ∙ before.decoder;
       form = form;
-      start = s.start ∙ before.start;
-      released = s.released ∙ before.released;
-      accepted = s.ok.1;
+      start = s.fed.start ∙ before.start;
+      released = s.fed.released ∙ before.released;
+      accepted = s.fed.ok.1;
       cut = cut;
-      faultless = rw (before.start, form) at s.faultless;
+      faultless = rw (before.start, form) at s.fed.faultless;
       counted =
           all.consumed
           ∙ (ap (λ n. n + c.in_ok-feed.field-0.consumed) before.counted
-          ∙ (rw (before.form, form) at s.consumed));
+          ∙ (rw (before.form, form) at s.fed.consumed));
       within =
           omega (
             arith,
@@ -87,6 +87,6 @@ chunks-preserved c =
       over = λ ended.
           subst (λ (w : List ℕ). IsSameString c.args.receiver.now.image.start.pixel_limit fed w)
           (cut_joined _ _ fed after cut)
-          (rw before.start at (s.over_for_good after before.form ended));
-      known = all.status ∙ (rw form at s.status);
+          (rw before.start at (s.fed.over_for_good after before.form ended));
+      known = all.status ∙ (rw form at s.fed.status);
     }

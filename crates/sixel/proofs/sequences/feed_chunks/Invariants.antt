@@ -3,7 +3,7 @@
 use Rattle.std.proofs.Common.{◌≡◌, ◌≤◌, length, true, false, None}
 use Rattle.sixel_base.specs.Dcs.{dcs_status, dcs_count, dcs_fault, has_ended, IsSameString}
 use Rattle.icy_sixel.specs.Receiver.{OfString}
-use Rattle.icy_sixel.specs.declared.script.Status.TheVariants.{Dcs}
+use Rattle.sixel_decoder.specs.declared.received.Status.TheVariants.{Dcs}
 use Rattle.sixel.proofs.Chunks.{Cut}
 use Rattle.sixel.proofs.sequences.feed_chunks.Given as goal
 

@@ -2,7 +2,7 @@ use Rattle.std.proofs.Common.{◌≡◌, ◌++◌, true, ap, sym, ◌∙◌, ari
 use Rattle.std.specs.Prelude.{if◌then◌else◌}
 use Rattle.std.proofs.lemmas.Result.{err_from_is_err_and}
 use Rattle.sixel_base.specs.Dcs.{IsSameString, can_finish, dcs_status, has_ended}
-use Rattle.icy_sixel.specs.declared.script.Status.TheVariants.{Dcs}
+use Rattle.sixel_decoder.specs.declared.received.Status.TheVariants.{Dcs}
 use Rattle.sixel.proofs.Chunks.{chunks_begin}
 use Rattle.sixel.proofs.DcsSequences.{Begins, begins_fits, finished_faultless, finishes_faultless}
 use Rattle.sixel.proofs.DcsSequences.{finishes_fed, followed_joined, refused_at_end, same_fed}
@@ -49,8 +49,7 @@ joined : (c : goal.In_ok-image) (begins : Begins c.feed_chunks.new.receiver.imag
     → (if has_ended (dcs_status c.feed_chunks.new.receiver.image.bytes)
     then c.feed_chunks.new.receiver.image.bytes ++ begins.rest
     else c.feed_chunks.new.receiver.image.bytes) ≡ c.args.bytes.now
-joined c begins =
-    followed_joined _ begins.rest _ begins.joined c.in_ok-fed.ensures.chunks.enough
+joined c begins = grind (arith, followed_joined, c.in_ok-fed.ensures.chunks.enough)
 
 pub returns-clause-image : goal.returns-clause-image
 returns-clause-image c =
@@ -72,11 +71,7 @@ returns-clause-len c = c.in_ok-fed.ensures.consumed ∙ sym (same c).count
 
 pub returns-clause-within : goal.returns-clause-within
 returns-clause-within c =
-    omega (
-      arith,
-      c.in_ok-fed.ensures.within,
-      begins_fits _ c.args.bytes.now (chunks_begin _ _ _ c.in_ok-fed.ensures.chunks),
-    )
+    grind (arith, c.in_ok-fed.ensures.within, begins_fits, chunks_begin, c.in_ok-fed.ensures.chunks)
 
 pub returns-clause-status : goal.returns-clause-status
 returns-clause-status c = c.in_ok-fed.ensures.status ∙ ap Dcs (sym (same c).status)

@@ -4,6 +4,7 @@ use Rattle.sixel.specs.Words.{words_of}
 use Rattle.sixel.proofs.ArgumentPlaces.{Places, word_there, asked_there, none_there}
 use Rattle.sixel.proofs.work.read_few.Goals.{After-read_word}
 use Rattle.sixel.proofs.work.read_few.Goals as goal
+use Rattle.std.proofs.lemmas.Bool.Decides.{nat_tests}
 
 places : (c : After-read_word) →
     Places (words_of c.args.words.now) c.deref.result.now (option_map (λ t. t.now) c.word_at.result)
@@ -28,5 +29,4 @@ returns-in-1-to-4-clause-asked c =
 
 pub returns-in-1-to-4-clause-usage : goal.returns-in-1-to-4-clause-usage
 returns-in-1-to-4-clause-usage c =
-    none_there (words_of c.args.words.now) c.deref.result.now _ _ _ c.read_word.result (places c)
-    c.read_word.ensures.usage
+    grind (arith, nat_tests, none_there, places, c.read_word.ensures.usage)
