@@ -1,7 +1,7 @@
 -- How the fields of a text change as the text goes on by a digit or a semicolon.
 use Rattle.std.proofs.Common.{◌≡◌, ◌≢◌, ℕ, zero, suc, ◌+◌, ◌-◌, ◌*◌, ◌<◌, ◌≤◌, min, max, Bool, true}
 use Rattle.std.proofs.Common.{false, cond, ◌==◌, List, [], ◌∷◌, ◌++◌, map, length, get_or, refl}
-use Rattle.std.proofs.Common.{ap, ◌∙◌, arith, rules, tests, length-append}
+use Rattle.std.proofs.Common.{arith, rules, tests, length-append}
 use Rattle.std.proofs.lemmas.List.{map-append, length-map}
 use Rattle.std.specs.List.{slice_split, onto_first}
 use Rattle.std.specs.Char.{digit_value}
@@ -42,9 +42,8 @@ slice_split-push_no p (y ∷ ys) x fails =
     grind (arith, nat_tests, split_step, length-slice_split, slice_split-push_no p ys x fails)
 
 -- one element in front of a text that ends in an empty piece
-split_next : (b : Bool) (y : ℕ) (ps : List (List ℕ)) → 0 < length ps
-    → cond b ([] ∷ (ps ++ [] ∷ [])) (onto_first y (ps ++ [] ∷ []))
-    ≡ cond b ([] ∷ ps) (onto_first y ps) ++ [] ∷ []
+split_next : (b : Bool) (y : ℕ) (ps : List (List ℕ)) → 0 < length ps → cond b ([] ∷ (ps ++ [] ∷ []))
+    (onto_first y (ps ++ [] ∷ [])) ≡ cond b ([] ∷ ps) (onto_first y ps) ++ [] ∷ []
 split_next b y ps some = grind (arith, common_steps, nat_tests)
 
 -- an element that separates begins a piece
@@ -67,9 +66,9 @@ parameter-push piece byte low high = grind (arith, nat_tests, digits_value_push,
 map-onto_last : (g : List ℕ → ℕ) (f : ℕ → ℕ) (x : ℕ) → ((p : List ℕ) → g (p ++ x ∷ []) ≡ f (g p))
     → (ps : List (List ℕ)) → 0 < length ps → map g (onto_last x ps) ≡ on_last f (map g ps)
 map-onto_last g f x step [] some = absurd (omega arith)
-map-onto_last g f x step (p ∷ []) some = ap (λ n. n ∷ []) (step p)
+map-onto_last g f x step (p ∷ []) some = rw (step p) refl
 map-onto_last g f x step (p ∷ q ∷ ps) some =
-    ap (λ ns. g p ∷ ns) (map-onto_last g f x step (q ∷ ps) (omega arith))
+    rw (map-onto_last g f x step (q ∷ ps) (omega arith)) refl
 
 pub length-on_last : (f : ℕ → ℕ) (ns : List ℕ) → length (on_last f ns) ≡ max 1 (length ns)
 length-on_last f [] = refl
@@ -106,18 +105,16 @@ pub fields-push_digit : (text : List ℕ) (byte : ℕ) → 48 ≤ byte → byte 
 fields-push_digit [] byte low high = grind (arith, nat_tests)
 fields-push_digit (x ∷ xs) byte low high =
     let separates : ℕ → Bool = λ b. b == 59 in
-    ap (map parameter) (slice_split-push_no separates (x ∷ xs) byte (digit-no_separator byte high))
-    ∙ map-onto_last parameter (raised byte) byte
-    (λ p. parameter-push p byte low high)
-    (slice_split separates (x ∷ xs)) (omega (arith, length-slice_split separates (x ∷ xs)))
+    let some = length-slice_split separates (x ∷ xs) in
+    rw (slice_split-push_no separates (x ∷ xs) byte (digit-no_separator byte high))
+    (map-onto_last parameter (raised byte) byte (λ p. parameter-push p byte low high)
+    (slice_split separates (x ∷ xs)) (omega arith))
 
 -- the fields of a text that goes on by a semicolon
 fields-push_separator : (x : ℕ) (xs : List ℕ)
     → fields ((x ∷ xs) ++ 59 ∷ []) ≡ fields (x ∷ xs) ++ 0 ∷ []
 fields-push_separator x xs =
-    let separates : ℕ → Bool = λ b. b == 59 in
-    ap (map parameter) (slice_split-push_yes separates (x ∷ xs) 59 refl)
-    ∙ map-append parameter (slice_split separates (x ∷ xs)) ([] ∷ [])
+    rw (slice_split-push_yes (λ b. b == 59) (x ∷ xs) 59 refl, map-append) refl
 
 -- a text with a byte has a field
 length-fields-some : (x : ℕ) (xs : List ℕ) → 0 < length (fields (x ∷ xs))

@@ -1,19 +1,17 @@
 -- Each list of bytes that carry meaning has one history: reading gives one, and reading the
 -- spelling of any gives it back.
-use Rattle.std.proofs.Common.{◌≡◌, ℕ, Bool, true, false, not, cond, List, [], ◌∷◌, ◌++◌}
-use Rattle.std.proofs.Common.{refl, ap, sym, ◌∙◌, arith, append_assoc, fold}
+use Rattle.std.proofs.Common.{◌≡◌, ℕ, Bool, true, false, not, cond, List, [], ◌∷◌, ◌++◌, refl, ap}
+use Rattle.std.proofs.Common.{sym, ◌∙◌, arith, append_assoc, fold}
 use Rattle.std.specs.Prelude.{IsTrue, ◌||◌}
 use Rattle.std.specs.List.{list_all}
 use Rattle.std.proofs.lemmas.List.{append-nil}
 use Rattle.std.proofs.lemmas.List.Sums.{fold-append}
 use Rattle.std.proofs.lemmas.Bool.Decides.{nat_tests}
 use Rattle.std.proofs.lemmas.Grind.{common_steps}
-use Rattle.sixel_base.specs.Bytes.{is_ignored, is_terminator, is_digit, is_parameter}
-use Rattle.sixel_base.specs.Bytes.{front}
-use Rattle.sixel_base.specs.History.{Token, Repeat, Raster, Color}
-use Rattle.sixel_base.specs.History.{History, start, text, spelling, spellings, IsToken, takes}
-use Rattle.sixel_base.specs.History.{goes_on, AreTokens, IsHistory, begun, with_byte, longer, read}
-use Rattle.sixel_base.specs.History.{history_of}
+use Rattle.sixel_base.specs.Bytes.{is_ignored, is_terminator, is_digit, is_parameter, front}
+use Rattle.sixel_base.specs.History.{Token, Repeat, Raster, Color, History, start, text, spelling}
+use Rattle.sixel_base.specs.History.{spellings, IsToken, takes, goes_on, AreTokens, IsHistory}
+use Rattle.sixel_base.specs.History.{begun, with_byte, longer, read, history_of}
 
 -- a byte that carries meaning: neither an ignored control nor a terminator
 abbrev pub carries : ℕ → Bool
@@ -109,37 +107,26 @@ bare token = token
 begun-start : (token : Token) → IsToken token → begun (start token) ≡ bare token
 begun-start token is = grind (arith, nat_tests)
 
-fold-repeat : (older : History) (s t : List ℕ) → IsTrue (list_all is_digit t)
-    → fold read (Repeat s ∷ older) t ≡ Repeat (s ++ t) ∷ older
-fold-repeat older s [] all = ap (λ w. Repeat w ∷ older) (sym (append-nil s))
-fold-repeat older s (byte ∷ t) all =
-    let first : is_digit byte ≡ true = grind (arith, common_steps) in
-    let rest : IsTrue (list_all is_digit t) = grind (arith, common_steps) in
-    rw first (fold-repeat older (s ++ byte ∷ []) t rest
-    ∙ ap (λ w. Repeat w ∷ older) (append_assoc s (byte ∷ []) t))
-
-fold-raster : (older : History) (s t : List ℕ) → IsTrue (list_all is_parameter t)
-    → fold read (Raster s ∷ older) t ≡ Raster (s ++ t) ∷ older
-fold-raster older s [] all = ap (λ w. Raster w ∷ older) (sym (append-nil s))
-fold-raster older s (byte ∷ t) all =
-    let first : is_parameter byte ≡ true = grind (arith, common_steps) in
-    let rest : IsTrue (list_all is_parameter t) = grind (arith, common_steps) in
-    rw first (fold-raster older (s ++ byte ∷ []) t rest
-    ∙ ap (λ w. Raster w ∷ older) (append_assoc s (byte ∷ []) t))
-
-fold-color : (older : History) (s t : List ℕ) → IsTrue (list_all is_parameter t)
-    → fold read (Color s ∷ older) t ≡ Color (s ++ t) ∷ older
-fold-color older s [] all = ap (λ w. Color w ∷ older) (sym (append-nil s))
-fold-color older s (byte ∷ t) all =
-    let first : is_parameter byte ≡ true = grind (arith, common_steps) in
-    let rest : IsTrue (list_all is_parameter t) = grind (arith, common_steps) in
-    rw first (fold-color older (s ++ byte ∷ []) t rest
-    ∙ ap (λ w. Color w ∷ older) (append_assoc s (byte ∷ []) t))
+-- bytes that a command takes complete its parameters
+fold-parameters : (older : History) (takes_byte : ℕ → Bool) (command : List ℕ → Token)
+    → ((s : List ℕ) (byte : ℕ) → takes_byte byte ≡ true → read (command s ∷ older) byte ≡ command
+    (s ++ byte ∷ []) ∷ older) → (s t : List ℕ) → IsTrue (list_all takes_byte t)
+    → fold read (command s ∷ older) t ≡ command (s ++ t) ∷ older
+fold-parameters older takes_byte command goes s [] all = rw append-nil refl
+fold-parameters older takes_byte command goes s (byte ∷ t) all =
+    let first : takes_byte byte ≡ true = grind (arith, common_steps) in
+    let rest : IsTrue (list_all takes_byte t) = grind (arith, common_steps) in
+    rw (goes s byte first, fold-parameters older takes_byte command goes (s ++ byte ∷ []) t rest)
+    (ap (λ w. command w ∷ older) (append_assoc s (byte ∷ []) t))
 
 -- the text of a token completes it
 fold-text : (older : History) (token : Token) → IsToken token
     → fold read (bare token ∷ older) (text token) ≡ token ∷ older
-fold-text older token is = grind (arith, nat_tests, fold-repeat, fold-raster, fold-color)
+fold-text older token is =
+    let repeat = fold-parameters older is_digit Repeat (λ s byte e. rw e refl) [] in
+    let raster = fold-parameters older is_parameter Raster (λ s byte e. rw e refl) [] in
+    let color = fold-parameters older is_parameter Color (λ s byte e. rw e refl) [] in
+    grind (arith, nat_tests)
 
 -- reading the spelling of a token adds it
 pub fold-spelling : (older : History) (token : Token) → IsToken token

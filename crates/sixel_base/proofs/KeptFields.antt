@@ -1,7 +1,6 @@
 -- What the parameters of a text become as the text goes on by a byte.
 use Rattle.std.proofs.Common.{◌≡◌, ◌≢◌, ℕ, ◌+◌, ◌-◌, ◌<◌, ◌≤◌, min, max, List, [], ◌∷◌, ◌++◌}
-use Rattle.std.proofs.Common.{length, get_or, set, sym, ap, ◌∙◌, ⊎_elim, arith}
-use Rattle.std.proofs.lemmas.Bool.{cases_eq}
+use Rattle.std.proofs.Common.{length, get_or, set, arith}
 use Rattle.std.proofs.lemmas.List.{get_or-set_same, get_or-set_other}
 use Rattle.sixel_base.specs.Fields.{fields, field}
 use Rattle.sixel_base.specs.inside.Parameters.{Parameters, Keeps}
@@ -22,56 +21,41 @@ module _ (text : List ℕ) (byte : ℕ) (low : 48 ≤ byte) (high : byte ≤ 57)
   -- a digit begins a field only where there is none
   count-push_digit : length (fields (text ++ byte ∷ [])) ≡ max 1 (length (fields text))
   count-push_digit =
-      ap length (fields-push_digit text byte low high) ∙ length-on_last (raised byte) (fields text)
+      rw (fields-push_digit text byte low high) (length-on_last (raised byte) (fields text))
 
   -- the last field goes on by the digit
   field-push_digit_same : (k : ℕ) → k + 1 ≡ max 1 (length (fields text))
       → field (text ++ byte ∷ []) k ≡ raised byte (field text k)
   field-push_digit_same k at =
-      ap (λ ns. get_or ns k 0) (fields-push_digit text byte low high)
-      ∙ get_or-on_last_same (raised byte) (fields text) k at
+      rw (fields-push_digit text byte low high)
+      (get_or-on_last_same (raised byte) (fields text) k at)
 
   -- the other fields stay
   field-push_digit_other : (k : ℕ) → k + 1 ≢ max 1 (length (fields text))
       → field (text ++ byte ∷ []) k ≡ field text k
   field-push_digit_other k other =
-      ap (λ ns. get_or ns k 0) (fields-push_digit text byte low high)
-      ∙ get_or-on_last_other (raised byte) (fields text) k other
+      rw (fields-push_digit text byte low high)
+      (get_or-on_last_other (raised byte) (fields text) k other)
 
   -- a digit of a field that is kept
   pub Keeps-push_digit_kept : (old new : Parameters) (last value : ℕ) → last ≡ old.count - 1
       → last < 5 → length old.values ≡ 5 → new.values ≡ set old.values last value
       → value ≡ raised byte (get_or old.values last 0) → new.count ≡ max old.count 1
       → Keeps old text → Keeps new (text ++ byte ∷ [])
-  Keeps-push_digit_kept old new last value at below size values raises count keeps = record {
-    counted = omega (arith, keeps.counted, count-push_digit);
-    valued = λ k small.
-        ap (λ vs. get_or vs k 0) values ∙ ⊎_elim (same k) (other k small) (cases_eq k last);
-  }
-    where
-      same : (k : ℕ) → k ≡ last
-          → get_or (set old.values last value) k 0 ≡ field (text ++ byte ∷ []) k
-      same k is =
-          let here : last < length old.values = omega arith in
-          let counted = keeps.counted in
-          rw is (rw get_or-set_same (raises
-          ∙ (ap (raised byte) (keeps.valued last below)
-          ∙ sym (field-push_digit_same last (omega arith)))))
-
-      other : (k : ℕ) → k < 5 → k ≢ last
-          → get_or (set old.values last value) k 0 ≡ field (text ++ byte ∷ []) k
-      other k small not_last =
-          let counted = keeps.counted in
-          rw get_or-set_other (keeps.valued k small ∙ sym (field-push_digit_other k (omega arith)))
+  Keeps-push_digit_kept old new last value at below size values raises count keeps =
+      let counted = count-push_digit in
+      grind (
+        arith,
+        nat_tests,
+        field-push_digit_same,
+        field-push_digit_other,
+        get_or-set_same,
+        get_or-set_other,
+      )
 
   -- a digit of a field that is not kept
   pub Keeps-push_digit_dropped : (old new : Parameters) → 5 ≤ old.count - 1
       → new.values ≡ old.values → new.count ≡ max old.count 1 → Keeps old text
       → Keeps new (text ++ byte ∷ [])
-  Keeps-push_digit_dropped old new past values count keeps = record {
-    counted = omega (arith, keeps.counted, count-push_digit);
-    valued = λ k small.
-        let counted = keeps.counted in
-        ap (λ vs. get_or vs k 0) values
-        ∙ (keeps.valued k small ∙ sym (field-push_digit_other k (omega arith)));
-  }
+  Keeps-push_digit_dropped old new past values count keeps =
+      let counted = count-push_digit in grind (arith, nat_tests, field-push_digit_other)

@@ -5,4 +5,3 @@ pub mod KeptFields
 pub mod DefaultCodes
 pub mod PictureBytes
 pub mod Sixels
-pub mod EmptyStruct

@@ -4,6 +4,11 @@ use Rattle.std.proofs.Common.{◌∙◌, append_assoc, append-nil, length-append
 use Rattle.std.proofs.Common.{arith}
 use Rattle.sixel_base.specs.Picture.{joined}
 use Rattle.std.proofs.lemmas.Bool.Decides.{nat_tests}
+use Rattle.std.proofs.Common.{get_or}
+use Rattle.std.proofs.Math.Nat.{mul_comm}
+use Rattle.std.proofs.lemmas.Bool.{cases_lt}
+use Rattle.std.proofs.lemmas.Nat.{mul-add-lt}
+use Rattle.std.proofs.lemmas.List.{get_or_append_left, get_or-append-add}
 
 -- one more piece at the front
 pub joined-front : (f : ℕ → List ℕ) (n : ℕ) → joined f (suc n) ≡ f 0 ++ joined (λ k. f (suc k)) n
@@ -36,3 +41,22 @@ pub length-joined : (f : ℕ → List ℕ) (size n : ℕ) → ((k : ℕ) → len
 unfolding joined
 length-joined f size zero long = omega arith
 length-joined f size (suc n) long = grind (arith, length-append, length-joined f size n long)
+
+-- parts of one length
+pub length-joined_below : (f : ℕ → List ℕ) (size n : ℕ) → ((k : ℕ) → k < n → length (f k) ≡ size)
+    → length (joined f n) ≡ n * size
+unfolding joined
+length-joined_below f size zero long = omega arith
+length-joined_below f size (suc n) long =
+    grind (arith, length-append, length-joined_below f size n (λ k l. long k (omega arith)))
+
+-- an element of one of them
+pub get_or-joined : (f : ℕ → List ℕ) (size n k i : ℕ) → ((j : ℕ) → j < n → length (f j) ≡ size)
+    → k < n → i < size → get_or (joined f n) (k * size + i) 0 ≡ get_or (f k) i 0
+unfolding joined
+get_or-joined f size zero k i long lk li = absurd (omega arith)
+get_or-joined f size (suc n) k i long lk li =
+    let front = length-joined_below f size n (λ j l. long j (omega arith)) in
+    let rest = get_or-joined f size n k i (λ j l. long j (omega arith)) in
+    let inside = mul-add-lt k size i n in
+    grind (arith, nat_tests, cases_lt k n, get_or_append_left, get_or-append-add, mul_comm)

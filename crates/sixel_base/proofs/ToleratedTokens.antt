@@ -1,13 +1,12 @@
 -- The tokens that lenient decoding tolerates have no fault, and those of a history without a fault
 -- are all tolerated.
-use Rattle.std.proofs.Common.{◌≡◌, true, false, [], ◌∷◌, refl, ap, ◌∙◌, cond, Option, Some}
-use Rattle.std.proofs.Common.{None, ◌+◌, arith, ℕ, List}
-use Rattle.std.specs.Prelude.{is_none, min}
+use Rattle.std.proofs.Common.{◌≡◌, true, false, [], ◌∷◌, refl, ap, cond, Option, Some, None, ◌+◌}
+use Rattle.std.proofs.Common.{arith, ℕ, List}
+use Rattle.std.specs.Prelude.{min}
 use Rattle.sixel_base.specs.Stroke.{registers}
 use Rattle.std.specs.Option.{option_or}
 use Rattle.sixel_base.specs.Fault.{Fault}
-use Rattle.sixel_base.specs.History.{Token, Sixel, Repeat, Raster, Color, Return, Newline, Skip}
-use Rattle.sixel_base.specs.History.{History}
+use Rattle.sixel_base.specs.History.{Token, History}
 use Rattle.sixel_base.specs.Limits.{Limit}
 use Rattle.sixel_base.specs.Payload.{fault_of, first_fault}
 use Rattle.sixel_base.specs.Lenient.{without, with_tolerated, tolerated, ignored, ignored_count}
@@ -32,8 +31,8 @@ tolerated-faultless limit (token ∷ older) =
     with_tolerated-faultless limit token (tolerated limit older) (tolerated-faultless limit older)
 
 -- the parts of an option that is none
-option_or-first : (a b : Option Fault) → option_or a b ≡ None → a ≡ None
-option_or-first a b none = grind (arith, nat_tests)
+pub option_or-none : (a b : Option Fault) → option_or a b ≡ None → a ≡ None
+option_or-none a b none = grind (arith, nat_tests)
 
 option_or-second : (a b : Option Fault) → option_or a b ≡ None → b ≡ None
 option_or-second a b none = grind (arith, nat_tests)
@@ -54,11 +53,8 @@ pub tolerated-same : (limit : Limit) (h : History) → first_fault limit h ≡ N
     → tolerated limit h ≡ h
 tolerated-same limit [] none = refl
 tolerated-same limit (token ∷ older) none =
-    ap (with_tolerated limit token)
-    (tolerated-same limit older
-    (option_or-first (first_fault limit older) (fault_of limit token older) none))
-    ∙ with_tolerated-same limit token older
-    (option_or-second (first_fault limit older) (fault_of limit token older) none)
+    let same = tolerated-same limit older (option_or-none (first_fault limit older) _ none) in
+    rw same (with_tolerated-same limit token older (option_or-second _ _ none))
 
 -- ---- by the setting
 
@@ -107,32 +103,23 @@ pub fault-along : (limit : Limit) (g h : History) (f : Fault)
     → fault limit g ≡ Some f → fault limit h ≡ Some f
 fault-along limit g h f stays holds = grind (arith, common_steps, nat_tests)
 
--- an option that is none in front of one
-pub option_or-none : (a b : Option Fault) → option_or a b ≡ None → a ≡ None
-option_or-none a b none = option_or-first a b none
-
 -- where none is ignored, no token has a fault
 ignored-step : (limit : Limit) (token : Token) (older : History)
     → (ignored limit older ≡ 0 → first_fault limit older ≡ None)
     → ignored limit (token ∷ older) ≡ 0 → first_fault limit (token ∷ older) ≡ None
 ignored-step limit token older before holds = grind (arith, nat_tests, tolerated-same)
 
-pub ignored-none : (limit : Limit) (h : History) → ignored limit h ≡ 0
-    → first_fault limit h ≡ None
+pub ignored-none : (limit : Limit) (h : History) → ignored limit h ≡ 0 → first_fault limit h ≡ None
 ignored-none limit [] zero = refl
 ignored-none limit (token ∷ older) zero = grind (arith, ignored-step, ignored-none limit older)
 
 -- and without a fault none is ignored
-pub none-ignored : (limit : Limit) (h : History) → first_fault limit h ≡ None
-    → ignored limit h ≡ 0
+pub none-ignored : (limit : Limit) (h : History) → first_fault limit h ≡ None → ignored limit h ≡ 0
 none-ignored limit [] none = refl
 none-ignored limit (token ∷ older) none =
-    let first = option_or-first (first_fault limit older) (fault_of limit token older) none in
-    ap (λ (f : Option Fault).
-    cond (is_none f) (ignored limit older) (min (ignored limit older + 1) count_limit))
-    (ap (fault_of limit token) (tolerated-same limit older first)
-    ∙ option_or-second (first_fault limit older) (fault_of limit token older) none)
-    ∙ none-ignored limit older first
+    let first = option_or-none (first_fault limit older) (fault_of limit token older) none in
+    let second = option_or-second (first_fault limit older) (fault_of limit token older) none in
+    rw (tolerated-same limit older first, second) (none-ignored limit older first)
 
 -- what a token does not change it does not change where it is ignored
 pub effective-same : {A : Type 0} (f : History → A) (limit : Limit) (token : Token) (h : History)
@@ -159,18 +146,8 @@ count-without limit token h f is holds = grind (arith, tolerated-faultless, opti
 registers-tolerated : (limit : Limit) (start : List (List ℕ)) (h : History)
     → registers start (tolerated limit h) ≡ registers start h
 registers-tolerated limit start [] = refl
-registers-tolerated limit start (Sixel bits ∷ h) =
+registers-tolerated limit start (token ∷ h) =
     grind (arith, nat_tests, registers-tolerated limit start h)
-registers-tolerated limit start (Repeat text ∷ h) =
-    grind (arith, nat_tests, registers-tolerated limit start h)
-registers-tolerated limit start (Raster text ∷ h) =
-    grind (arith, nat_tests, registers-tolerated limit start h)
-registers-tolerated limit start (Color text ∷ h) =
-    grind (arith, nat_tests, registers-tolerated limit start h)
-registers-tolerated limit start (Return ∷ h) = registers-tolerated limit start h
-registers-tolerated limit start (Newline ∷ h) =
-    grind (arith, nat_tests, registers-tolerated limit start h)
-registers-tolerated limit start (Skip byte ∷ h) = registers-tolerated limit start h
 
 -- so they are those of all tokens
 pub registers-effective : (limit : Limit) (start : List (List ℕ)) (h : History)

@@ -1,15 +1,13 @@
 -- A part of a row of a band that is drawn by a copy of the same part of a row above it.
 use Rattle.std.proofs.Common.{◌≡◌, ℕ, ◌+◌, ◌-◌, ◌*◌, ◌<◌, ◌≤◌, List, [], ◌++◌, length, get_or, take}
-use Rattle.std.proofs.Common.{drop, refl, true, eq-eqb, get_or-take}
+use Rattle.std.proofs.Common.{drop, true, get_or-take}
 use Rattle.std.proofs.Common.{get_or-drop, arith}
 use Rattle.std.specs.Prelude.{nat_lt, ◌&&◌, if◌then◌else◌}
-use Rattle.std.proofs.lemmas.Bool.{le-leb, lt-ltb}
 use Rattle.std.proofs.lemmas.Nat.{row_fits}
 use Rattle.std.proofs.lemmas.List.{get_or_append_left, get_or-append_right, get_or_default}
 use Rattle.std.proofs.lemmas.List.{length-take-le, length-drop}
 use Rattle.sixel_base.specs.Picture.{covers, is_set}
 use Rattle.sixel_canvas.specs.inside.Band.{filled, stored}
-use Rattle.sixel_canvas.proofs.BandRows.{struck_here}
 use Rattle.std.proofs.lemmas.Bool.Decides.{nat_tests}
 
 -- the pixels that are copied have one color, and the others stay
@@ -40,9 +38,7 @@ row_above wide from bit first before = grind (arith, nat_tests)
 pub row_before : (wide from to bit first : ℕ) → from ≤ to → to ≤ wide
     → first * wide + from < bit * wide + from
     → first * wide + from + ((bit * wide + to) - (bit * wide + from)) ≤ bit * wide + from
-row_before wide from to bit first order within before =
-    let above = row_above wide from bit first before in
-    omega (arith, row_fits first wide bit wide above (omega arith), order, within)
+row_before wide from to bit first order within before = grind (arith, row_fits)
 
 -- its pixels have the color
 pub row_colored :
@@ -56,13 +52,4 @@ pub row_colored :
 row_colored px mid wide from to bits bit first color i within lower six set drawn low high =
     let column = i - first * wide in
     let place : first * wide + column ≡ i = omega arith in
-    let left : from ≤ column = omega arith in
-    let right : column < to = omega arith in
-    let own = drawn column (omega (arith, right, within)) in
-    rw place at
-    (rw (
-      lt-ltb first bit lower,
-      le-leb from column left,
-      lt-ltb column to right,
-      struck_here bits first first six set (eq-eqb first first refl),
-    ) at own)
+    grind (arith, nat_tests)

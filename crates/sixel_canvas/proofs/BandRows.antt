@@ -1,7 +1,7 @@
 -- The six rows of a band in one block of pixels: what a run, sixels of one column and a greater
 -- width do to a pixel.
-use Rattle.std.proofs.Common.{◌≡◌, ℕ, zero, suc, ◌+◌, ◌*◌, ◌<◌, ◌≤◌, Bool, true, false, List}
-use Rattle.std.proofs.Common.{[], ◌∷◌, ◌++◌, length, get_or, take, drop, replicate, refl, ap}
+use Rattle.std.proofs.Common.{◌≡◌, ℕ, ◌+◌, ◌*◌, ◌<◌, ◌≤◌, Bool, true, false, List}
+use Rattle.std.proofs.Common.{◌++◌, length, get_or, take, drop, replicate, refl, ap}
 use Rattle.std.proofs.Common.{◌∙◌, length-take, get_or-take}
 use Rattle.std.proofs.Common.{get_or-drop, arith}
 use Rattle.std.specs.Prelude.{nat_le, nat_lt, ◌==◌, ◌&&◌, ◌||◌, if◌then◌else◌}
@@ -10,9 +10,11 @@ use Rattle.std.proofs.lemmas.Nat.{row_fits}
 use Rattle.std.proofs.lemmas.List.{get_or_append_left, get_or-append_right, get_or_past}
 use Rattle.std.proofs.lemmas.List.{get_or-set_same, get_or-set_other}
 use Rattle.std.proofs.Math.ListN.{set}
+use Rattle.sixel_canvas.proofs.RowPixels.{get_or-more_default}
 use Rattle.sixel_base.specs.Picture.{covers, is_set, is_struck}
 use Rattle.sixel_canvas.specs.inside.Band.{filled, stored}
 use Rattle.std.proofs.lemmas.Bool.Decides.{nat_tests}
+use Rattle.std.proofs.lemmas.Grind.{common_steps}
 
 leb_shift : (c a b : ℕ) → nat_le (c + a) (c + b) ≡ nat_le a b
 leb_shift c a b = grind arith
@@ -60,8 +62,7 @@ pub struck_more :
     ≡ (if nat_lt k (bit + 1) && covers from to 0 bits column k then color
     else stored px wide d column k)
 struck_more px mid new wide from to bits bit color d column k inside six order within hit before
-    change =
-    grind (arith, nat_tests, within_row, more_rows, rows_up, if_here, struck_here)
+    change = grind (arith, nat_tests, within_row, more_rows, rows_up, if_here, struck_here)
 
 set_filled : (xs : List (List ℕ)) (place to i : ℕ) (color d : List ℕ) → place < length xs →
     to ≡ place + 1 →
@@ -92,20 +93,13 @@ set_row :
     ≡ (if (above || k == row) && covers at (at + 1) 0 bits column k then color
     else stored px wide d column k)
 set_row px mid wide at bits row color d column k above fits inside six within low hit before =
-    let place = row_fits row wide 6 wide low (omega arith) in
     more_rows _ above _ (k == row) (covers at (at + 1) 0 bits column k) _ _ _ color
     (set_filled mid (row * wide + at) (row * wide + (at + 1)) (k * wide + column) color d
-    (omega (arith, fits, place, within)) (omega arith))
+    (grind (arith, fits, within)) (omega arith))
     (within_row wide at (at + 1) row column k inside (omega arith) (omega (arith, within))
     ∙ if_here (k == row) (nat_le at column && nat_lt column (at + 1)) (is_struck 0 bits k)
     (struck_here bits row k six hit))
     before refl
-
--- the first row comes first
-first_below : (bits first column at k : ℕ) → ((j : ℕ) → j < first → is_set bits j ≡ false) →
-    ((false || k == first) && covers at (at + 1) 0 bits column k)
-    ≡ ((nat_lt k 1 || k == first) && covers at (at + 1) 0 bits column k)
-first_below bits first column at k none = grind (arith, nat_tests)
 
 -- the first of them, above which no row has a set pixel
 pub set_first :
@@ -116,9 +110,7 @@ pub set_first :
     ≡ (if (nat_lt k 1 || k == first) && covers at (at + 1) 0 bits column k then color
     else stored px wide d column k)
 set_first px wide at bits first color d column k fits inside six within low hit none =
-    set_row px px wide at bits first color d column k false fits inside six within low hit refl
-    ∙ ap (λ drawn. if drawn then color else stored px wide d column k)
-    (first_below bits first column at k none)
+    grind (arith, common_steps, set_row)
 
 more_in :
     (px mid : List (List ℕ)) (wide at bits bit first place : ℕ) (color d : List ℕ) (column k : ℕ)
@@ -162,19 +154,6 @@ pub set_more :
 set_more px mid wide at bits bit first place color d column k =
     more_in px mid wide at bits bit first place color d column k (is_set bits bit) refl
 
--- any place of a list of one value, and past its end
-get_or-replicate_same : {X : Type 0} (n i : ℕ) (x : X) → get_or (replicate n x) i x ≡ x
-get_or-replicate_same zero i x = refl
-get_or-replicate_same (suc n) zero x = refl
-get_or-replicate_same (suc n) (suc i) x = get_or-replicate_same n i x
-
--- the default, appended, changes nothing
-get_or-append_replicate : {X : Type 0} (xs : List X) (n i : ℕ) (x : X) →
-    get_or (xs ++ replicate n x) i x ≡ get_or xs i x
-get_or-append_replicate [] n i x = get_or-replicate_same n i x
-get_or-append_replicate (y ∷ ys) n zero x = refl
-get_or-append_replicate (y ∷ ys) n (suc i) x = get_or-append_replicate ys n i x
-
 -- one row more was copied, and filled up with background
 pub copied_more :
     (px new part mid next : List (List ℕ)) (held wide row extra : ℕ) (background : List ℕ) →
@@ -198,5 +177,5 @@ copied_more px new part mid next held wide row extra background more long joined
       get_or_append_left,
       get_or-append_right,
       get_or_past,
-      get_or-append_replicate,
+      get_or-more_default,
     )

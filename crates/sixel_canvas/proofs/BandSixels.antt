@@ -1,24 +1,12 @@
 -- Which pixels of a band four or eight sixels of one column each cover.
-use Rattle.std.proofs.Common.{◌≡◌, ℕ, ◌+◌, ◌-◌, ◌*◌, ◌<◌, ◌≤◌, Bool, true, false, List}
+use Rattle.std.proofs.Common.{◌≡◌, ℕ, ◌+◌, ◌*◌, ◌<◌, ◌≤◌, false, List}
 use Rattle.std.proofs.Common.{length, get_or, refl, ap, ◌∙◌, arith}
-use Rattle.std.specs.Prelude.{nat_le, nat_lt, ◌==◌, ◌&&◌, if◌then◌else◌}
-use Rattle.std.proofs.lemmas.Bool.{leb-true}
+use Rattle.std.specs.Prelude.{nat_le, nat_lt, ◌&&◌, if◌then◌else◌}
 use Rattle.sixel_canvas.proofs.Lanes.{each_of_four, four_lanes, get_or-twice}
-use Rattle.sixel_base.specs.Picture.{covers, is_set, is_struck}
 use Rattle.sixel_canvas.specs.inside.Drawn.{covers_block}
 use Rattle.sixel_canvas.specs.inside.Band.{covers_four, mixed_at, stored}
-use Rattle.sixel_canvas.proofs.BandRows.{within_row, more_rows, rows_up}
+use Rattle.sixel_canvas.proofs.BandRows.{within_row}
 use Rattle.std.proofs.lemmas.Bool.Decides.{nat_tests}
-
-sixel_here : (sixels : List ℕ) (wide from bit column k : ℕ) → k < 6 → from ≤ column →
-    (k == bit) ≡ true →
-    is_set (get_or sixels (k * wide + column - (bit * wide + from)) 0) bit
-    ≡ is_struck 0 (get_or sixels (column - from) 0) k
-sixel_here sixels wide from bit column k six after here = grind (arith, nat_tests)
-
-mixed_here : (p q s here a b t : Bool) → (p && q) ≡ (here && (a && b)) →
-    (here ≡ true → a ≡ true → s ≡ t) → (p && q && s) ≡ (here && (a && b && t))
-mixed_here p q s here a b t same is = grind (arith, nat_tests)
 
 -- one row of four sixels more
 pub mixed_more :
@@ -36,15 +24,7 @@ mixed_more px mid new wide from bit sixels color d column k inside six within be
     let placed =
     ap (λ e. nat_le (bit * wide + from) (k * wide + column) && nat_lt (k * wide + column) e) end
     ∙ within_row wide from (from + 4) bit column k inside (omega arith) within in
-    more_rows _ _ _ (k == bit) (covers_four from sixels column k) _ _ _ color
-    (change (k * wide + column))
-    (mixed_here (nat_le (bit * wide + from) (k * wide + column))
-    (nat_lt (k * wide + column) (bit * wide + from + 4))
-    (is_set (get_or sixels (k * wide + column - (bit * wide + from)) 0) bit) (k == bit)
-    (nat_le from column) (nat_lt column (from + 4))
-    (is_struck 0 (get_or sixels (column - from) 0) k) placed
-    (λ here after. sixel_here sixels wide from bit column k six (leb-true from column after) here))
-    before (rows_up k bit)
+    grind (arith, nat_tests)
 
 -- four blank sixels cover nothing
 pub blank_four : (from column k : ℕ) (sixels : List ℕ) →
@@ -91,9 +71,3 @@ module _ (from column k : ℕ) (sixels : List ℕ) (long : length sixels ≡ 8) 
   covers_first color x y blank before =
       covers_halves color x y y before
       (rw (blank_four (from + 4) column k (four_lanes sixels 4) blank) refl)
-
--- copies of one sixel, and blank ones after them, cover what a run of it does
-pub covers_repeated : (from to bits column k : ℕ) (sixels : List ℕ) → from ≤ to → to ≤ from + 8 →
-    ((j : ℕ) → get_or sixels j 0 ≡ (if nat_lt j (to - from) then bits else 0)) →
-    covers_block from sixels 0 column k ≡ covers from to 0 bits column k
-covers_repeated from to bits column k sixels order few same = grind (arith, nat_tests)

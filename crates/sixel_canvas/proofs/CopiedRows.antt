@@ -1,15 +1,14 @@
 -- What a caller's memory has once one more row of pixels was copied there.
 use Rattle.std.proofs.Common.{◌≡◌, ℕ, ◌+◌, ◌-◌, ◌*◌, ◌/◌, ◌%◌, ◌<◌, ◌≤◌, Bool, true, List}
-use Rattle.std.proofs.Common.{length, get_or, take, drop, sym, ap, ◌∙◌, arith}
+use Rattle.std.proofs.Common.{length, get_or, take, drop, arith}
 use Rattle.std.proofs.Common.{length-take, length-drop, get_or-take, get_or-drop}
 use Rattle.std.specs.Prelude.{nat_le, nat_lt, ◌==◌, ◌&&◌, if◌then◌else◌}
-use Rattle.std.proofs.lemmas.Bool.{le-leb, eqb-true, ltb-true}
 use Rattle.std.proofs.lemmas.List.{get_or_append_left, get_or-append_right}
 use Rattle.std.proofs.lemmas.Nat.{mul-le}
 use borrow.Rule.Slice.PartMut.{put_mid}
 use Rattle.sixel_canvas.specs.Layout.{AreCopied, AreRowsIn, in_order}
 use Rattle.sixel_canvas.specs.declared.channels.RowLayout.{RowLayout}
-use Rattle.sixel_canvas.proofs.BandRows.{more_rows, rows_up, within_row}
+use Rattle.sixel_canvas.proofs.BandRows.{within_row}
 use Rattle.std.proofs.lemmas.Bool.Decides.{nat_tests}
 
 -- bytes with a part of them written over
@@ -18,10 +17,6 @@ spliced : (a k : ℕ) (xs ys : List ℕ) (i : ℕ) → a + k ≤ length xs → l
     ≡ (if nat_le a i && nat_lt i (a + k) then get_or ys (i - a) 0 else get_or xs i 0)
 spliced a k xs ys i fits len =
     grind (arith, length-take, get_or-take, get_or-drop, get_or_append_left, get_or-append_right)
-
-if_same : (b : Bool) (p q y : ℕ) → (b ≡ true → p ≡ q) →
-    (if b then p else y) ≡ (if b then q else y)
-if_same b p q y same = grind (arith, nat_tests)
 
 both : (a b : Bool) → (a && b) ≡ true → (a ≡ true) × (b ≡ true)
 both a b is = grind (arith, nat_tests)
@@ -41,36 +36,13 @@ copied_row shown first rows k n layout old mid part fits less is len copied befo
     let wide = 4 * layout.columns in
     let start = k * stride in
     let at = row * stride + byte in
-    let narrow : wide ≤ stride = omega (arith, fits.apart) in
     let above : start ≤ (rows - 1) * stride =
     mul-le k stride (rows - 1) stride (omega (arith, less)) (omega arith) in
     let within : start + n ≤ length mid =
     omega (arith, above, fits.within (omega (arith, less)), is) in
     let cut : length (take n (drop start mid)) ≡ n =
     omega (arith, length-take n (drop start mid), length-drop start mid, within) in
-    let long : length part ≡ n = len ∙ cut in
     let base : start ≡ start + 0 = omega arith in
     let hit : (nat_le start at && nat_lt at (start + n)) ≡ (row == k && nat_lt byte wide) =
-    ap (λ b. nat_le b at && nat_lt at (start + n)) base
-    ∙ ap (λ m. nat_le (start + 0) at && nat_lt at (start + m)) is
-    ∙ within_row stride 0 wide k byte row inside (omega arith) narrow
-    ∙ ap (λ t. row == k && (t && nat_lt byte wide)) (le-leb 0 byte (omega arith)) in
-    let pixel = get_or (in_order layout.order (shown (byte / 4) (first + row))) (byte % 4) 0 in
-    let here : (nat_le start at && nat_lt at (start + n)) ≡ true →
-    get_or part (at - start) 0 ≡ pixel =
-    λ is_hit.
-    let tests = both (row == k) (nat_lt byte wide) (sym hit ∙ is_hit) in
-    let same : row ≡ k = eqb-true row k tests.0 in
-    let low : byte < wide = ltb-true byte wide tests.1 in
-    let off : at - start ≡ byte = rw same (omega arith) in
-    ap (λ i. get_or part i 0) off ∙ copied byte (omega (arith, cut, is, low))
-    ∙ ap
-    (λ r. get_or (in_order layout.order (shown (byte / 4) (first + r))) (byte % 4) 0)
-    (sym same) in
-    more_rows (nat_le start at && nat_lt at (start + n)) (nat_lt row k) (nat_lt row (k + 1))
-    (row == k) (nat_lt byte wide) (get_or old at 0) (get_or mid at 0)
-    (get_or (put_mid start n mid part) at 0) pixel
-    (spliced start n mid part at within long
-    ∙ if_same (nat_le start at && nat_lt at (start + n)) (get_or part (at - start) 0) pixel
-    (get_or mid at 0) here)
-    hit (before row byte inside) (rows_up row k)
+    grind (arith, within_row) in
+    grind (arith, spliced)

@@ -1,5 +1,5 @@
 -- Lanes: what holds of each of four, and pixels that are chosen among two as numbers.
-use Rattle.std.proofs.Common.{◌≡◌, ℕ, ◌+◌, ◌-◌, ◌/◌, ◌^◌, ◌%◌, ◌<◌, ◌≤◌, Bool}
+use Rattle.std.proofs.Common.{◌≡◌, ℕ, ◌+◌, ◌-◌, ◌/◌, ◌^◌, ◌%◌, ◌<◌, Bool}
 use Rattle.std.proofs.Common.{cond, List, [], ◌∷◌, ◌++◌, length, map, get_or, bit_and, refl}
 use Rattle.std.proofs.Common.{subst, arith}
 use Rattle.std.specs.Prelude.{slice_set, nat_le, nat_lt, ◌==◌, ◌&&◌, if◌then◌else◌}
@@ -28,13 +28,6 @@ get_or-twice xs j inside = get_or_append_left xs xs 0 j inside
 -- a lane where a mask is set, and 0 elsewhere
 pub lane_is : (hit : Bool) (x : ℕ) → cond (top 7 (cond hit 255 0)) x 0 ≡ (if hit then x else 0)
 lane_is hit x = grind (arith, nat_tests)
-
--- eight values, and the default past them, are those of a function
-pub get_or-lanes :
-    (x : ℕ → ℕ) (a b c d e f g h : ℕ) → a ≡ x 0 → b ≡ x 1 → c ≡ x 2 → d ≡ x 3 → e ≡ x 4 → f ≡ x 5 →
-    g ≡ x 6 → h ≡ x 7 → ((j : ℕ) → 8 ≤ j → x j ≡ 0) → (j : ℕ) →
-    get_or (a ∷ b ∷ c ∷ d ∷ e ∷ f ∷ g ∷ h ∷ []) j 0 ≡ x j
-get_or-lanes x a b c d e f g h pa pb pc pd pe pf pg ph past j = grind (arith, nat_tests)
 
 -- one of two numbers by a mask
 by_mask : (hit : Bool) (new old : ℕ) →

@@ -11,7 +11,6 @@ pub mod PixelBytes
 pub mod PixelLists
 pub mod Pixels
 pub mod ReleasedRows
-pub mod Results
 pub mod RowBytes
 pub mod Runs
 pub mod RowBands

@@ -27,11 +27,7 @@ laid_held old held new named runs columns are laid expected rows released =
     let wide : ℕ = max before columns in
     let is : IsLaidOut held wide =
     laid wide (omega arith) (laid_wider old before wide are.laid (omega arith)) in
-    record {
-      expected = rw expected is.expected;
-      wide = rw rows is.wide;
-      moved = rw (rows, released) is.moved;
-    }
+    grind (arith)
 
 -- the pixels that were written, where all rows are above this one
 moved_above : (moved rows wide released width top : ℕ) → wide ≤ 2 * width

@@ -1,10 +1,10 @@
 -- What the bytes of a row are once those of one pixel more were written to it.
-use Rattle.std.proofs.Common.{◌≡◌, ℕ, ◌+◌, ◌*◌, ◌/◌, ◌%◌, ◌<◌, ◌≤◌, List, length, get_or, refl, ◌∙◌}
-use Rattle.std.proofs.Common.{inl, inr, arith, [], ◌∷◌, ◌++◌, ◌-◌, take, ap}
+use Rattle.std.proofs.Common.{◌≡◌, ℕ, ◌+◌, ◌*◌, ◌/◌, ◌%◌, ◌<◌, ◌≤◌, List, length, get_or, refl}
+use Rattle.std.proofs.Common.{inl, inr, arith, [], ◌∷◌, ◌++◌, take}
 use Rattle.std.specs.Prelude.{slice_set}
 use Rattle.sixel_canvas.specs.inside.FinalRows.{pixel_at}
 use Rattle.std.specs.Prelude.{min, nat_lt, if◌then◌else◌}
-use Rattle.std.proofs.lemmas.Bool.{cases_lt, lt-ltb, le-ltb}
+use Rattle.std.proofs.lemmas.Bool.{cases_lt}
 use Rattle.std.proofs.lemmas.List.{get_or_append_left, get_or-append_right}
 use Rattle.sixel_canvas.proofs.RowBytes.{pixel_part}
 use Rattle.std.proofs.lemmas.Grind.{get_or-set_at}
@@ -68,18 +68,7 @@ row_bytes f pixels background stored rest len i whole row least copied filled al
       | inl left ↦
           let m = n / 4 in
           let fours : n ≡ 4 * m = omega (arith, whole, row) in
-          let kept : pixel_at (take n pixels) (i / 4) ≡ pixel_at pixels (i / 4) =
-          ap (λ c. pixel_at (take c pixels) (i / 4)) fours
-          ∙ pixel_part pixels 0 m (i / 4) (omega (arith, left, least, fours))
-          ∙ ap (pixel_at pixels) (omega arith) in
-          get_or_append_left stored rest 0 i left ∙ copied i left
-          ∙ rw (lt-ltb (i / 4) (length pixels / 4) (omega (arith, left, least, whole, row)))
-          (ap (λ p. get_or (f p) (i % 4) 0) kept)
-      | inr right ↦
-          let same : (i - length stored) % 4 ≡ i % 4 = omega (arith, least, whole, row, right) in
-          get_or-append_right stored rest (length stored) i 0 refl right
-          ∙ filled (i - length stored) (omega (arith, right, all, inside))
-          ∙ rw
-          (le-ltb (i / 4) (length pixels / 4) (omega (arith, right, least, whole, row, inside)))
-          (ap (λ j. get_or (f background) j 0) same)
+          let kept = pixel_part pixels 0 m (i / 4) (omega (arith, left, least, fours)) in
+          grind (arith, get_or_append_left)
+      | inr right ↦ grind (arith, get_or-append_right)
     ]

@@ -1,11 +1,10 @@
 -- The pixels that bytes are: how many, which of them, and those of bytes that were put together.
-use Rattle.std.proofs.Common.{◌≡◌, ℕ, zero, suc, ◌+◌, ◌-◌, ◌*◌, ◌<◌, ◌≤◌, List, [], ◌∷◌, ◌++◌}
+use Rattle.std.proofs.Common.{◌≡◌, ℕ, zero, suc, ◌+◌, ◌-◌, ◌*◌, ◌≤◌, List, [], ◌∷◌, ◌++◌}
 use Rattle.std.proofs.Common.{length, get_or, take, drop, replicate, refl, ap, ◌∙◌, arith}
 use Rattle.std.proofs.Common.{length-take, length-append, length-drop, sym}
 use Rattle.std.proofs.lemmas.Bool.Decides.{nat_tests}
-use Rattle.std.proofs.lemmas.List.{length-replicate}
 use Rattle.std.specs.List.{flat_map}
-use Rattle.sixel_canvas.specs.Row.{RowState, IsThrifty, reached_to, room_for, row_state}
+use Rattle.sixel_canvas.specs.Row.{IsThrifty, room_for, row_state}
 use Rattle.sixel_base.specs.Picture.{joined}
 use Rattle.sixel_base.proofs.PictureBytes.{joined-front, length-joined}
 use Rattle.sixel_canvas.specs.inside.Pixels.{pixels_of}
@@ -51,32 +50,21 @@ pub pixels_of-take : (bytes : List ℕ) (n : ℕ)
 pixels_of-take bytes zero = refl
 pixels_of-take (r ∷ g ∷ b ∷ a ∷ bytes) (suc n) =
     rw (four_more n) (ap (λ ps. (r ∷ g ∷ b ∷ a ∷ []) ∷ ps) (pixels_of-take bytes n))
-pixels_of-take [] (suc n) = rw (four_more n) refl
-pixels_of-take (r ∷ []) (suc n) = rw (four_more n) refl
-pixels_of-take (r ∷ g ∷ []) (suc n) = rw (four_more n) refl
-pixels_of-take (r ∷ g ∷ b ∷ []) (suc n) = rw (four_more n) refl
+pixels_of-take _ (suc n) = rw (four_more n) refl
 
 pub pixels_of-drop : (bytes : List ℕ) (n : ℕ)
     → pixels_of (drop (4 * n) bytes) ≡ drop n (pixels_of bytes)
 pixels_of-drop bytes zero = refl
 pixels_of-drop (r ∷ g ∷ b ∷ a ∷ bytes) (suc n) =
     rw (four_more n) (pixels_of-drop bytes n)
-pixels_of-drop [] (suc n) = rw (four_more n) refl
-pixels_of-drop (r ∷ []) (suc n) = rw (four_more n) refl
-pixels_of-drop (r ∷ g ∷ []) (suc n) = rw (four_more n) refl
-pixels_of-drop (r ∷ g ∷ b ∷ []) (suc n) = rw (four_more n) refl
+pixels_of-drop _ (suc n) = rw (four_more n) refl
 
 -- one of them, by its four bytes
 pub pixel_bytes : (bytes : List ℕ) (i w x y z : ℕ) (d : List ℕ) → 4 * i + 4 ≤ length bytes
     → w ≡ get_or bytes (4 * i) w → x ≡ get_or bytes (4 * i + 1) x
     → y ≡ get_or bytes (4 * i + 2) y → z ≡ get_or bytes (4 * i + 3) z
     → w ∷ x ∷ y ∷ z ∷ [] ≡ get_or (pixels_of bytes) i d
-pixel_bytes (r ∷ g ∷ b ∷ a ∷ bytes) zero w x y z d inside first second third last =
-    let first_is : w ≡ r = first in
-    let second_is : x ≡ g = second in
-    let third_is : y ≡ b = third in
-    let last_is : z ≡ a = last in
-    cc
+pixel_bytes (r ∷ g ∷ b ∷ a ∷ bytes) zero w x y z d inside first second third last = grind (arith)
 pixel_bytes (r ∷ g ∷ b ∷ a ∷ bytes) (suc i) w x y z d inside first second third last =
     let all = r ∷ g ∷ b ∷ a ∷ bytes in
     let on : (k : ℕ) → 4 * suc i + k ≡ suc (suc (suc (suc (4 * i + k)))) = λ k. omega arith in
@@ -103,19 +91,15 @@ pub pixels_of-painted : (bytes color : List ℕ) (from to n : ℕ) → from ≤ 
 pixels_of-painted bytes color from to n order held long four =
     let front = take (4 * from) bytes in
     let middle = joined (λ _. color) (to - from) in
-    let back = drop (4 * to) bytes in
-    let front_long : length front ≡ 4 * from =
-    omega (arith, length-take (4 * from) bytes, long, order, held) in
-    let middle_long : length middle ≡ 4 * (to - from) =
-    length-joined (λ _. color) 4 (to - from) (λ _. four) in
-    pixels_of-append (front ++ middle) back to
-    (omega (arith, length-append front middle, front_long, middle_long, order))
-    ∙ ap (λ ps. ps ++ pixels_of back) (pixels_of-append front middle from front_long)
-    ∙ ap (λ ps. (ps ++ pixels_of middle) ++ pixels_of back) (pixels_of-take bytes from)
-    ∙ ap (λ ps. (take from (pixels_of bytes) ++ ps) ++ pixels_of back)
-    (pixels_of-joined color (to - from) four)
-    ∙ ap (λ ps. (take from (pixels_of bytes) ++ replicate (to - from) color) ++ ps)
-    (pixels_of-drop bytes to)
+    let front_long : length front ≡ 4 * from = grind (arith, length-take) in
+    let middle_long = length-joined (λ _. color) 4 (to - from) (λ _. four) in
+    rw (
+      pixels_of-append (front ++ middle) (drop (4 * to) bytes) to (grind (arith, length-append)),
+      pixels_of-append front middle from front_long,
+      pixels_of-take bytes from,
+      pixels_of-joined color (to - from) four,
+      pixels_of-drop bytes to,
+    ) refl
 
 -- bytes to which pixels of one color were added
 pub pixels_of-added : (bytes color : List ℕ) (n more : ℕ) → length bytes ≡ 4 * n
@@ -131,19 +115,8 @@ pub length-painted_bytes : (bytes color : List ℕ) (from to n : ℕ) → from �
     → length (take (4 * from) bytes ++ joined (λ _. color) (to - from) ++ drop (4 * to) bytes)
     ≡ 4 * n
 length-painted_bytes bytes color from to n order held long four =
-    let front = take (4 * from) bytes in
-    let middle = joined (λ _. color) (to - from) in
-    omega (
-      arith,
-      length-append (front ++ middle) (drop (4 * to) bytes),
-      length-append front middle,
-      length-take (4 * from) bytes,
-      length-drop (4 * to) bytes,
-      length-joined (λ _. color) 4 (to - from) (λ _. four),
-      order,
-      held,
-      long,
-    )
+    let middle = length-joined (λ _. color) 4 (to - from) (λ _. four) in
+    grind (arith, length-append, length-take, length-drop)
 
 -- the bytes of some pixels
 pub flat_map-part : (bytes : List ℕ) (begin held n : ℕ) → length bytes ≡ 4 * n
@@ -156,13 +129,7 @@ flat_map-part bytes begin held n long inside =
     pixels_of-take (drop (4 * begin) bytes) held ∙ ap (take held) (pixels_of-drop bytes begin) in
     sym (ap (flat_map (λ x. x)) is)
     ∙ flat_map-pixels_of part held
-    (omega (
-      arith,
-      length-take (4 * held) (drop (4 * begin) bytes),
-      length-drop (4 * begin) bytes,
-      long,
-      inside,
-    ))
+    (grind (arith, length-take, length-drop))
 
 -- a row whose bytes were written over is as thrifty, and has whole pixels
 pub thrifty_written : (background old new bytes : List ℕ) (room writes n : ℕ) → bytes ≡ new
@@ -173,22 +140,7 @@ pub thrifty_written : (background old new bytes : List ℕ) (room writes n : ℕ
 thrifty_written background old new bytes room writes n same old_long new_long is =
     let before = length-pixels_of old n old_long in
     let long = ap length same ∙ new_long in
-    let after : length (pixels_of bytes) ≡ n = length-pixels_of bytes n long in (
-      omega (arith, ap length same, new_long, after),
-      record {
-        held = omega (arith, is.held, before, after);
-        room_at_most = omega (arith, is.room_at_most, before, after);
-        side = is.side;
-        at_least = omega (arith, is.at_least, before, after);
-        at_most = omega (arith, is.at_most, before, after);
-        growing = λ less. omega (arith, is.growing less, before, after);
-      },
-    )
-
--- a row that grew is as thrifty
-pub thrifty_reached : (columns : ℕ) (row : RowState) → columns ≤ 1000000
-    → length row.pixels < columns → IsThrifty row → IsThrifty (reached_to columns row)
-thrifty_reached columns row side more is = grind (arith, nat_tests, length-append, length-replicate)
+    let after : length (pixels_of bytes) ≡ n = length-pixels_of bytes n long in grind (arith)
 
 -- a row that grew has room for its columns
 pub room_for-enough : (columns room : ℕ) → columns ≤ room_for columns room

@@ -1,5 +1,5 @@
 use Rattle.std.proofs.Common.{◌≡◌, ℕ, zero, suc, ◌+◌, ◌-◌, ◌*◌, ◌<◌, ◌≤◌, min, List, [], ◌∷◌, ◌++◌}
-use Rattle.std.proofs.Common.{length, get_or, take, drop, refl, sym, ap, ◌∙◌, take_all}
+use Rattle.std.proofs.Common.{length, get_or, take, drop, refl, ap, ◌∙◌, take_all}
 use Rattle.std.proofs.Common.{get_or-drop, length-drop, arith}
 use Rattle.std.specs.List.{flat_map}
 use Rattle.std.proofs.lemmas.List.{append-nil, drop_all, get_or_past}
@@ -60,18 +60,10 @@ pub joined-row : (pixels : List (List ℕ)) (background : List ℕ) (held width 
     → joined (λ column. get_or pixels column background) width
     ≡ flat_map (λ x. x) (take held pixels) ++ joined (λ _. background) (width - held)
 joined-row pixels background held width least =
-    let pixel = λ (k : ℕ). get_or pixels k background in
     let rest = width - held in
     let wide : held + rest ≡ width = omega arith in
     let past = λ (k : ℕ) (h : k < rest). get_or_past pixels (held + k) background (omega arith) in
-    ap (joined pixel) (sym wide)
-    ∙ joined-add pixel held rest
-    ∙ ap
-    (λ xs. xs ++ joined (λ k. pixel (held + k)) rest)
-    (joined-pixels pixels background held (omega arith))
-    ∙ ap
-    (λ xs. flat_map (λ x. x) (take held pixels) ++ xs)
-    (joined-same (λ k. pixel (held + k)) (λ _. background) rest past)
+    grind (arith, joined-add, joined-pixels, joined-same)
 
 -- the bytes of `count` pixels from column `from` on, with the background where the pixels end
 pub joined-part : (pixels : List (List ℕ)) (background : List ℕ) (from begin held count : ℕ)

@@ -6,7 +6,8 @@ use Rattle.sixel_base.specs.Picture.{is_struck}
 use Rattle.sixel_canvas.specs.inside.RowBand.{line_in}
 use Rattle.sixel_canvas.specs.inside.RowCanvas.{RowCanvasState, band_line, row_len}
 use Rattle.sixel_canvas.specs.inside.TaggedRow.{TaggedRowState}
-use Rattle.sixel_canvas.proofs.RowCosts.{band_made, get_or-made}
+use Rattle.sixel_canvas.proofs.RowCosts.{band_made}
+use Rattle.std.proofs.lemmas.List.{get_or_default}
 use Rattle.std.proofs.lemmas.Bool.Decides.{nat_tests}
 use Rattle.std.proofs.lemmas.Grind.{common_steps}
 
@@ -15,7 +16,7 @@ pub band_read : (bands : List (List TaggedRowState)) (band : ℕ) (rows : List T
     → 0 < length (get_or bands band []) → rows ≡ get_or bands band rows
     → rows ≡ get_or bands band []
 band_read bands band rows some read =
-    read ∙ get_or-made bands band rows [] (band_made bands band some)
+    read ∙ get_or_default bands band rows [] (band_made bands band some)
 
 -- a row of the band that is drawn on
 pub band_row : (canvas : RowCanvasState) (k : ℕ) → k < 6

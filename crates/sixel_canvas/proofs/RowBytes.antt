@@ -1,13 +1,13 @@
 -- The bytes of rows of pixels: which pixel stands at an index, and the picture that they are.
-use Rattle.std.proofs.Common.{eq-eqb, get_or, Bool, false, ◌≡◌, ℕ, zero, suc, ◌+◌, ◌-◌, ◌*◌}
+use Rattle.std.proofs.Common.{get_or, Bool, false, ◌≡◌, ℕ, zero, suc, ◌+◌, ◌-◌, ◌*◌}
 use Rattle.std.proofs.Common.{◌<◌, ◌≤◌, List, [], ◌∷◌, ◌++◌, length, take, drop, refl, sym, ap, ◌∙◌}
 use Rattle.std.proofs.Common.{inl, inr, length-drop, length-take, length-append, take_all, arith}
 use Rattle.std.proofs.Math.Seq.{drop-append-add, take-append_seam}
 use Rattle.std.proofs.lemmas.List.{drop-take, get_or_past, take-append-drop, take-append-le}
-use Rattle.std.proofs.lemmas.List.{drop-append-le}
+use Rattle.std.proofs.lemmas.List.{drop-append-le, get_or_default}
 use Rattle.std.specs.Prelude.{min, nat_lt, ◌==◌, ◌&&◌, if◌then◌else◌, Result, IsOk, OnOk}
 use Rattle.std.specs.List.{flat_map}
-use Rattle.std.proofs.lemmas.Bool.{cases_lt, cases_order, lt-ltb, le-ltb, ne_eqb}
+use Rattle.std.proofs.lemmas.Bool.{cases_lt, cases_order}
 use Rattle.std.proofs.lemmas.Nat.{mul-le, row_fits}
 use Rattle.sixel_base.specs.Picture.{joined, picture}
 use Rattle.sixel_base.proofs.PictureBytes.{joined-add, joined-front, length-joined}
@@ -25,9 +25,7 @@ pixel_left xs ys n i len inside =
 
 pub pixel_right : (xs ys : List ℕ) (n i : ℕ) → length xs ≡ 4 * n →
     pixel_at (xs ++ ys) (n + i) ≡ pixel_at ys i
-pixel_right xs ys n i len =
-    let at : 4 * (n + i) ≡ length xs + 4 * i = omega (arith, len) in
-    ap (λ m. take 4 (drop m (xs ++ ys))) at ∙ ap (take 4) (drop-append-add xs ys (4 * i))
+pixel_right xs ys n i len = grind (arith, drop-append-add)
 
 take_front : (x rest : List ℕ) → length x ≡ 4 → take 4 (x ++ rest) ≡ x
 take_front x rest four = ap (λ n. take n (x ++ rest)) (sym four) ∙ take-append_seam x rest
@@ -41,12 +39,7 @@ pixel_joined f n i four inside =
     let parts : joined f n ≡ joined f i ++ (f (i + 0) ++ rest) =
     ap (joined f) (omega (arith, inside)) ∙ joined-add f i (suc m)
     ∙ ap (λ xs. joined f i ++ xs) (joined-front (λ k. f (i + k)) m) in
-    let zero_on : i + 0 ≡ i = omega arith in
-    ap (λ xs. pixel_at xs i) parts
-    ∙ ap (pixel_at (joined f i ++ (f (i + 0) ++ rest))) (sym zero_on)
-    ∙ pixel_right (joined f i) (f (i + 0) ++ rest) i 0 (length-joined f 4 i four)
-    ∙ take_front (f (i + 0)) rest (four (i + 0))
-    ∙ ap f zero_on
+    grind (arith, pixel_right, length-joined, take_front)
 
 take-take_less : (n m : ℕ) (xs : List ℕ) → n ≤ m → take n (take m xs) ≡ take n xs
 take-take_less n m xs less = grind (arith, common_steps, nat_tests)
@@ -65,12 +58,6 @@ pixel_part bytes from n i inside =
     ∙ ap (take 4) (drop-take (4 * i) (4 * (n - i)) rest)
     ∙ take-take_less 4 (4 * (n - i)) (drop (4 * i) rest) (omega (arith, inside))
     ∙ ap (take 4) (drop-drop_sum (4 * from) (4 * i) (4 * (from + i)) bytes at)
-
--- a pixel of the bytes below some pixels
-pub pixel_dropped : (bytes : List ℕ) (from i : ℕ) →
-    pixel_at (drop (4 * from) bytes) i ≡ pixel_at bytes (from + i)
-pixel_dropped bytes from i =
-    ap (take 4) (drop-drop_sum (4 * from) (4 * i) (4 * (from + i)) bytes (omega arith))
 
 -- bytes are their pixels, one after another
 pub pixels_joined : (f : ℕ → List ℕ) (bytes : List ℕ) (n : ℕ) → length bytes ≡ 4 * n →
@@ -106,8 +93,7 @@ pixels_picture p bytes width (suc height) len same =
     let front = take (4 * n) bytes in
     let last = drop (4 * n) bytes in
     let parts : front ++ last ≡ bytes = take-append-drop (4 * n) bytes in
-    let all : length bytes ≡ 4 * n + 4 * width = omega (arith, len) in
-    let long : length front ≡ 4 * n = omega (arith, length-take (4 * n) bytes, all) in
+    let long : length front ≡ 4 * n = grind (arith, length-take (4 * n) bytes) in
     let is_front = pixels_picture p front width height long
     (λ column row inside above.
     sym (pixel_left front last n (row * width + column) long
@@ -116,7 +102,7 @@ pixels_picture p bytes width (suc height) len same =
     ∙ same column row inside (omega (arith, above))) in
     let is_last =
     pixels_joined (λ column. p column height) last width
-    (omega (arith, length-drop (4 * n) bytes, all))
+    (grind (arith, length-drop (4 * n) bytes))
     (λ column inside.
     sym (pixel_right front last n column long) ∙ ap (λ xs. pixel_at xs (n + column)) parts
     ∙ same column height inside (omega arith)) in
@@ -130,10 +116,7 @@ background-pixel background n i four inside = pixel_joined (λ _. background) n 
 row-pixel-len : (pixels : List (List ℕ)) (background : List ℕ) (k : ℕ) → length background ≡ 4 →
     ((i : ℕ) → i < length pixels → length (get_or pixels i []) ≡ 4) →
     length (get_or pixels k background) ≡ 4
-row-pixel-len [] background k four all = four
-row-pixel-len (p ∷ pixels) background zero four all = all zero (omega arith)
-row-pixel-len (p ∷ pixels) background (suc k) four all =
-    row-pixel-len pixels background k four (λ i h. all (suc i) (omega (arith, h)))
+row-pixel-len pixels background k four all = grind (arith, get_or_past, get_or_default pixels k)
 
 row-is : (pixels : List (List ℕ)) (background : List ℕ) (width : ℕ) → length pixels ≤ width →
     flat_map (λ x. x) pixels ++ joined (λ _. background) (width - length pixels)
@@ -149,19 +132,8 @@ pub row_len : (bytes part new background : List ℕ) (width rows held : ℕ) →
     new ≡ bytes ++ (part ++ joined (λ _. background) (width - held)) →
     length new ≡ 4 * ((rows + 1) * width)
 row_len bytes part new background width rows held few four len part_len is =
-    let rest = joined (λ _. background) (width - held) in
-    let more : (rows + 1) * width ≡ rows * width + width = omega arith in
-    ap length is
-    ∙ omega (
-      arith,
-      more,
-      few,
-      len,
-      part_len,
-      length-append bytes (part ++ rest),
-      length-append part rest,
-      length-joined (λ _. background) 4 (width - held) (λ _. four),
-    )
+    let filler = length-joined (λ _. background) 4 (width - held) (λ _. four) in
+    ap length is ∙ grind (arith, length-append, few, filler)
 
 pub row_appended :
     (bytes part new background : List ℕ) (pixels : List (List ℕ))
@@ -175,46 +147,15 @@ pub row_appended :
 row_appended bytes part new background pixels width rows room room' moved few four all len flat is
     column row =
     let f = λ (k : ℕ). get_or pixels k background in
-    let next : new ≡ bytes ++ joined f width =
-    is
-    ∙ ap (λ xs. bytes ++ xs) (ap (λ xs. xs ++ joined (λ _. background) (width - length pixels)) flat
-    ∙ row-is pixels background width few) in
+    let next : new ≡ bytes ++ joined f width = grind (arith, row-is) in
     elim (cases_lt column width) [
-      | inr right ↦ elim (cases_order row rows) [
-        | inl same ↦ rw (le-ltb column width right, eq-eqb row rows same)
-            (sym (get_or_past pixels column background (omega (arith, few, right))))
-        | inr (inl above) ↦
-            rw (le-ltb column width right, ne_eqb row rows (λ e. omega (arith, e, above))) refl
-        | inr (inr below) ↦
-            rw (le-ltb column width right, ne_eqb row rows (λ e. omega (arith, e, below))) refl
-      ]
+      | inr right ↦ grind (arith, get_or_past)
       | inl inside ↦ elim (cases_order row rows) [
-        | inl same ↦
-            rw (
-              lt-ltb column width inside,
-              lt-ltb row (rows + 1) (omega (arith, same)),
-              eq-eqb row rows same,
-              same,
-            )
-            (ap (λ xs. pixel_at xs (rows * width + column)) next
-            ∙ pixel_right bytes (joined f width) (rows * width) column len
-            ∙ pixel_joined f width column (λ k. row-pixel-len pixels background k four all) inside)
+        | inl same ↦ grind (arith, pixel_right, pixel_joined, row-pixel-len)
         | inr (inl above) ↦
-            rw (
-              lt-ltb column width inside,
-              lt-ltb row (rows + 1) (omega (arith, above)),
-              lt-ltb row rows above,
-              ne_eqb row rows (λ e. omega (arith, e, above)),
-            )
-            (ap (λ xs. pixel_at xs (row * width + column)) next
-            ∙ pixel_left bytes (joined f width) (rows * width) (row * width + column) len
-            (omega (arith, inside, row_fits row width rows width above (omega arith))))
-        | inr (inr below) ↦ rw (
-          lt-ltb column width inside,
-          le-ltb row (rows + 1) (omega (arith, below)),
-          le-ltb row rows (omega (arith, below)),
-          ne_eqb row rows (λ e. omega (arith, e, below)),
-        ) refl
+            let place = row_fits row width rows width above (omega arith) in
+            grind (arith, pixel_left bytes (joined f width) (rows * width) (row * width + column))
+        | inr (inr below) ↦ grind (arith)
       ]
     ]
 
@@ -251,17 +192,11 @@ row_copied old bytes part new background held width row rows kept least four ins
           (pixel_right bytes (part ++ rest) (row * width) column bytes_len
           ∙ elim (cases_lt column kept) [
             | inl old_one ↦
-                rw (lt-ltb column held (omega (arith, least, old_one)))
-                (pixel_left part rest kept column part_len old_one
-                ∙ ap (λ xs. pixel_at xs column) cut
-                ∙ pixel_part old (row * held) kept column old_one)
+                let own = pixel_part old (row * held) kept column old_one in
+                grind (arith, pixel_left part rest kept column part_len old_one)
             | inr past ↦
                 let on : kept + (column - kept) ≡ column = omega (arith, past) in
-                rw (le-ltb column held (omega (arith, least, past, inside)))
-                (ap (pixel_at (part ++ rest)) (sym on)
-                ∙ pixel_right part rest kept (column - kept) part_len
-                ∙ background-pixel background (width - kept) (column - kept) four
-                (omega (arith, inside, past)))
+                grind (arith, pixel_right, background-pixel)
           ])
     ]
 
@@ -281,29 +216,12 @@ taken_len bytes cut new background width height rows four len is filled =
     let rest = joined (λ _. background) ((height - rows) * width) in
     let cut_len : length cut ≡ min (4 * (height * width)) (4 * (rows * width)) =
     ap length is ∙ length-take (4 * (height * width)) bytes ∙ ap (min (4 * (height * width))) len in
+    let filler = length-joined (λ _. background) 4 ((height - rows) * width) (λ _. four) in
     ap length filled ∙ length-append cut rest ∙ elim (cases_lt rows height) [
-      | inl less ↦
-          let all : height * width ≡ rows * width + (height - rows) * width =
-          products rows height width (omega (arith, less)) in
-          omega (
-            arith,
-            cut_len,
-            all,
-            length-joined (λ _. background) 4 ((height - rows) * width) (λ _. four),
-          )
+      | inl less ↦ omega (arith, cut_len, filler, products rows height width (omega (arith, less)))
       | inr more ↦
-          let no_more : height - rows ≡ 0 = omega (arith, more) in
-          let no_pixel : 0 * width ≡ 0 = omega arith in
-          let none : (height - rows) * width ≡ 0 = ap (λ n. n * width) no_more ∙ no_pixel in
-          let fits : height * width ≤ rows * width =
-          mul-le height width rows width more (omega arith) in
-          omega (
-            arith,
-            cut_len,
-            none,
-            fits,
-            length-joined (λ _. background) 4 ((height - rows) * width) (λ _. four),
-          )
+          let fits = mul-le height width rows width more (omega arith) in
+          grind (arith, cut_len, filler)
     ]
 
 pub taken : (p : ℕ → ℕ → List ℕ) (bytes cut new background : List ℕ) (width height rows : ℕ) →
@@ -330,25 +248,16 @@ taken p bytes cut new background width height rows four len is filled shown =
       | inl stored ↦
           let early : i < rows * width =
           omega (arith, inside, row_fits row width rows width stored (omega arith)) in
-          sym (shown column row inside
-          ∙ rw (lt-ltb column width inside, lt-ltb row rows stored) (sym (
-          pixel_left cut rest n i cut_len (omega (arith, before, early))
-          ∙ ap (λ xs. pixel_at xs i) is
-          ∙ pixel_part bytes 0 (height * width) i before
-          ∙ ap (pixel_at bytes) (omega arith))))
+          let own = pixel_part bytes 0 (height * width) i before in
+          grind (arith, pixel_left cut rest n i cut_len)
       | inr past ↦
           let all : height * width ≡ rows * width + (height - rows) * width =
           products rows height width (omega (arith, past, above)) in
           let down : row * width ≡ rows * width + (row - rows) * width =
           products rows row width past in
           let j = (row - rows) * width + column in
-          let few : j < (height - rows) * width = omega (arith, before, all, down) in
           let on : i ≡ n + j = omega (arith, all, down) in
-          sym (shown column row inside
-          ∙ rw (le-ltb row rows past, and_false (nat_lt column width)) (sym (
-          ap (pixel_at (cut ++ rest)) on
-          ∙ pixel_right cut rest n j cut_len
-          ∙ background-pixel background ((height - rows) * width) j four few)))
+          grind (arith, pixel_right, background-pixel)
     ])
 
 -- what holds of a result that is a value

@@ -1,12 +1,12 @@
 -- The pixels of a row that was painted or grown: how many, and which.
-use Rattle.std.proofs.Common.{◌≡◌, ℕ, zero, suc, ◌-◌, ◌<◌, ◌≤◌, ◌&&◌, max, List, [], ◌∷◌, ◌++◌}
-use Rattle.std.proofs.Common.{length, get_or, replicate, refl}
+use Rattle.std.proofs.Common.{◌≡◌, ℕ, ◌-◌, ◌<◌, ◌≤◌, ◌&&◌, max, List, ◌++◌}
+use Rattle.std.proofs.Common.{length, get_or, replicate}
 use Rattle.std.proofs.Common.{length-append, length-take, length-drop, get_or-take, get_or-drop}
 use Rattle.std.proofs.Common.{arith}
 use Rattle.std.specs.Prelude.{nat_lt, nat_le, if◌then◌else◌}
-use Rattle.std.proofs.lemmas.Bool.{lt-ltb, lt-leb, le-leb}
+use Rattle.std.proofs.lemmas.Bool.{lt-leb}
 use Rattle.std.proofs.lemmas.List.{length-replicate, get_or-replicate, get_or-append_right}
-use Rattle.std.proofs.lemmas.List.{get_or_append_left}
+use Rattle.std.proofs.lemmas.List.{get_or_append_left, get_or_past}
 use Rattle.sixel_canvas.specs.Row.{RowState, painted, reached_to}
 use Rattle.std.proofs.lemmas.Bool.Decides.{nat_tests}
 
@@ -49,27 +49,19 @@ painted_right from to color row column d order held right = grind (arith, nat_te
 pub painted_inside : (from to : ℕ) (color : List ℕ) (row : RowState) (column : ℕ) (d : List ℕ)
     → from ≤ to → to ≤ length row.pixels → from ≤ column → column < to
     → get_or (painted from to color row).pixels column d ≡ color
-painted_inside from to color row column d order held begun inside =
-    rw (le-leb from column begun, lt-ltb column to inside) at
-    (painted_pixel from to color row column d order held)
+painted_inside from to color row column d order held begun inside = grind (arith, painted_pixel)
 
 -- how many pixels a row has that was grown
 pub grown_length : (columns : ℕ) (row : RowState)
     → length (reached_to columns row).pixels ≡ max (length row.pixels) columns
 grown_length columns row = grind (arith, nat_tests, length-append, length-replicate)
 
--- any place of a list of one value, and past its end
-same_or_past : {X : Type 0} (n i : ℕ) (x : X) → get_or (replicate n x) i x ≡ x
-same_or_past zero i x = refl
-same_or_past (suc n) zero x = refl
-same_or_past (suc n) (suc i) x = same_or_past n i x
-
 -- the default, appended, changes nothing
 pub get_or-more_default : {X : Type 0} (xs : List X) (n i : ℕ) (x : X)
     → get_or (xs ++ replicate n x) i x ≡ get_or xs i x
-get_or-more_default [] n i x = same_or_past n i x
-get_or-more_default (y ∷ ys) n zero x = refl
-get_or-more_default (y ∷ ys) n (suc i) x = get_or-more_default ys n i x
+get_or-more_default xs n i x =
+    let len = length-replicate n x in
+    grind (arith, get_or_append_left, get_or-append_right, get_or-replicate, get_or_past)
 
 -- a pixel of a row that was grown
 pub grown_pixel : (columns : ℕ) (row : RowState) (column : ℕ)

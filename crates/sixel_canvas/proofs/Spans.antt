@@ -1,4 +1,4 @@
-use Rattle.std.proofs.Common.{◌≡◌, ℕ, ◌+◌, ◌-◌, ◌%◌, ◌<◌, ◌≤◌, List, length, get_or, sym, ap, ◌∙◌}
+use Rattle.std.proofs.Common.{◌≡◌, ℕ, ◌+◌, ◌-◌, ◌%◌, ◌<◌, ◌≤◌, List, length, get_or}
 use Rattle.std.proofs.Common.{arith}
 use Rattle.std.proofs.lemmas.Simd.{get_or-put_chunk_below, get_or-put_chunk_at}
 use lib.Lanes.{put_chunk}
@@ -13,12 +13,8 @@ get_or-stored : (color span piece : List ℕ) (at k : ℕ) → at % 4 ≡ 0
     → at + length piece ≤ length span → IsColored color piece (length piece) → at ≤ k
     → k < at + length piece → get_or (put_chunk at span piece) k 0 ≡ get_or color (k % 4) 0
 get_or-stored color span piece at k whole fits colored from to =
-    let j_lt : k - at < length piece = omega arith in
     let place : at + (k - at) ≡ k = omega arith in
-    let turn : (k - at) % 4 ≡ k % 4 = omega arith in
-    ap (λ i. get_or (put_chunk at span piece) i 0) (sym place)
-    ∙ get_or-put_chunk_at at span piece (k - at) 0 j_lt fits ∙ colored (k - at) j_lt
-    ∙ ap (λ i. get_or color i 0) turn
+    grind (arith, get_or-put_chunk_at)
 
 -- one more piece of the color leaves a longer colored front
 pub IsColored-store : (color span piece : List ℕ) (at n : ℕ) → length piece ≡ n → at % 4 ≡ 0

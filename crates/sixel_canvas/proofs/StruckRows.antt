@@ -1,23 +1,14 @@
 -- Rows that a sixel sets pixels of, from the top: those that were drawn on so far.
-use Rattle.std.proofs.Common.{◌≡◌, ◌≢◌, ℕ, ◌+◌, ◌/◌, ◌%◌, ◌^◌, ◌<◌, ◌≤◌, Bool, true, false}
+use Rattle.std.proofs.Common.{◌≡◌, ◌≢◌, ℕ, ◌+◌, ◌/◌, ◌%◌, ◌^◌, ◌<◌, Bool, true}
 use Rattle.std.proofs.Common.{◌&&◌, List, arith}
 use Rattle.std.specs.Prelude.{nat_lt, if◌then◌else◌}
 use Rattle.sixel_base.specs.Picture.{is_struck}
 use Rattle.std.proofs.lemmas.Bool.Decides.{nat_tests}
 
--- no row below it
-pub is_struck-below : (top bits row : ℕ) → top + 6 ≤ row → is_struck top bits row ≡ false
-is_struck-below top bits row below = grind (arith, nat_tests)
-
 -- the row of a bit that is set
 pub is_struck-hit : (top bits bit : ℕ) → bit < 6 → (bits / 2 ^ bit) % 2 ≡ 1
     → is_struck top bits (top + bit) ≡ true
 is_struck-hit top bits bit six hit = grind (arith, nat_tests)
-
--- the row of a bit that is not set
-pub is_struck-miss : (top bits bit : ℕ) → bit < 6 → (bits / 2 ^ bit) % 2 ≢ 1
-    → is_struck top bits (top + bit) ≡ false
-is_struck-miss top bits bit six miss = grind (arith, nat_tests)
 
 -- a choice that two tests decide
 pub if_and : (inside hit : Bool) (x y : List ℕ)
@@ -36,17 +27,3 @@ pub struck_more :
     → IsStruckAbove stroke struck n before after → struck n ≡ true → next n ≡ stroke n (after n)
     → ((row : ℕ) → row ≢ n → next row ≡ after row) → IsStruckAbove stroke struck (n + 1) before next
 struck_more stroke struck n before after next above hit at others = grind (arith, nat_tests)
-
--- the next row is left alone
-pub struck_skip :
-    {X : Type 0} (stroke : ℕ → X → X) (struck : ℕ → Bool) (n : ℕ) (before after : ℕ → X)
-    → IsStruckAbove stroke struck n before after → struck n ≡ false
-    → IsStruckAbove stroke struck (n + 1) before after
-struck_skip stroke struck n before after above miss = grind (arith, nat_tests)
-
--- where none is left to be struck
-pub struck_all :
-    {X : Type 0} (stroke : ℕ → X → X) (struck : ℕ → Bool) (n : ℕ) (before after : ℕ → X)
-    → IsStruckAbove stroke struck n before after → ((row : ℕ) → n ≤ row → struck row ≡ false)
-    → (row : ℕ) → after row ≡ (if struck row then stroke row (before row) else before row)
-struck_all stroke struck n before after above rest row = grind (arith, nat_tests)

@@ -1,20 +1,15 @@
 -- What a row with tags shows once a tag was painted, a run was painted, or its blocks were tagged.
 use Rattle.std.proofs.Common.{◌≡◌, ℕ, ◌+◌, ◌*◌, ◌/◌, ◌%◌, ◌<◌, ◌≤◌, ◌⊎◌, ◌&&◌, min, max, true}
-use Rattle.std.proofs.Common.{false, List, length, get_or, refl, ap, ◌∙◌, inl, inr, arith}
+use Rattle.std.proofs.Common.{false, List, length, get_or, refl, ap, ◌∙◌, arith}
 use Rattle.std.specs.Prelude.{nat_lt, nat_le, if◌then◌else◌}
-use Rattle.std.proofs.lemmas.Bool.{cases_lt, lt-ltb, le-ltb, lt-leb, le-leb}
 use Rattle.std.proofs.lemmas.List.{get_or_past}
 use Rattle.sixel_canvas.specs.Row.{RowState, IsThrifty, painted, reached_to}
 use Rattle.sixel_canvas.specs.inside.TaggedRow.{TaggedRowState, IsTaggedRow, tag_of, tagged_pixel}
 use Rattle.sixel_canvas.specs.inside.TaggedRow.{tagged_row_state}
 use Rattle.sixel_canvas.specs.inside.Tags.{is_tag, no_tag, under}
 use Rattle.sixel_canvas.proofs.RowPixels.{grown_length, grown_pixel, painted_inside, painted_left}
-use Rattle.sixel_canvas.proofs.RowPixels.{painted_length, painted_right}
+use Rattle.sixel_canvas.proofs.RowPixels.{painted_length, painted_pixel, painted_right}
 use Rattle.std.proofs.lemmas.Bool.Decides.{nat_tests}
-
--- a pixel under a tag, and under none
-pub over_pixel : (tag pixel : List ℕ) → is_tag tag ≡ true → under tag pixel ≡ tag
-over_pixel tag pixel is = rw is refl
 
 pub under_nothing : (tag pixel : List ℕ) → is_tag tag ≡ false → under tag pixel ≡ pixel
 under_nothing tag pixel none = rw none refl
@@ -60,74 +55,13 @@ pub tagged_blocks :
 tagged_blocks line from to first last column color first_is last_is some held tags_held visible
     left_none right_none =
     let back = line.row.background in
-    let block = column / 128 in
     let early = painted from (first * 128) color line.row in
-    let late = painted (last * 128) to color early in
-    let tags = painted first last color line.tags in
-    let order : from ≤ first * 128 = omega (arith, first_is) in
-    let early_held : first * 128 ≤ length line.row.pixels =
-    omega (arith, some, last_is, held) in
-    let long = painted_length from (first * 128) color line.row order early_held in
-    let late_order : last * 128 ≤ to = omega (arith, last_is) in
-    let late_held : to ≤ length early.pixels = omega (arith, held, long) in
-    let tags_order : first ≤ last = omega (arith, some) in
-    let tag = get_or tags.pixels block no_tag in
-    let pixel = get_or late.pixels column back in
-    elim (cases_lt column from) [
-      | inl left ↦
-          rw (lt-leb from column left)
-          (ap (λ t. under t pixel)
-          (painted_left first last color line.tags block no_tag tags_order tags_held
-          (omega (arith, left, first_is)))
-          ∙ ap (under (tag_of line block))
-          (painted_left (last * 128) to color early column back late_order late_held
-          (omega (arith, left, order, some))
-          ∙ painted_left from (first * 128) color line.row column back order early_held left))
-      | inr begun ↦ elim (cases_lt column to) [
-        | inr right ↦
-            rw (le-leb from column begun, le-ltb column to right)
-            (ap (λ t. under t pixel)
-            (painted_right first last color line.tags block no_tag tags_order tags_held
-            (omega (arith, right, last_is)))
-            ∙ ap (under (tag_of line block))
-            (painted_right (last * 128) to color early column back late_order late_held right
-            ∙ painted_right from (first * 128) color line.row column back order early_held
-            (omega (arith, right, some, late_order))))
-        | inl inside ↦
-            rw (le-leb from column begun, lt-ltb column to inside) (elim (cases_lt block first) [
-              | inl before ↦
-                  let here : block ≡ from / 128 = omega (arith, before, begun, first_is) in
-                  let none : is_tag tag ≡ false =
-                  ap is_tag
-                  (painted_left first last color line.tags block no_tag tags_order tags_held before
-                  ∙ ap (tag_of line) here)
-                  ∙ left_none in
-                  under_nothing tag pixel none
-                  ∙ painted_left (last * 128) to color early column back late_order late_held
-                  (omega (arith, before, some))
-                  ∙ painted_inside from (first * 128) color line.row column back order early_held
-                  begun (omega (arith, before))
-              | inr from_first ↦ elim (cases_lt block last) [
-                | inl between ↦
-                    let is =
-                    painted_inside first last color line.tags block no_tag tags_order tags_held
-                    from_first between in
-                    over_pixel tag pixel (ap is_tag is ∙ visible) ∙ is
-                | inr after ↦
-                    let here : block ≡ to / 128 = omega (arith, after, inside, last_is) in
-                    let none : is_tag tag ≡ false =
-                    ap is_tag
-                    (painted_right first last color line.tags block no_tag tags_order tags_held
-                    after
-                    ∙ ap (tag_of line) here)
-                    ∙ right_none in
-                    under_nothing tag pixel none
-                    ∙ painted_inside (last * 128) to color early column back late_order late_held
-                    (omega (arith, after)) inside
-              ]
-            ])
-      ]
-    ]
+    let long = painted_length from (first * 128) color line.row (omega arith) (omega arith) in
+    rw (
+      painted_pixel first last color line.tags (column / 128) no_tag (omega arith) tags_held,
+      painted_pixel (last * 128) to color early column back (omega arith) (omega arith),
+      painted_pixel from (first * 128) color line.row column back (omega arith) (omega arith),
+    ) (grind (arith, nat_tests))
 
 -- a block for which there is no memory has no tag
 pub none_past : (line : TaggedRowState) (block : ℕ) → length line.tags.pixels ≤ block

@@ -18,9 +18,7 @@ total-front f (suc n) = omega (arith, total-front f n)
 -- the first numbers, and those after them
 pub total-add : (f : ℕ → ℕ) (m n : ℕ) → total f (m + n) ≡ total f m + total (λ k. f (m + k)) n
 unfolding total
-total-add f m zero =
-    let none : m + zero ≡ m = omega arith in
-    omega (arith, ap (total f) none)
+total-add f m zero = grind (arith)
 total-add f m (suc n) =
     let more : m + suc n ≡ suc (m + n) = omega arith in
     omega (arith, ap (total f) more, total-add f m n)
@@ -29,9 +27,7 @@ total-add f m (suc n) =
 pub total-past : (f : ℕ → ℕ) (m n : ℕ) → ((k : ℕ) → m ≤ k → f k ≡ 0) → m ≤ n
     → total f n ≡ total f m
 unfolding total
-total-past f m zero past le =
-    let none : zero ≡ m = omega arith in
-    ap (total f) none
+total-past f m zero past le = grind (arith)
 total-past f m (suc n) past le =
     elim (cases_lt n m) [
       | inl last ↦

@@ -14,8 +14,9 @@ ghost use Rattle.sixel_canvas.specs.inside.TaggedBand.{capacity, tagged_cell};
 use crate::channels::RowLayout;
 use crate::drawing::Canvas;
 use crate::final_rows::FinalRows;
-use crate::released_rows::ReleasedRows;
+use crate::released_rows::{ReleasedRow, append_rows};
 use crate::tagged_band::TaggedBand;
+use sixel_base::ghost_list::GhostList;
 use sixel_base::limits::MAX_SIDE;
 use std::alloc::{AllocError, Global};
 use std::marker::Model;
@@ -28,7 +29,7 @@ use std::marker::Model;
 /// The first final rows can be released. Then the canvas stores only the rows below them.
 #[derive(Drop)]
 pub struct BandCanvas {
-    gone: ReleasedRows,
+    gone: GhostList<ReleasedRow>,
     released: usize,
     rows: FinalRows,
     band: TaggedBand,
@@ -43,10 +44,10 @@ impl Model for BandCanvas {
 
     ghost Value = { BandCanvasState };
 
-    ghost view = { λ canvas. band_canvas_state canvas.gone.rows canvas.released canvas.rows
+    ghost view = { λ canvas. band_canvas_state canvas.gone canvas.released canvas.rows
         canvas.band canvas.top canvas.held canvas.expected_width };
 
-    ghost invariant = { λ canvas. IsBandCanvas (band_canvas_state canvas.gone.rows canvas.released
+    ghost invariant = { λ canvas. IsBandCanvas (band_canvas_state canvas.gone canvas.released
         canvas.rows canvas.band canvas.top canvas.held canvas.expected_width) };
 }
 
@@ -71,7 +72,7 @@ impl Canvas for BandCanvas {
 
     fn new(alloc: Global, background: [u8; 4]) -> BandCanvas {
         BandCanvas {
-            gone: ReleasedRows::new(),
+            gone: GhostList::new(),
             released: 0,
             rows: FinalRows::new(alloc, background),
             band: TaggedBand::new(alloc, background),
@@ -191,7 +192,7 @@ impl BandCanvas {
             → self.old.released + self.old.rows.rows ≤ rows → self.new.rows.room ≡ 0 }
     {
         let count = rows.saturating_sub(self.released);
-        self.gone.extend(&self.rows, count);
+        append_rows(&mut self.gone, &self.rows, count);
         self.rows.remove(count);
         self.released += count;
         self.free_unused();

@@ -1,6 +1,5 @@
 -- How much of a chunk a parser has read, and what stays true of the chunk's whole history.
-use Rattle.std.proofs.Common.{◌≡◌, ℕ, ◌≤◌, true, List, []}
-use Rattle.std.proofs.Common.{◌∷◌, arith, Some}
+use Rattle.std.proofs.Common.{◌≡◌, ℕ, ◌≤◌, true, List, [], ◌∷◌, arith, Some}
 use Rattle.std.specs.Prelude.{fold}
 use Rattle.sixel_base.specs.Fault.{Fault}
 use Rattle.sixel_base.specs.History.{History, longer, goes_on, read}
@@ -32,8 +31,7 @@ pub read_fault : (limit : Limit) (h : History) (byte : ℕ) (f : Fault)
 read_fault limit h byte f is = grind (arith, closed-longer, fault_stays, whole_fault)
 
 pub fold_fault : (limit : Limit) (h : History) (bytes : List ℕ) (f : Fault)
-    → fault limit (closed h) ≡ Some f
-    → fault limit (closed (fold read h bytes)) ≡ Some f
+    → fault limit (closed h) ≡ Some f → fault limit (closed (fold read h bytes)) ≡ Some f
 fold_fault limit h [] f is = is
 fold_fault limit h (byte ∷ bytes) f is =
     fold_fault limit (read h byte) bytes f (read_fault limit h byte f is)

@@ -1,9 +1,6 @@
 -- What of a sixel is inside a clip: its pixels, its bits and its columns.
-use Rattle.std.proofs.Common.{◌≡◌, ℕ, ◌-◌, ◌%◌, ◌^◌, ◌≤◌, ◌<◌, Bool, false}
-use Rattle.std.proofs.Common.{min, sym, ap, ◌∙◌, inl, inr, arith}
-use Rattle.std.specs.Prelude.{◌==◌, ◌&&◌, nat_lt}
-use Rattle.std.specs.Int.{bit_at}
-use Rattle.std.proofs.lemmas.Bool.{cases_lt, le-ltb, lt-ltb}
+use Rattle.std.proofs.Common.{◌≡◌, ℕ, ◌-◌, ◌%◌, ◌^◌, ◌≤◌, ◌<◌, Bool, false, min, arith}
+use Rattle.std.specs.Prelude.{◌&&◌, nat_lt}
 use Rattle.std.proofs.lemmas.Nat.{and_mask}
 use Rattle.std.proofs.lemmas.Nat.Bits.{bit_at_and, bit_at-lt, bit_at_ones, bit_at_ones_above}
 use Rattle.sixel_base.specs.Clip.{clipped_bits, clipped_pixel, is_pixel_inside}
@@ -24,18 +21,8 @@ fails_second a b = grind (arith, nat_tests)
 -- a bit of the lowest ones
 is_set-low : (bits n k : ℕ) → is_set (bits % 2 ^ n) k ≡ (nat_lt k n && is_set bits k)
 is_set-low bits n k =
-    let masked : bit_at (bits % 2 ^ n) k ≡ min (bit_at bits k) (bit_at (2 ^ n - 1) k) =
-    ap (λ (m : ℕ). bit_at m k) (sym (and_mask bits n)) ∙ bit_at_and bits (2 ^ n - 1) k in
-    elim (cases_lt k n) [
-      | inl low ↦
-          let same : bit_at (bits % 2 ^ n) k ≡ bit_at bits k =
-          omega (arith, masked, bit_at_ones n k low, bit_at-lt bits k) in
-          rw (lt-ltb k n low) (ap (λ (m : ℕ). m == 1) same)
-      | inr high ↦
-          let none : bit_at (bits % 2 ^ n) k ≡ 0 =
-          omega (arith, masked, bit_at_ones_above n k high) in
-          rw (le-ltb k n high) (ap (λ (m : ℕ). m == 1) none)
-    ]
+    let masked = rw (and_mask bits n) at (bit_at_and bits (2 ^ n - 1) k) in
+    grind (arith, nat_tests, masked, bit_at_ones n k, bit_at_ones_above n k, bit_at-lt bits k)
 
 -- a sixel covers the rows of its bits that are inside
 struck_clipped : (limit : Limit) (top bits row : ℕ)

@@ -1,8 +1,7 @@
 -- Whether a color introducer defines its register, by how many parameters there are and by the
 -- second.
 use Rattle.std.proofs.Common.{◌≡◌, ℕ, ◌≤◌, true, List, arith}
-use Rattle.std.specs.Prelude.{nat_le, length, slice_set}
-use Rattle.std.specs.Prelude.{if◌then◌else◌}
+use Rattle.std.specs.Prelude.{nat_le, length, slice_set, if◌then◌else◌}
 use Rattle.std.proofs.lemmas.Bool.{le-leb}
 use Rattle.sixel_base.specs.Fields.{fields}
 use Rattle.sixel_base.specs.Stroke.{is_definition, definition}

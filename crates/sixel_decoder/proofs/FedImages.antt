@@ -6,7 +6,7 @@ use Rattle.std.specs.Prelude.{nat_lt, is_some, MatchResult}
 use Rattle.sixel_base.specs.declared.error.SixelError.{SixelError}
 use Rattle.sixel_base.specs.Bytes.{first_terminator}
 use Rattle.sixel_base.specs.Dcs.{dcs_fault, dcs_growths}
-use Rattle.sixel_base.specs.Fault.{Faults, IsFault}
+use Rattle.sixel_base.specs.Fault.{Faults}
 use Rattle.sixel_base.specs.Lenient.{fault as reported}
 use Rattle.sixel_base.specs.Limits.{Limit}
 use Rattle.sixel_base.specs.Payload.{payload_fault, payload_wants}
@@ -14,7 +14,7 @@ use Rattle.sixel_base.specs.Payload as payloads
 use Rattle.sixel_base.specs.Settings.{Settings}
 use Rattle.sixel_base.specs.Status.{status_of}
 use Rattle.sixel_decoder.specs.FedImages.{IsFed, count, fault, growths, is_over, status}
-use Rattle.sixel_decoder.specs.FinishedImages.{failed}
+use Rattle.sixel_decoder.specs.FinishedImages.{IsAgain}
 use Rattle.sixel_decoder.specs.Reception.{Form, Nothing, OfPayload, OfString, Reception}
 use Rattle.sixel_decoder.specs.declared.received.Received.{Received}
 use Rattle.sixel_decoder.specs.declared.received.Status.TheVariants as statuses
@@ -155,7 +155,7 @@ pub image_rejected : (old new : Reception) (chunk : List ℕ) (e : SixelError)
     → new.is_refused ≡ true → new.form ≡ old.form → new.start ≡ old.start
     → new.bytes ≡ old.bytes ++ chunk
     → (old.is_refused ≡ false → fault old.start.pixel_limit old.form old.bytes ≡ None)
-    → (old.is_refused ≡ true → IsFault e (failed old.form))
+    → (old.is_refused ≡ true → IsAgain old.failure old.form e)
     → (old.is_refused ≡ false
     → Reads old.start.pixel_limit old.form old.bytes (old.bytes ++ chunk) (Err e))
     → IsFed old new chunk (Err e)

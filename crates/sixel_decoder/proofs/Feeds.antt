@@ -34,8 +34,7 @@ use Rattle.sixel_decoder.proofs.FedImages.{image_fed}
 
 -- a printable byte neither ends a payload nor is ignored
 pub feeds_byte : {C : Type 0} {canvas : Ghosts C} (o : Origin) (parser : PayloadParser C canvas)
-    (h : History) (byte : ℕ)
-    → IsPrintable byte → Stands o parser (read h byte)
+    (h : History) (byte : ℕ) → IsPrintable byte → Stands o parser (read h byte)
     → Feeds payloads.byte_read o parser h (byte ∷ [])
 feeds_byte o parser h byte is stands = grind (arith, nat_tests)
 

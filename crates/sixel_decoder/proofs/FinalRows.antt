@@ -1,6 +1,6 @@
 -- Final rows stay: no token that follows draws above the band of the next sixel.
-use Rattle.std.proofs.Common.{◌≡◌, ℕ, ◌<◌, ◌≤◌, true, false, cond, List, [], ◌∷◌, ◌++◌}
-use Rattle.std.proofs.Common.{refl, ap, sym, ◌∙◌, subst, arith, Option, Some, None}
+use Rattle.std.proofs.Common.{◌≡◌, ℕ, ◌<◌, ◌≤◌, true, false, cond, List, [], ◌∷◌, ◌++◌, refl, arith}
+use Rattle.std.proofs.Common.{Option, Some, None}
 use Rattle.std.specs.Prelude.{fold}
 use Rattle.std.proofs.lemmas.Bool.Decides.{nat_tests}
 use Rattle.sixel_base.specs.Bytes.{front, first_terminator}
@@ -8,10 +8,8 @@ use Rattle.sixel_base.specs.Clip.{clipped_pixel}
 use Rattle.sixel_base.specs.Dcs.{Stage, Heading, Failing, Reading, stage}
 use Rattle.sixel_base.specs.Lenient.{effective, without}
 use Rattle.sixel_base.specs.Limits.{Limit}
-use Rattle.sixel_base.specs.History.{Token}
-use Rattle.sixel_base.specs.History.{History, begun, longer, goes_on, read, history_of}
+use Rattle.sixel_base.specs.History.{Token, History, begun, longer, goes_on, read, history_of}
 use Rattle.sixel_base.specs.Payload.{closed, settled_tokens, tokens}
-use Rattle.sixel_base.specs.Picture.{covers}
 use Rattle.sixel_base.specs.Place.{down, height}
 use Rattle.sixel_base.specs.Settings.{Settings}
 use Rattle.sixel_base.specs.Stroke.{Origin, pixel}
@@ -28,11 +26,6 @@ pub record Continues (older newer : History) : Type 0 where
   pub taller : height older ≤ height newer
   pub pixels : (origin : Origin) (column row : ℕ) → row < down older
       → pixel origin newer column row ≡ pixel origin older column row
-
--- a sixel covers no pixel above its band
-above_band : (from to top bits column row : ℕ) → row < top
-    → covers from to top bits column row ≡ false
-above_band from to top bits column row above = grind (arith, nat_tests)
 
 -- one more token
 continues_token : (token : Token) (older newer : History) → Continues older newer
@@ -66,10 +59,8 @@ continues_read limit older h byte is =
     (elim (goes_on h byte) as
     (λ g. goes_on h byte ≡ g
     → Continues older (effective limit (closed (cond g (longer h byte) (begun byte ∷ h))))) [
-      | true ↦ λ goes. subst (λ (w : History). Continues older (effective limit w))
-          (sym (closed-longer h byte goes)) is
-      | false ↦ λ ends.
-          continues_closed limit (begun byte) older h (continues_whole limit older h is)
+      | true ↦ λ goes. rw (closed-longer h byte goes) is
+      | false ↦ λ _. continues_closed limit (begun byte) older h (continues_whole limit older h is)
     ]) refl
 
 continues_fold : (limit : Limit) (older h : History) (bytes : List ℕ)
@@ -91,23 +82,14 @@ goes_on_by : (limit : Limit) (bytes more : List ℕ) (o : Option ℕ) → first_
     → GoesOn limit bytes more
 goes_on_by limit bytes more None none =
     let h : History = history_of (front bytes) in
+    let older : History = settled_tokens limit bytes in
     let next : History = history_of (front (bytes ++ more)) in
-    let older : History = effective limit (closed h) in
-    let closed_on : Continues older (effective limit (closed next)) =
-    subst (λ (w : History). Continues older (effective limit (closed w)))
-    (sym (history_more bytes more none))
-    (continues_fold limit older h (front more) (continues_self older)) in
-    let whole_on : Continues older (effective limit next) =
-    continues_whole limit older next closed_on in
-    let start : older ≡ settled_tokens limit bytes =
-    ap (effective limit) (sym (settled_open bytes none)) in
-    record {
-      some = subst (λ (w : History). Continues w (settled_tokens limit (bytes ++ more))) start
-          (of_settled (λ (w : History). Continues older (effective limit w))
-          (bytes ++ more) whole_on
-          closed_on);
-      all = subst (λ (w : History). Continues w (effective limit next)) start whole_on;
-    }
+    let some : Continues older (effective limit (closed next)) =
+    rw (settled_open bytes none, history_more bytes more none)
+    (continues_fold limit (effective limit (closed h)) h (front more) (continues_self _)) in
+    let all = continues_whole limit older next some in
+    let settled = of_settled (λ w. Continues older (effective limit w)) (bytes ++ more) all some in
+    record { some = settled; all = all }
 goes_on_by limit bytes more (Some t) some =
     grind (arith, settled_ended, continues_self, front_ended)
 
@@ -139,10 +121,8 @@ pub final_pixels_stay : (origin : Origin) (bytes more : List ℕ) (column row : 
     → clipped_pixel origin (tokens origin.pixel_limit (bytes ++ more)) column row
     ≡ clipped_pixel origin (tokens origin.pixel_limit bytes) column row
 final_pixels_stay origin bytes more column row final =
-    let limit : Limit = origin.pixel_limit in
-    same_clipped origin (tokens limit (bytes ++ more)) (settled_tokens limit bytes) column row
-    ((goes_on_more limit bytes more).all.pixels origin column row (omega (arith, final)))
-    ∙ pixel_settled origin bytes column row
+    let all = (goes_on_more origin.pixel_limit bytes more).all.pixels origin column row in
+    grind (arith, all, same_clipped, pixel_settled)
 
 -- ---- a DCS sequence
 
@@ -151,11 +131,7 @@ rows_in : (limit : Limit) (bytes more : List ℕ) (w : Stage) → stage bytes �
 rows_in limit bytes more Heading is = omega arith
 rows_in limit bytes more (Failing f) is = omega arith
 rows_in limit bytes more (Reading s payload) is =
-    omega (
-      arith,
-      ap (stage_final_rows limit) (stage_reading bytes more s payload is),
-      final_rows_stay limit payload more,
-    )
+    rw (stage_reading bytes more s payload is) (final_rows_stay limit payload more)
 
 pub dcs_final_rows_stay : (limit : Limit) (bytes more : List ℕ)
     → dcs_final_rows limit bytes ≤ dcs_final_rows limit (bytes ++ more)
@@ -171,6 +147,5 @@ begun_in : (limit : Limit) (bytes : List ℕ) (w : Stage) → stage bytes ≡ w
     → 0 < stage_final_rows limit w → HasBegun bytes
 begun_in limit bytes w is some = grind arith
 
-pub has_begun : (limit : Limit) (bytes : List ℕ) → 0 < dcs_final_rows limit bytes
-    → HasBegun bytes
+pub has_begun : (limit : Limit) (bytes : List ℕ) → 0 < dcs_final_rows limit bytes → HasBegun bytes
 has_begun limit bytes some = begun_in limit bytes (stage bytes) refl some

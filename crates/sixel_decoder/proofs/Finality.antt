@@ -1,22 +1,19 @@
 -- What has ended or is rejected stays so, whatever bytes follow.
-use Rattle.std.proofs.Common.{◌≡◌, ℕ, ◌≤◌, true, List, ◌++◌, refl, ap, sym, ◌∙◌}
-use Rattle.std.proofs.Common.{subst, arith, Option, Some, None, length, length-append}
+use Rattle.std.proofs.Common.{◌≡◌, ℕ, ◌≤◌, true, List, ◌++◌, refl, ap, arith, Option, Some, None}
+use Rattle.std.proofs.Common.{length, length-append}
 use Rattle.std.specs.Prelude.{fold}
 use Rattle.std.proofs.lemmas.List.Sums.{fold-append}
 use Rattle.sixel_base.specs.Fault.{Fault}
 use Rattle.sixel_base.specs.Bytes.{front, carrying, count, first_terminator}
 use Rattle.sixel_base.specs.History.{History, read, history_of}
 use Rattle.sixel_base.specs.Settings.{Settings}
-use Rattle.sixel_base.specs.Stroke.{Origin}
-use Rattle.sixel_base.specs.Decoder.{origin_of}
 use Rattle.sixel_base.specs.declared.state.DecoderState.{DecoderState}
-use Rattle.sixel_base.specs.Payload.{Image, closed, settled, fed_fault}
-use Rattle.sixel_base.specs.Payload.{growths, payload_image, payload_registers}
+use Rattle.sixel_base.specs.Payload.{Image, closed, settled, fed_fault, growths}
 use Rattle.sixel_base.specs.declared.status.SixelDcsFeedStatus.TheVariants.{NeedMoreData}
 use Rattle.sixel_base.specs.Dcs.{Stage, Heading, Failing, Reading, stage, after_terminator}
-use Rattle.sixel_base.specs.Dcs.{end_status, payload_status_by, stage_status, stage_count}
-use Rattle.sixel_base.specs.Dcs.{stage_fault, stage_growths, dcs_status, dcs_count, dcs_fault}
-use Rattle.sixel_base.specs.Dcs.{dcs_growths, has_ended}
+use Rattle.sixel_base.specs.Dcs.{end_status, payload_status_by, stage_status, stage_fault}
+use Rattle.sixel_base.specs.Dcs.{stage_growths, dcs_status, dcs_count, dcs_fault, dcs_growths}
+use Rattle.sixel_base.specs.Dcs.{has_ended}
 use Rattle.sixel_base.specs.Lenient.{fault}
 use Rattle.sixel_base.specs.Limits.{Limit}
 use Rattle.sixel_base.specs.OneShot.{Payload, found, found_fault, IsFoundImage, AreFoundRegisters}
@@ -26,7 +23,6 @@ use Rattle.sixel_decoder.proofs.Chunks.{front-append, first_terminator-ended}
 use Rattle.sixel_decoder.proofs.Chunks.{before_terminator-ended}
 use Rattle.sixel_decoder.proofs.Terminators.{after_terminator-some, end_stays, stage_reading}
 use Rattle.sixel_decoder.proofs.Terminators.{failing_stays}
-use Rattle.sixel_decoder.proofs.DcsEnds.{status_at, count_at}
 use Rattle.sixel_decoder.proofs.DcsPayloads.{found_reading}
 use Rattle.std.proofs.lemmas.Bool.Decides.{nat_tests}
 
@@ -59,83 +55,59 @@ pub of_settled : (P : History → Type 0) (bytes : List ℕ) → P (history_of (
     → P (closed (history_of (front bytes))) → P (settled bytes)
 of_settled h bytes all some = grind (arith, nat_tests)
 
-fault_more : (limit : Limit) (h : History) (bytes more : List ℕ) (f : Fault)
-    → history_of (front (bytes ++ more)) ≡ fold read h (front more)
-    → fault limit (closed h) ≡ Some f → fed_fault limit (bytes ++ more) ≡ Some f
-fault_more limit h bytes more f goes is =
-    let some : fault limit (closed (history_of (front (bytes ++ more)))) ≡ Some f =
-    ap (λ w. fault limit (closed w)) goes ∙ fold_fault limit h (front more) f is in
-    of_settled (λ w. fault limit w ≡ Some f)
-    (bytes ++ more) (whole_fault limit (history_of (front (bytes ++ more))) f some) some
-
 fault_by : (limit : Limit) (bytes more : List ℕ) (f : Fault) (o : Option ℕ)
     → first_terminator bytes ≡ o
     → fed_fault limit bytes ≡ Some f → fed_fault limit (bytes ++ more) ≡ Some f
 fault_by limit bytes more f None none is =
-    fault_more limit (history_of (front bytes)) bytes more f (history_more bytes more none)
-    (ap (fault limit) (sym (settled_open bytes none)) ∙ is)
-fault_by limit bytes more f (Some t) some is =
-    ap (fault limit) (settled_ended bytes more t some) ∙ is
+    let goes = history_more bytes more none in
+    let h = history_of (front bytes) in
+    let on = fold_fault limit h (front more) f (rw (settled_open bytes none) at is) in
+    let whole = whole_fault limit (fold read h (front more)) f on in
+    of_settled (λ w. fault limit w ≡ Some f) (bytes ++ more) (rw goes whole) (rw goes on)
+fault_by limit bytes more f (Some t) some is = rw (settled_ended bytes more t some) is
 
 -- a payload that was rejected stays rejected
 pub fed_fault_stays : (limit : Limit) (bytes more : List ℕ) (f : Fault)
-    → fed_fault limit bytes ≡ Some f
-    → fed_fault limit (bytes ++ more) ≡ Some f
+    → fed_fault limit bytes ≡ Some f → fed_fault limit (bytes ++ more) ≡ Some f
 fed_fault_stays limit bytes more f is = fault_by limit bytes more f (first_terminator bytes) refl is
-
-growths_more : (h : History) (bytes more : List ℕ)
-    → history_of (front (bytes ++ more)) ≡ fold read h (front more)
-    → growths (closed h) ≤ growths (settled (bytes ++ more))
-growths_more h bytes more goes = grind (arith, nat_tests, growths-fold, of_settled, growths-closed)
-
-growths_by : (bytes more : List ℕ) (o : Option ℕ) → first_terminator bytes ≡ o
-    → growths (settled bytes) ≤ growths (settled (bytes ++ more))
-growths_by bytes more o none =
-    grind (arith, nat_tests, settled_open, growths_more, history_more, settled_ended)
 
 -- the sixels and raster attributes that are settled stay so
 pub growths_stay : (bytes more : List ℕ)
     → growths (settled bytes) ≤ growths (settled (bytes ++ more))
-growths_stay bytes more = growths_by bytes more (first_terminator bytes) refl
-
--- the image of a payload that has ended, and the registers after it
-image_more : (origin : Origin) (bytes more : List ℕ) (t : ℕ) → first_terminator bytes ≡ Some t
-    → payload_image origin (bytes ++ more) ≡ payload_image origin bytes
-image_more origin bytes more t is = grind (arith, nat_tests, front_ended)
-
-registers_more : (origin : Origin) (bytes more : List ℕ) (t : ℕ) → first_terminator bytes ≡ Some t
-    → payload_registers origin (bytes ++ more) ≡ payload_registers origin bytes
-registers_more origin bytes more t is = grind (arith, nat_tests, front_ended)
+growths_stay bytes more =
+    let most = growths-closed (history_of (front (bytes ++ more))) in
+    grind (arith, nat_tests, settled_open, history_more, settled_ended, growths-fold, of_settled)
 
 -- ---- a DCS sequence
-
--- a payload at whose terminator the string has ended
-record Ends (payload : List ℕ) : Type 0 where
-  terminator : ℕ
-  first : first_terminator payload ≡ Some terminator
-  over : end_status terminator (after_terminator payload) ≡ NeedMoreData → ⊥
-
-ends_by : (payload : List ℕ) (o : Option ℕ) → first_terminator payload ≡ o
-    → has_ended (payload_status_by o (after_terminator payload)) ≡ true → Ends payload
-ends_by payload o is ended = grind (arith, nat_tests)
 
 -- where a string has ended: in a payload
 record EndsIn (bytes : List ℕ) : Type 0 where
   settings : Settings
   payload : List ℕ
+  terminator : ℕ
   reading : stage bytes ≡ Reading settings payload
-  ends : Ends payload
+  first : first_terminator payload ≡ Some terminator
+  over : end_status terminator (after_terminator payload) ≡ NeedMoreData → ⊥
+
+ends_in_at : (bytes : List ℕ) (s : Settings) (payload : List ℕ) (o : Option ℕ)
+    → stage bytes ≡ Reading s payload → first_terminator payload ≡ o
+    → has_ended (payload_status_by o (after_terminator payload)) ≡ true → EndsIn bytes
+ends_in_at bytes s payload None reading first ended = absurd cc
+ends_in_at bytes s payload (Some t) reading first ended = record {
+  settings = s;
+  payload = payload;
+  terminator = t;
+  reading = reading;
+  first = first;
+  over = λ waits. grind (arith, nat_tests);
+}
 
 ends_in_by : (bytes : List ℕ) (w : Stage) → stage bytes ≡ w → has_ended (stage_status w) ≡ true
     → EndsIn bytes
 ends_in_by bytes Heading is ended = absurd cc
 ends_in_by bytes (Failing f) is ended = absurd cc
-ends_in_by bytes (Reading s payload) is ended = record {
-  settings = s;
-  payload = payload;
-  reading = is;
-  ends = ends_by payload (first_terminator payload) refl ended;
-}
+ends_in_by bytes (Reading s payload) is ended =
+    ends_in_at bytes s payload (first_terminator payload) is refl ended
 
 ends_in : (bytes : List ℕ) → has_ended (dcs_status bytes) ≡ true → EndsIn bytes
 ends_in bytes ended = ends_in_by bytes (stage bytes) refl ended
@@ -149,51 +121,41 @@ pub status_ended : (bytes more : List ℕ) → has_ended (dcs_status bytes) ≡ 
     → dcs_status (bytes ++ more) ≡ dcs_status bytes
 status_ended bytes more ended =
     let e = ends_in bytes ended in
-    let t : ℕ = e.ends.terminator in
-    let now = first_terminator-ended e.payload more t e.ends.first in
-    let after = after_terminator-some e.payload more t e.ends.first in
-    let stays = end_stays t (after_terminator e.payload) more e.ends.over in
-    ap stage_status (reads_on bytes more e)
-    ∙ (status_at (e.payload ++ more) (after_terminator e.payload ++ more) t now after
-    ∙ (stays.0
-    ∙ sym (ap stage_status e.reading
-    ∙ status_at e.payload (after_terminator e.payload) t e.ends.first refl)))
+    let now = first_terminator-ended e.payload more _ e.first in
+    let after = after_terminator-some e.payload more _ e.first in
+    rw (reads_on bytes more e, e.reading, now, e.first, after)
+    (end_stays e.terminator (after_terminator e.payload) more e.over).0
 
 pub dcs_count_ended : (bytes more : List ℕ) → has_ended (dcs_status bytes) ≡ true
     → dcs_count (bytes ++ more) ≡ dcs_count bytes
 dcs_count_ended bytes more ended =
     let e = ends_in bytes ended in
-    let t : ℕ = e.ends.terminator in
-    let now = first_terminator-ended e.payload more t e.ends.first in
-    let after = after_terminator-some e.payload more t e.ends.first in
-    omega (
-      arith,
-      ap (stage_count (bytes ++ more)) (reads_on bytes more e),
-      ap (stage_count bytes) e.reading,
-      length-append bytes more,
-      length-append e.payload more,
-      count_at (e.payload ++ more) (after_terminator e.payload ++ more) t now after,
-      count_at e.payload (after_terminator e.payload) t e.ends.first refl,
-      (end_stays t (after_terminator e.payload) more e.ends.over).1,
-      count_ended e.payload more t e.ends.first,
-    )
+    let now = first_terminator-ended e.payload more _ e.first in
+    let after = after_terminator-some e.payload more _ e.first in
+    let counted = count_ended e.payload more _ e.first in
+    let stays = (end_stays e.terminator (after_terminator e.payload) more e.over).1 in
+    rw (reads_on bytes more e, e.reading, now, e.first, after)
+    (omega (arith, length-append bytes more, length-append e.payload more, counted, stays))
 
 -- as does what is wrong with it
 pub dcs_fault_ended : (limit : Limit) (bytes more : List ℕ) → has_ended (dcs_status bytes) ≡ true
     → dcs_fault limit (bytes ++ more) ≡ dcs_fault limit bytes
 dcs_fault_ended limit bytes more ended =
     let e = ends_in bytes ended in
-    ap (stage_fault limit) (reads_on bytes more e)
-    ∙ (ap (fault limit) (settled_ended e.payload more e.ends.terminator e.ends.first)
-    ∙ sym (ap (stage_fault limit) e.reading))
+    let same = settled_ended e.payload more _ e.first in
+    rw (reads_on bytes more e, e.reading) (ap (fault limit) same)
 
 pub dcs_growths_ended : (bytes more : List ℕ) → has_ended (dcs_status bytes) ≡ true
     → dcs_growths (bytes ++ more) ≡ dcs_growths bytes
 dcs_growths_ended bytes more ended =
     let e = ends_in bytes ended in
-    ap stage_growths (reads_on bytes more e)
-    ∙ (ap growths (settled_ended e.payload more e.ends.terminator e.ends.first)
-    ∙ sym (ap stage_growths e.reading))
+    rw (reads_on bytes more e, e.reading) (ap growths (settled_ended e.payload more _ e.first))
+
+-- the payload that is found in it, and in more bytes
+found_on : (bytes more : List ℕ) (e : EndsIn bytes) → (found bytes ≡ Payload e.settings e.payload)
+    × (found (bytes ++ more) ≡ Payload e.settings (e.payload ++ more))
+found_on bytes more e =
+    (found_reading bytes _ _ e.reading, found_reading (bytes ++ more) _ _ (reads_on bytes more e))
 
 -- its image, and the registers after it
 pub found_image_ended : (start : DecoderState) (bytes more : List ℕ) (image : Image)
@@ -201,53 +163,36 @@ pub found_image_ended : (start : DecoderState) (bytes more : List ℕ) (image : 
     → IsFoundImage start (found bytes) image → IsFoundImage start (found (bytes ++ more)) image
 found_image_ended start bytes more image ended is =
     let e = ends_in bytes ended in
-    let here : IsFoundImage start (Payload e.settings e.payload) image =
-    subst (λ w. IsFoundImage start w image)
-    (found_reading bytes e.settings e.payload e.reading) is in
-    subst (λ w. IsFoundImage start w image)
-    (sym (found_reading (bytes ++ more) e.settings (e.payload ++ more) (reads_on bytes more e)))
-    (here
-    ∙ sym (image_more (origin_of start e.settings) e.payload more e.ends.terminator e.ends.first))
+    let on = found_on bytes more e in
+    let same = front_ended e.payload more _ e.first in
+    rw (on.1, same) (rw on.0 at is)
 
 pub found_registers_ended : (start : DecoderState) (bytes more : List ℕ) (after : List (List ℕ))
-    → has_ended (dcs_status bytes) ≡ true
-    → AreFoundRegisters start (found bytes) after
+    → has_ended (dcs_status bytes) ≡ true → AreFoundRegisters start (found bytes) after
     → AreFoundRegisters start (found (bytes ++ more)) after
 found_registers_ended start bytes more after ended is =
     let e = ends_in bytes ended in
-    let here : AreFoundRegisters start (Payload e.settings e.payload) after =
-    subst (λ w. AreFoundRegisters start w after)
-    (found_reading bytes e.settings e.payload e.reading) is in
-    subst (λ w. AreFoundRegisters start w after)
-    (sym (found_reading (bytes ++ more) e.settings (e.payload ++ more) (reads_on bytes more e)))
-    (here
-    ∙ sym
-    (registers_more (origin_of start e.settings) e.payload more e.ends.terminator e.ends.first))
+    let on = found_on bytes more e in
+    let same = front_ended e.payload more _ e.first in
+    rw (on.1, same) (rw on.0 at is)
 
 pub found_fault_ended : (limit : Limit) (bytes more : List ℕ) → has_ended (dcs_status bytes) ≡ true
     → found_fault limit (found (bytes ++ more)) ≡ found_fault limit (found bytes)
 found_fault_ended limit bytes more ended =
     let e = ends_in bytes ended in
-    ap (found_fault limit)
-    (found_reading (bytes ++ more) e.settings (e.payload ++ more) (reads_on bytes more e))
-    ∙ (ap
-    (λ w. fault limit (history_of w))
-    (front_ended e.payload more e.ends.terminator e.ends.first)
-    ∙ sym (ap (found_fault limit) (found_reading bytes e.settings e.payload e.reading)))
+    let on = found_on bytes more e in
+    let same = front_ended e.payload more _ e.first in rw (on.1, on.0, same) refl
 
 fault_in : (limit : Limit) (bytes more : List ℕ) (f : Fault) (w : Stage) → stage bytes ≡ w
     → stage_fault limit w ≡ Some f → dcs_fault limit (bytes ++ more) ≡ Some f
 fault_in limit bytes more f Heading is some = absurd cc
-fault_in limit bytes more f (Failing g) is some =
-    ap (stage_fault limit) (failing_stays bytes more g is) ∙ some
+fault_in limit bytes more f (Failing g) is some = rw (failing_stays bytes more g is) some
 fault_in limit bytes more f (Reading s payload) is some =
-    ap (stage_fault limit) (stage_reading bytes more s payload is)
-    ∙ fed_fault_stays limit payload more f some
+    rw (stage_reading bytes more s payload is) (fed_fault_stays limit payload more f some)
 
 -- a DCS sequence that was rejected stays rejected
 pub dcs_fault_stays : (limit : Limit) (bytes more : List ℕ) (f : Fault)
-    → dcs_fault limit bytes ≡ Some f
-    → dcs_fault limit (bytes ++ more) ≡ Some f
+    → dcs_fault limit bytes ≡ Some f → dcs_fault limit (bytes ++ more) ≡ Some f
 dcs_fault_stays limit bytes more f is = fault_in limit bytes more f (stage bytes) refl is
 
 growths_in : (bytes more : List ℕ) (w : Stage) → stage bytes ≡ w
@@ -255,8 +200,7 @@ growths_in : (bytes more : List ℕ) (w : Stage) → stage bytes ≡ w
 growths_in bytes more Heading is = omega arith
 growths_in bytes more (Failing g) is = omega arith
 growths_in bytes more (Reading s payload) is =
-    omega
-    (arith, ap stage_growths (stage_reading bytes more s payload is), growths_stay payload more)
+    rw (stage_reading bytes more s payload is) (growths_stay payload more)
 
 -- the sixels and raster attributes of its payload that are settled stay so
 pub dcs_growths_stay : (bytes more : List ℕ) → dcs_growths bytes ≤ dcs_growths (bytes ++ more)

@@ -1,13 +1,16 @@
--- A finished image in another type.
-use Rattle.std.proofs.Common.{◌≡◌, ℕ, List, Ok}
+-- A finished image in another type, by a caller that stores an error.
+use Rattle.std.proofs.Common.{◌≡◌, ℕ, List, Ok, Option}
 use Rattle.sixel_base.specs.Payload.{Image}
+use Rattle.sixel_base.specs.Fault.{Fault}
 use Rattle.sixel_decoder.specs.FinishedImages.{IsFinished}
 use Rattle.sixel_decoder.specs.Reception.{Reception}
 use Rattle.std.proofs.Common.{arith}
 
 pub finished_as : {A B : Type 0} (image_of : A → Image) (registers_of : A → List (List ℕ))
-    (image_of' : B → Image) (registers_of' : B → List (List ℕ)) (image : Reception) (a : A) (b : B)
+    (image_of' : B → Image) (registers_of' : B → List (List ℕ)) (image : Reception)
+    (failure : Option (Option Fault)) (a : A) (b : B)
     → image_of a ≡ image_of' b → registers_of a ≡ registers_of' b
     → IsFinished image_of registers_of image (Ok a)
-    → IsFinished image_of' registers_of' image (Ok b)
-finished_as image_of registers_of image_of' registers_of' image a b same left is = grind arith
+    → IsFinished image_of' registers_of' (record image { failure = failure }) (Ok b)
+finished_as image_of registers_of image_of' registers_of' image failure a b same left is =
+    grind arith

@@ -1,7 +1,6 @@
 -- The meaning of the result for a whole DCS sequence.
-use Rattle.std.proofs.Common.{◌≡◌, ◌+◌, ◌-◌, ◌≤◌, List, ℕ, Some}
-use Rattle.std.proofs.Common.{ap, sym, ◌∙◌, length, get_or, take, drop, take_all}
-use Rattle.std.proofs.Common.{length-drop, arith}
+use Rattle.std.proofs.Common.{◌≡◌, ◌+◌, ◌-◌, ◌≤◌, List, ℕ, Some, ◌∙◌, length, get_or, take}
+use Rattle.std.proofs.Common.{drop, take_all, length-drop, arith}
 use Rattle.std.proofs.lemmas.Bool.Decides.{nat_tests}
 use Rattle.std.proofs.lemmas.List.{drop-drop}
 use Rattle.sixel_base.specs.OneShot.{after_introducer}
@@ -37,11 +36,9 @@ pub introduced_at : (n index : ℕ) (bytes rest : List ℕ) → rest ≡ drop in
 introduced_at n index bytes rest whole none here = grind (arith, nat_tests, drop-drop)
 
 pub not_introduced_at : (index : ℕ) (bytes rest : List ℕ) → rest ≡ drop index bytes
-    → after_introducer (drop index bytes) ≡ after_introducer bytes
-    → (get_or rest 0 0 ≡ 144 → ⊥)
+    → after_introducer (drop index bytes) ≡ after_introducer bytes → (get_or rest 0 0 ≡ 144 → ⊥)
     → (2 ≤ length rest → get_or rest 0 0 ≡ 27 → get_or rest 1 0 ≡ 80 → ⊥)
     → after_introducer (drop (index + 1) bytes) ≡ after_introducer bytes
 not_introduced_at index bytes rest whole none once escape =
-    ap after_introducer (sym (drop-drop 1 index bytes))
-    ∙ ap (λ (w : List ℕ). after_introducer (drop 1 w)) (sym whole)
-    ∙ not_introduced rest once escape ∙ ap after_introducer whole ∙ none
+    let here = not_introduced rest once escape in
+    rw (← drop-drop 1 index bytes, ← whole) (here ∙ rw whole none)

@@ -1,9 +1,8 @@
 -- The bits of the sixels at the front of bytes, one after another.
-use Rattle.std.proofs.Common.{◌≡◌, ℕ, zero, suc, ◌+◌, ◌<◌, ◌≤◌, ◌-◌, Bool, false, cond}
-use Rattle.std.proofs.Common.{List, [], ◌∷◌, length, get_or, replicate, take}
-use Rattle.std.proofs.Common.{refl, ap, ◌∙◌, inl, inr, arith}
+use Rattle.std.proofs.Common.{◌≡◌, ℕ, zero, suc, ◌+◌, ◌<◌, ◌≤◌, ◌-◌, Bool, false, cond, List, []}
+use Rattle.std.proofs.Common.{◌∷◌, length, get_or, replicate, take, refl, ◌∙◌, ⊎_elim, arith}
 use Rattle.std.specs.Prelude.{nat_lt, if◌then◌else◌}
-use Rattle.std.proofs.lemmas.Bool.{cases_lt, lt-ltb, le-ltb}
+use Rattle.std.proofs.lemmas.Bool.{cases_lt, le-ltb}
 use Rattle.std.proofs.lemmas.List.{get_or_past, get_or-replicate}
 use Rattle.std.proofs.lemmas.Simd.{get_or-chunk, get_or-sel_l, get_or-zip2, length-chunk}
 use Rattle.std.proofs.lemmas.Simd.{length-sel_l, length-zip2}
@@ -17,15 +16,12 @@ pub bits_front : (len : ℕ) (bits bytes : List ℕ) → len ≤ length bits →
     → ((k : ℕ) → k < len → get_or bits k 0 ≡ get_or bytes k 0 - 63)
     → take len bits ≡ bits_of (take len bytes)
 bits_front zero bits bytes le le' same = refl
-bits_front (suc n) [] bytes le le' same = absurd (omega (arith, le))
-bits_front (suc n) (bit ∷ bits) [] le le' same = absurd (omega (arith, le'))
+bits_front (suc n) [] bytes le le' same = absurd (omega arith)
+bits_front (suc n) (bit ∷ bits) [] le le' same = absurd (omega arith)
 bits_front (suc n) (bit ∷ bits) (byte ∷ bytes) le le' same =
-    let here : bit ≡ byte - 63 = same 0 (omega arith) in
-    rw (
-      here,
-      bits_front n bits bytes (omega (arith, le)) (omega (arith, le'))
-          (λ k lt. same (suc k) (omega (arith, lt))),
-    ) refl
+    let rest =
+    bits_front n bits bytes (omega arith) (omega arith) (λ k lt. same (suc k) (omega arith)) in
+    rw (rest, same 0 (omega arith)) refl
 
 -- whether a lane of eight is among the first `len`
 abbrev front_mask : ℕ → List Bool
@@ -57,31 +53,31 @@ module _ (len : ℕ) (bytes : List ℕ) (long : 8 ≤ length bytes) (few : len �
   lane : (k : ℕ) → k < 8 → get_or (front_bits len bytes) k 0
       ≡ (if nat_lt k len then lowered (get_or bytes k 0) 63 else 0)
   lane k less =
-      let eight : length (chunk 0 8 bytes) ≡ 8 = length-chunk 0 8 bytes long in
+      let eight = length-chunk 0 8 bytes long in
+      let sixty_three = get_or-replicate {A = ℕ} 8 k 63 0 less in
+      let zero = get_or-replicate {A = ℕ} 8 k 0 0 less in
       let start : 0 + k ≡ k = omega arith in
-      let here : get_or low k 0 ≡ lowered (get_or bytes k 0) 63 =
-      get_or-zip2 lowered (chunk 0 8 bytes) (replicate 8 63) k 0 0 0 (omega (arith, less, eight))
-      less
-      ∙ rw (get_or-chunk 0 8 bytes k 0 less, get_or-replicate {A = ℕ} 8 k 63 0 less)
-      (ap (λ n. lowered (get_or bytes n 0) 63) start) in
-      get_or-sel_l (front_mask len) low (replicate 8 0) k 0 less (omega (arith, less, long_low))
-      less
-      ∙ rw (get_or-front_mask len k less, here, get_or-replicate {A = ℕ} 8 k 0 0 less) refl
+      rw (
+        get_or-sel_l (front_mask len) low (replicate 8 0) k 0 less (omega (arith, long_low)) less,
+        get_or-front_mask len k less,
+        get_or-zip2 lowered (chunk 0 8 bytes) (replicate 8 63) k 0 0 0 (omega arith) less,
+        get_or-chunk 0 8 bytes k 0 less,
+        sixty_three,
+        zero,
+        start,
+      ) refl
 
   pub front_sixel : (k : ℕ) → k < len → get_or (front_bits len bytes) k 0 ≡ get_or bytes k 0 - 63
-  front_sixel k less =
-      let sixel = sixels k less in
-      lane k (omega (arith, less, few)) ∙ rw (lt-ltb k len less) (omega (arith, sixel.0, sixel.1))
+  front_sixel k less = rw (lane k (omega arith)) (grind (arith, nat_tests, sixels k less))
 
   length_bits : length (front_bits len bytes) ≡ 8
   length_bits = length-sel_l (front_mask len) low (replicate 8 0) (omega (arith, long_low)) refl
 
   pub front_blank : (k : ℕ) → len ≤ k → get_or (front_bits len bytes) k 0 ≡ 0
-  front_blank k past = elim (cases_lt k 8) [
-    | inl inside ↦ lane k inside ∙ rw (le-ltb k len past) refl
-    | inr after ↦
-        get_or_past (front_bits len bytes) k 0 (omega (arith, after, length_bits))
-  ]
+  front_blank k past =
+      ⊎_elim (λ inside. rw (lane k inside, le-ltb k len past) refl)
+      (λ after. get_or_past (front_bits len bytes) k 0 (omega (arith, length_bits)))
+      (cases_lt k 8)
 
   pub front_list : take len (front_bits len bytes) ≡ bits_of (take len bytes)
   front_list =
@@ -89,7 +85,4 @@ module _ (len : ℕ) (bytes : List ℕ) (long : 8 ≤ length bytes) (few : len �
       (omega (arith, few, long)) front_sixel
 
   pub front_six : (k : ℕ) → get_or (front_bits len bytes) k 0 < 64
-  front_six k = elim (cases_lt k len) [
-    | inl less ↦ rw (front_sixel k less) (omega (arith, (sixels k less).1))
-    | inr past ↦ rw (front_blank k past) (omega arith)
-  ]
+  front_six k = grind (arith, cases_lt k len, front_sixel k, sixels k, front_blank k)

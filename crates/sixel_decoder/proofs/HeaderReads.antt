@@ -1,15 +1,14 @@
 -- How far a header has been read, and what stands where it ends.
-use Rattle.std.proofs.Common.{◌≡◌, ℕ, ◌+◌, ◌<◌, ◌≤◌, true, false, cond, List, [], ◌∷◌, ◌++◌}
-use Rattle.std.proofs.Common.{length, get_or, drop, append_assoc, arith, sym, ap, ◌∙◌, subst}
-use Rattle.std.proofs.Common.{Some, None}
-use Rattle.std.specs.Prelude.{◌==◌, IsSomeAnd}
+use Rattle.std.proofs.Common.{◌≡◌, ℕ, ◌+◌, ◌<◌, ◌≤◌, true, false, List, [], ◌∷◌, ◌++◌}
+use Rattle.std.proofs.Common.{length, get_or, drop, append_assoc, arith, refl}
+use Rattle.std.specs.Prelude.{IsSomeAnd}
 use Rattle.std.proofs.lemmas.Bool.Decides.{nat_tests}
 use Rattle.std.proofs.lemmas.List.{append-nil, drop_all}
 use Rattle.sixel_base.specs.declared.error.SixelError.{SixelError}
-use Rattle.sixel_base.specs.Bytes.{is_terminator, carrying}
-use Rattle.sixel_base.specs.Fault.{IsFault, Malformed, BadHeader}
+use Rattle.sixel_base.specs.Bytes.{carrying}
+use Rattle.sixel_base.specs.Fault.{IsFault}
 use Rattle.sixel_base.specs.inside.Parameters.{Parameters, Keeps}
-use Rattle.sixel_base.specs.Header.{Open, Begun, Faulty, headed, headed_by, is_header}
+use Rattle.sixel_base.specs.Header.{Open, Begun, headed, is_header}
 use Rattle.sixel_base.specs.Header.{header_rest, header_text, command_fault}
 use Rattle.sixel_decoder.specs.inside.Header.{IsHeaderFault}
 use Rattle.sixel_decoder.proofs.DcsHeaders.{header_rest-one, header_rest-open, header_text-one}
@@ -26,8 +25,7 @@ pub record ReadsHeader (parameters : Parameters) (index : ℕ) (bytes : List ℕ
 
 -- a byte that the header goes on with
 pub reads_on : (old new : Parameters) (index : ℕ) (bytes : List ℕ) → index < length bytes
-    → (r : ReadsHeader old index bytes)
-    → is_header (get_or bytes index 0) ≡ true
+    → (r : ReadsHeader old index bytes) → is_header (get_or bytes index 0) ≡ true
     → Keeps new (r.read ++ carrying (get_or bytes index 0 ∷ [])) → ReadsHeader new (index + 1) bytes
 reads_on old new index bytes within r is keeps =
     grind (
@@ -50,9 +48,7 @@ ends_at ps index bytes within r is = grind (arith, nat_tests, splits_at)
 pub begins_at : (ps : Parameters) (index : ℕ) (bytes : List ℕ) → index < length bytes
     → ReadsHeader ps index bytes → is_header (get_or bytes index 0) ≡ false
     → get_or bytes index 0 ≡ 113 → headed bytes ≡ Begun (drop (index + 1) bytes)
-begins_at ps index bytes within r is q =
-    ap headed_by (ends_at ps index bytes within r is)
-    ∙ ap (λ (b : ℕ). headed_by (b ∷ drop (index + 1) bytes)) q
+begins_at ps index bytes within r is q = rw (ends_at ps index bytes within r is, q) refl
 
 -- the whole text was read there
 pub text_at : (ps : Parameters) (index : ℕ) (bytes : List ℕ) → index < length bytes
@@ -62,23 +58,10 @@ text_at ps index bytes within r is = grind (arith, nat_tests, splits_at, append-
 
 -- a byte that is neither
 pub refused_at : (e : SixelError) (ps : Parameters) (index : ℕ) (bytes : List ℕ)
-    → index < length bytes → ReadsHeader ps index bytes
-    → is_header (get_or bytes index 0) ≡ false
+    → index < length bytes → ReadsHeader ps index bytes → is_header (get_or bytes index 0) ≡ false
     → IsSomeAnd (command_fault (get_or bytes index 0)) (IsFault e) → IsHeaderFault e (headed bytes)
 refused_at e ps index bytes within r is fault =
-    let byte : ℕ = get_or bytes index 0 in
-    let more : List ℕ = drop (index + 1) bytes in
-    subst (λ (w : List ℕ). IsHeaderFault e (headed_by w)) (sym (ends_at ps index bytes within r is))
-    ((elim (byte == 113) as (λ q. IsSomeAnd
-    (cond q None (cond (is_terminator byte) (Some Malformed) (Some BadHeader))) (IsFault e)
-    → IsHeaderFault e
-    (cond q (Begun more) (cond (is_terminator byte) (Faulty Malformed) (Faulty BadHeader)))) [
-      | true ↦ λ never. never
-      | false ↦ elim (is_terminator byte) as (λ t. IsSomeAnd
-          (cond t (Some Malformed) (Some BadHeader)) (IsFault e)
-          → IsHeaderFault e (cond t (Faulty Malformed) (Faulty BadHeader)))
-          [ true ↦ λ named. named | false ↦ λ named. named ]
-    ]) fault)
+    let ends = ends_at ps index bytes within r is in grind (arith, nat_tests, ends)
 
 -- a header that the bytes end in
 pub open_at : (ps : Parameters) (index : ℕ) (bytes : List ℕ) → length bytes ≤ index

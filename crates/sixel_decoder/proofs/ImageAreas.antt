@@ -8,7 +8,6 @@ use Rattle.std.proofs.lemmas.Bool.Decides.{nat_tests}
 -- the height with crop
 pub low : {C : Type 0} {canvas : Ghosts C} (painter : Painter C canvas) (height : ℕ)
     → height
-    ≡ min (if painter.raster_crop && nat_lt 0 painter.raster.1 then painter.raster.1
-    else painter.height) painter.pixel_limit.rows
-    → height ≤ painter.clipped_height
+    ≡ min (if painter.raster_crop && nat_lt 0 painter.raster.1 then painter.raster.1 else
+    painter.height) painter.pixel_limit.rows → height ≤ painter.clipped_height
 low painter height is = grind (arith, nat_tests)

@@ -27,20 +27,15 @@ pub mask_is : (bytes : List ℕ) (at : ℕ) → at + 8 ≤ length bytes
     ≡ mask_l (map is_other (chunk at 8 bytes))
 mask_is bytes at room =
     let lanes : List ℕ = chunk at 8 bytes in
+    let low : List ℕ = map (λ x. lowered x 63) lanes in
     let long : length lanes ≡ 8 = length-chunk at 8 bytes room in
-    let low : zip2 lowered lanes (replicate 8 63) ≡ map (λ x. lowered x 63) lanes =
-    zip2_splat lowered lanes 8 63 long in
-    let tops = tops_compared w8 nat_lt (replicate 8 63) (map (λ x. lowered x 63) lanes) in
-    let hits =
-    zip2_splat_left nat_lt 63 8 (map (λ x. lowered x 63) lanes)
-    (length-map lanes (λ x. lowered x 63) ∙ long) in
-    let each : map (top 7)
-    (zip2 (λ a b. cond (nat_lt a b) 255 0) (replicate 8 63) (zip2 lowered lanes (replicate 8 63)))
-    ≡ map is_other lanes =
-    ap (λ (ys : List ℕ). map (top 7) (zip2 (λ a b. cond (nat_lt a b) 255 0) (replicate 8 63) ys))
-    low ∙ tops ∙ hits ∙ map-map (nat_lt 63) (λ x. lowered x 63) lanes in
-    ap (λ (ms : List Bool). mask_l ms % 18446744073709551616) each
-    ∙ mask_l-mod (map is_other lanes) 64 (omega (arith, length-map lanes is_other, long))
+    let few = length-map lanes is_other in
+    rw (
+      zip2_splat lowered lanes 8 63 long,
+      tops_compared w8 nat_lt (replicate 8 63) low,
+      zip2_splat_left nat_lt 63 8 low (length-map lanes (λ x. lowered x 63) ∙ long),
+      map-map (nat_lt 63) (λ x. lowered x 63) lanes,
+    ) (mask_l-mod (map is_other lanes) 64 (omega arith))
 
 sixel_from : (byte : ℕ) → byte < 256 → is_other byte ≡ false → IsSixelByte byte
 sixel_from byte fits h = (grind (arith, nat_tests, fits, h), grind (arith, nat_tests, fits, h))

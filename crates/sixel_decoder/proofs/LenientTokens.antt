@@ -1,16 +1,13 @@
 -- What a painter has drawn of all tokens where commands with a fault may be ignored.
-use Rattle.std.proofs.Common.{◌≡◌, ℕ, ◌-◌, ◌<◌, ◌≤◌, Bool, true, false, List, [], ◌∷◌, refl}
-use Rattle.std.proofs.Common.{ap, sym, ◌∙◌, subst, length, take, get_or, Option, Some, None, Result}
-use Rattle.std.proofs.Common.{arith}
+use Rattle.std.proofs.Common.{◌≡◌, ℕ, ◌-◌, ◌<◌, ◌≤◌, Bool, true, false, List, [], ◌∷◌, refl, ◌∙◌}
+use Rattle.std.proofs.Common.{length, take, get_or, Option, Some, None, Result, arith}
 use Rattle.std.specs.Prelude.{IfErr, fold, min, ◌+◌}
 use Rattle.sixel_base.specs.declared.error.SixelError.{SixelError}
 use Rattle.sixel_base.specs.Fault.{Fault, Faults, is_fault}
-use Rattle.sixel_base.specs.History.{Token, Sixel, Repeat}
-use Rattle.sixel_base.specs.History.{History, read}
-use Rattle.sixel_base.specs.Lenient.{count_limit, effective, ignored_count, tolerated}
-use Rattle.sixel_base.specs.Lenient.{without}
+use Rattle.sixel_base.specs.History.{Token, Sixel, Repeat, History, read}
+use Rattle.sixel_base.specs.Lenient.{count_limit, effective, ignored_count, tolerated, without}
 use Rattle.sixel_base.specs.Limits.{Limit}
-use Rattle.sixel_base.specs.Payload.{fault_of, first_fault, settled, settled_tokens}
+use Rattle.sixel_base.specs.Payload.{first_fault, settled, settled_tokens}
 use Rattle.sixel_base.specs.Stroke.{Origin}
 use Rattle.sixel_base.proofs.ToleratedTokens.{effective-more, effective-strict, count-more}
 use Rattle.sixel_base.proofs.ToleratedTokens.{count-without, effective-without, option_or-none}
@@ -32,9 +29,8 @@ memory_along e may found found' not_fault is = grind (arith, nat_tests)
 
 -- one more token that was drawn
 pub has_drawn_more : {C : Type 0} {canvas : Ghosts C} (o : Origin) (painter : Painter C canvas)
-    (n : ℕ) (token : Token) (h : History)
-    → Shows o painter (token ∷ effective o.pixel_limit h) → n ≡ ignored_count o.pixel_limit h
-    → HasDrawn o painter n (token ∷ h)
+    (n : ℕ) (token : Token) (h : History) → Shows o painter (token ∷ effective o.pixel_limit h)
+    → n ≡ ignored_count o.pixel_limit h → HasDrawn o painter n (token ∷ h)
 has_drawn_more o painter n token h shows count =
     grind (arith, nat_tests, effective-more, count-more)
 
@@ -43,8 +39,7 @@ pub has_drawn_without : {C : Type 0} {canvas : Ghosts C} (o : Origin) (painter :
     (n : ℕ) (token : Token) (h : History) (f : Fault) → o.pixel_limit.lenient ≡ true
     → first_fault o.pixel_limit (token ∷ effective o.pixel_limit h) ≡ Some f
     → Shows o painter (without token (effective o.pixel_limit h))
-    → n ≡ ignored_count o.pixel_limit h
-    → HasDrawn o painter (min (n + 1) count_limit) (token ∷ h)
+    → n ≡ ignored_count o.pixel_limit h → HasDrawn o painter (min (n + 1) count_limit) (token ∷ h)
 has_drawn_without o painter n token h f on found shows count =
     grind (arith, effective-without, count-without)
 
@@ -62,8 +57,7 @@ tolerates_command result o old new n token h other state draws kept =
 -- so it is in the words of `tolerate`
 pub tolerates : {C : Type 0} {canvas : Ghosts C} (outcome result : Result (Unit {0}) SixelError)
     (lenient : Bool) (o : Origin) (old new : Painter C canvas) (n m : ℕ) (token : Token)
-    (h : History)
-    → lenient ≡ old.pixel_limit.lenient → result ≡ tolerated_result lenient outcome
+    (h : History) → lenient ≡ old.pixel_limit.lenient → result ≡ tolerated_result lenient outcome
     → m ≡ tolerated_count lenient outcome n → ((w : History) → without token w ≡ w)
     → HasDrawn o old n h → Draws outcome o new (token ∷ effective o.pixel_limit h) false
     → IfErr outcome (λ error. is_fault error ≡ true → new ≡ old)
@@ -77,58 +71,33 @@ sixels-older : (limit : Limit) (h : History) (sixels : List ℕ)
     → first_fault limit (with_sixels h sixels) ≡ None → first_fault limit h ≡ None
 sixels-older limit h [] none = none
 sixels-older limit h (bits ∷ more) none =
-    option_or-none (first_fault limit h) (fault_of limit (Sixel bits) h)
-    (sixels-older limit (Sixel bits ∷ h) more none)
+    grind (arith, option_or-none, sixels-older limit (Sixel bits ∷ h) more none)
 
 -- sixels that have no fault after the tokens that count
 effective-sixels : (limit : Limit) (h : History) (sixels : List ℕ)
     → first_fault limit (with_sixels (effective limit h) sixels) ≡ None
-    → effective limit (with_sixels h sixels) ≡ with_sixels (effective limit h) sixels
-effective-sixels limit h [] none = refl
+    → (effective limit (with_sixels h sixels) ≡ with_sixels (effective limit h) sixels)
+    × (ignored_count limit (with_sixels h sixels) ≡ ignored_count limit h)
+effective-sixels limit h [] none = (refl, refl)
 effective-sixels limit h (bits ∷ more) none =
-    let one : effective limit (Sixel bits ∷ h) ≡ Sixel bits ∷ effective limit h =
-    effective-more limit (Sixel bits) h
-    (sixels-older limit (Sixel bits ∷ effective limit h) more none) in
-    effective-sixels limit (Sixel bits ∷ h) more
-    (ap (λ (w : History). first_fault limit (with_sixels w more)) one ∙ none)
-    ∙ ap (λ (w : History). with_sixels w more) one
-
--- of which none is ignored
-count-sixels : (limit : Limit) (h : History) (sixels : List ℕ)
-    → first_fault limit (with_sixels (effective limit h) sixels) ≡ None
-    → ignored_count limit (with_sixels h sixels) ≡ ignored_count limit h
-count-sixels limit h [] none = refl
-count-sixels limit h (bits ∷ more) none =
-    let first : first_fault limit (Sixel bits ∷ effective limit h) ≡ None =
-    sixels-older limit (Sixel bits ∷ effective limit h) more none in
-    count-sixels limit (Sixel bits ∷ h) more
-    (ap (λ (w : History). first_fault limit (with_sixels w more))
-    (effective-more limit (Sixel bits) h first) ∙ none)
-    ∙ count-more limit (Sixel bits) h first
+    let first = sixels-older limit (Sixel bits ∷ effective limit h) more none in
+    let one = effective-more limit (Sixel bits) h first in
+    let rest = effective-sixels limit (Sixel bits ∷ h) more (rw one none) in
+    (rw one at rest.0, rest.1 ∙ count-more limit (Sixel bits) h first)
 
 -- that were drawn
 pub has_drawn_front : {C : Type 0} {canvas : Ghosts C} (o : Origin) (painter : Painter C canvas)
-    (n : ℕ) (h : History) (drawn : ℕ) (bytes : List ℕ)
-    → drawn ≤ length bytes → ((k : ℕ) → k < drawn → IsSixelByte (get_or bytes k 0))
+    (n : ℕ) (h : History) (drawn : ℕ) (bytes : List ℕ) → drawn ≤ length bytes
+    → ((k : ℕ) → k < drawn → IsSixelByte (get_or bytes k 0))
     → Shows o painter (fold read (effective o.pixel_limit h) (take drawn bytes))
-    → n ≡ ignored_count o.pixel_limit h
-    → HasDrawn o painter n (fold read h (take drawn bytes))
+    → n ≡ ignored_count o.pixel_limit h → HasDrawn o painter n (fold read h (take drawn bytes))
 has_drawn_front o painter n h drawn bytes le are shows count =
-    let limit : Limit = o.pixel_limit in
-    let run : List ℕ = take drawn bytes in
+    let run = take drawn bytes in
     let is : IsRun run = IsRun-take drawn bytes le are in
-    let whole : fold read (effective limit h) run ≡ with_sixels (effective limit h) (bits_of run) =
-    fold_run (effective limit h) run is in
-    let none : first_fault limit (with_sixels (effective limit h) (bits_of run)) ≡ None =
-    ap (first_fault limit) (sym whole) ∙ shows.faultless in
-    record {
-      shows = subst (λ (w : History). Shows o painter w)
-          (whole ∙ sym (effective-sixels limit h (bits_of run) none)
-          ∙ ap (effective limit) (sym (fold_run h run is))) shows;
-      count =
-          count ∙ sym (count-sixels limit h (bits_of run) none)
-          ∙ ap (ignored_count limit) (sym (fold_run h run is));
-    }
+    let drawn = rw (fold_run (effective o.pixel_limit h) run is) at shows in
+    let same = effective-sixels o.pixel_limit h (bits_of run) drawn.faultless in
+    rw (fold_run h run is)
+    (record { shows = rw same.0 drawn; count = rw same.1 count })
 
 -- a sixel that is ignored
 pub has_drawn_ignored : {C : Type 0} {canvas : Ghosts C} (e : SixelError) (o : Origin)
@@ -140,15 +109,9 @@ pub has_drawn_ignored : {C : Type 0} {canvas : Ghosts C} (e : SixelError) (o : O
     → Shows o new (Repeat [] ∷ effective o.pixel_limit h)
     → HasDrawn o new (min (n + 1) count_limit) (fold read h (take 1 bytes))
 has_drawn_ignored e o old new n h bytes some is lenient faulty state refused shows =
-    let limit : Limit = o.pixel_limit in
-    let token : Token = Sixel (get_or bytes 0 0 - 63) in
-    let on : limit.lenient ≡ true =
-    ap (λ (w : Limit). w.lenient) (sym state.shows.limit) ∙ lenient in
-    subst (λ (w : History). HasDrawn o new (min (n + 1) count_limit) w)
-    (sym (fold_one h bytes some is))
-    (fault_found e true (first_fault limit (token ∷ effective limit h))
-    (HasDrawn o new (min (n + 1) count_limit) (token ∷ h)) refused faulty (λ f found.
-    has_drawn_without o new n token h f on found shows state.count))
+    let on = rw state.shows.limit at lenient in
+    rw (fold_one h bytes some is) (fault_found e true _ _ refused faulty (λ f found.
+    has_drawn_without o new n _ h f on found shows state.count))
 
 -- ---- how many sixels there are
 

@@ -34,7 +34,6 @@ pub mod FrontBits
 pub mod SetRows
 pub mod DrawnHeights
 pub mod ShownRows
-pub mod ReleasedRows
 pub mod ImageAreas
 pub mod Clips
 pub mod WholePictures

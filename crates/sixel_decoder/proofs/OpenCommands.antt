@@ -1,22 +1,19 @@
 -- How a parser stands once it has opened a command with the digits after it.
 use Rattle.std.proofs.Common.{◌≡◌, ℕ, suc, ◌+◌, ◌<◌, ◌≤◌, ◌⊎◌, false, List, [], ◌∷◌, length, get_or}
-use Rattle.std.proofs.Common.{take, drop, get_or-take, length-take, refl, sym, ap, ◌∙◌, subst}
-use Rattle.std.proofs.Common.{arith}
+use Rattle.std.proofs.Common.{take, drop, get_or-take, length-take, refl, arith}
 use Rattle.std.specs.Prelude.{IsTrue, fold}
 use Rattle.std.specs.List.{list_all}
 use Rattle.std.proofs.lemmas.Bool.Decides.{nat_tests}
 use Rattle.std.proofs.lemmas.Grind.{common_steps}
 use Rattle.sixel_base.specs.Bytes.{is_digit, is_parameter}
-use Rattle.sixel_base.specs.History.{Repeat, Color, History}
-use Rattle.sixel_base.specs.History.{goes_on, read}
+use Rattle.sixel_base.specs.History.{Repeat, Color, History, goes_on, read}
 use Rattle.sixel_base.specs.Stroke.{Origin}
 use Rattle.sixel_base.specs.inside.Parameters.{IsDigit, Keeps}
 use Rattle.sixel_base.proofs.Histories.{fold-spelling}
 use Rattle.sixel_canvas.specs.declared.drawing.Canvas.{Ghosts}
 use Rattle.sixel_decoder.specs.declared.payload_parser.PayloadParser.{PayloadParser}
-use Rattle.sixel_decoder.specs.declared.payload_parser.OpenCommand.{OpenCommand}
 use Rattle.sixel_decoder.specs.declared.payload_parser.OpenCommand.TheVariants.{InRepeat, InColor}
-use Rattle.sixel_decoder.specs.inside.PayloadParser.{IsOpen, Stands, StandsIn}
+use Rattle.sixel_decoder.specs.inside.PayloadParser.{Stands}
 use Rattle.sixel_decoder.specs.inside.Lenient.{HasDrawn}
 
 abbrev pub AreDigits : List ℕ → Type 0
@@ -57,9 +54,7 @@ fold_front : (h : History) (bytes : List ℕ) (first n : ℕ) → 0 < length byt
     → fold read h (take (n + 1) bytes) ≡ fold read h (first ∷ take n (drop 1 bytes))
 fold_front h [] first n some is = absurd (omega arith)
 fold_front h (byte ∷ bytes) first n some is =
-    let more : n + 1 ≡ suc n = omega arith in
-    ap (λ (m : ℕ). fold read h (take m (byte ∷ bytes))) more
-    ∙ ap (λ (b : ℕ). fold read h (b ∷ take n bytes)) is
+    let more : n + 1 ≡ suc n = omega arith in rw (more, is) refl
 
 module _ {C : Type 0} {canvas : Ghosts C} (o : Origin) (new : PayloadParser C canvas)
     (h : History) (bytes : List ℕ) (n : ℕ)
@@ -71,34 +66,26 @@ module _ {C : Type 0} {canvas : Ghosts C} (o : Origin) (new : PayloadParser C ca
       → Stands o new (fold read h (take (n + 1) bytes))
   Stands-repeat is command =
       let text : List ℕ = take n (drop 1 bytes) in
-      let newest : fold read h (take (n + 1) bytes) ≡ Repeat text ∷ h =
-      fold_front h bytes 33 n some is
-      ∙ fold-spelling h (Repeat text) (all_digits text (AreDigits-take n (drop 1 bytes) le are))
-      (goes_on_repeat h) in
-      let opened : IsOpen Repeat o new (fold read h (take (n + 1) bytes)) = record {
+      let digits = all_digits text (AreDigits-take n (drop 1 bytes) le are) in
+      let newest = fold-spelling h (Repeat text) digits (goes_on_repeat h) in
+      rw (fold_front h bytes 33 n some is, command) (record {
         text = text;
         older = h;
         newest = newest;
         keeps = keeps;
         shows = shows;
-      } in
-      subst (λ (p : OpenCommand). StandsIn p o new (fold read h (take (n + 1) bytes)))
-      (sym command) opened
+      })
 
   pub Stands-color : get_or bytes 0 0 ≡ 35 → new.command ≡ InColor
       → Stands o new (fold read h (take (n + 1) bytes))
   Stands-color is command =
       let text : List ℕ = take n (drop 1 bytes) in
-      let newest : fold read h (take (n + 1) bytes) ≡ Color text ∷ h =
-      fold_front h bytes 35 n some is
-      ∙ fold-spelling h (Color text) (all_parameters text (AreDigits-take n (drop 1 bytes) le are))
-      (goes_on_color h) in
-      let opened : IsOpen Color o new (fold read h (take (n + 1) bytes)) = record {
+      let parameters = all_parameters text (AreDigits-take n (drop 1 bytes) le are) in
+      let newest = fold-spelling h (Color text) parameters (goes_on_color h) in
+      rw (fold_front h bytes 35 n some is, command) (record {
         text = text;
         older = h;
         newest = newest;
         keeps = keeps;
         shows = shows;
-      } in
-      subst (λ (p : OpenCommand). StandsIn p o new (fold read h (take (n + 1) bytes)))
-      (sym command) opened
+      })

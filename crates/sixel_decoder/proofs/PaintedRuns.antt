@@ -1,11 +1,9 @@
 -- What a painter shows once sixels of one column each were drawn on its canvas: the pixels that
 -- they cover, and the runs that they are.
-use Rattle.std.proofs.Common.{◌≡◌, ℕ, suc, ◌+◌, ◌≤◌, ◌-◌, Bool, false, List, [], ◌∷◌, ◌++◌}
-use Rattle.std.proofs.Common.{length, get_or, take, get_or-take, subst, refl, sym, ap}
-use Rattle.std.proofs.Common.{◌∙◌, inl, inr, arith}
+use Rattle.std.proofs.Common.{◌≡◌, ℕ, suc, ◌+◌, ◌≤◌, ◌-◌, Bool, false, List, [], ◌∷◌, ◌++◌, length}
+use Rattle.std.proofs.Common.{get_or, take, get_or-take, subst, refl, sym, ap, ◌∙◌, arith}
 use Rattle.std.specs.Prelude.{nat_lt, nat_le, ◌&&◌, if◌then◌else◌}
 use Rattle.std.proofs.lemmas.List.{get_or_past}
-use Rattle.std.proofs.lemmas.Bool.{cases_lt, le-ltb, lt-leb, le-leb}
 use Rattle.sixel_base.specs.Clip.{clipped_pixel, is_pixel_inside}
 use Rattle.sixel_base.specs.DrawnHeight.{lowered}
 use Rattle.sixel_base.specs.History.{Sixel, History}
@@ -43,61 +41,43 @@ pixel-sixels : (o : Origin) (h : History) (sixels : List ℕ) (column row : ℕ)
     → pixel o (with_sixels h sixels) column row
     ≡ (if covers_all (across h) sixels (down h) column row then color o.registers h ++ 255 ∷ []
     else pixel o h column row)
-pixel-sixels o h [] column row single = elim (cases_lt column (across h)) [
-  | inl left ↦ rw (lt-leb (across h) column left) refl
-  | inr after ↦ rw (
-    le-leb (across h) column after,
-    le-ltb column (across h + 0) (omega (arith, after)),
-  ) refl
-]
+pixel-sixels o h [] column row single = grind (arith, nat_tests)
 pixel-sixels o h (bits ∷ more) column row single =
-    let ink = color o.registers h ++ 255 ∷ [] in
-    pixel-sixels o (Sixel bits ∷ h) more column row refl
-    ∙ ap
-    (λ n.
-    if covers_all (across h + n) more (down h) column row then ink
-    else (if covers (across h) (across h + n) (down h) bits column row then ink
-    else pixel o h column row))
-    single
-    ∙ covers_more (across h) bits (down h) column row more ink (pixel o h column row)
+    let rest = pixel-sixels o (Sixel bits ∷ h) more column row refl in
+    rw single at rest ∙ covers_more (across h) bits (down h) column row more _ _
 
 -- a sixel of eight is one of the first ones, or blank
 bits_at : (sixels eight : List ℕ) (j : ℕ) → take (length sixels) eight ≡ sixels
-    → ((k : ℕ) → length sixels ≤ k → get_or eight k 0 ≡ 0)
-    → get_or eight j 0 ≡ get_or sixels j 0
+    → ((k : ℕ) → length sixels ≤ k → get_or eight k 0 ≡ 0) → get_or eight j 0 ≡ get_or sixels j 0
 bits_at sixels eight j first blank = grind (arith, nat_tests, get_or-take, get_or_past)
 
 -- eight sixels of which only the first ones are not blank
 covers_first : (from top column row : ℕ) (sixels eight : List ℕ) → length sixels ≤ 8
-    → take (length sixels) eight ≡ sixels
-    → ((k : ℕ) → length sixels ≤ k → get_or eight k 0 ≡ 0)
+    → take (length sixels) eight ≡ sixels → ((k : ℕ) → length sixels ≤ k → get_or eight k 0 ≡ 0)
     → covers_block from eight top column row ≡ covers_all from sixels top column row
 covers_first from top column row sixels eight few first blank =
     grind (arith, nat_tests, bits_at, get_or_past, blank_set, fails_third)
 
 -- and its column
 run_inside : (limit : Limit) (n bits : ℕ) (h : History) → IsInside limit (suc n) h
-    → runs_of limit (Sixel bits ∷ h)
-    ≡ run (across h) (across h + 1) (down h) bits ∷ runs_of limit h
+    → runs_of limit (Sixel bits ∷ h) ≡ run (across h) (across h + 1) (down h) bits ∷ runs_of limit h
 run_inside limit n bits h inside = grind (arith, nat_tests)
 
 -- the runs of a history with sixels of one column each
-runs_of-sixels : (limit : Limit) (h : History) (sixels : List ℕ)
-    → IsInside limit (length sixels) h
+runs_of-sixels : (limit : Limit) (h : History) (sixels : List ℕ) → IsInside limit (length sixels) h
     → with_runs (across h) sixels (down h) (runs_of limit h) ≡ runs_of limit (with_sixels h sixels)
 runs_of-sixels limit h [] inside = refl
 runs_of-sixels limit h (bits ∷ more) inside =
-    ap (with_runs (across h + 1) more (down h)) (sym (run_inside limit (length more) bits h inside))
-    ∙ ap
-    (λ n. with_runs (across h + n) more (down h) (runs_of limit (Sixel bits ∷ h)))
-    (sym inside.single)
-    ∙ runs_of-sixels limit (Sixel bits ∷ h) more (IsInside-sixel limit (length more) bits h inside)
+    let rest =
+    runs_of-sixels limit (Sixel bits ∷ h) more (IsInside-sixel limit (length more) bits h inside) in
+    rw (← run_inside limit (length more) bits h inside)
+    (ap (λ n. with_runs (across h + n) more (down h) (runs_of limit (Sixel bits ∷ h)))
+    (sym inside.single) ∙ rest)
 
 -- sixels inside the clip cover no pixel outside
 covers_all_outside : (limit : Limit) (from top column row : ℕ) (sixels : List ℕ)
     → from + length sixels ≤ limit.columns → top + 6 ≤ limit.rows
-    → is_pixel_inside limit column row ≡ false
-    → covers_all from sixels top column row ≡ false
+    → is_pixel_inside limit column row ≡ false → covers_all from sixels top column row ≡ false
 covers_all_outside limit from top column row sixels narrow low outside = grind (arith, nat_tests)
 
 -- the pixels inside the clip then
@@ -124,70 +104,45 @@ named_width-sixels limit h (bits ∷ sixels) = named_width-sixels limit (Sixel b
 
 -- the painter once such sixels were drawn on its canvas
 Shows-sixels : {C : Type 0} {canvas : Ghosts C} (o : Origin) (h : History)
-    (old new : Painter C canvas) (sixels : List ℕ)
-    → Shows o old h → IsInside o.pixel_limit (length sixels) h
-    → ((column row : ℕ)
-    → canvas.shown new.canvas column row ≡ clipped_pixel o (with_sixels h sixels) column row)
-    → canvas.paid new.canvas (named_width o.pixel_limit h)
-    (runs_of o.pixel_limit (with_sixels h sixels))
-    → canvas.top new.canvas ≡ canvas.top old.canvas
-    → ((row : ℕ)
-    → drawn_rows new.drawn row ≡ lowered (drawn_rows old.drawn row) row (most_rows sixels))
-    → new.registers ≡ old.registers → new.color ≡ old.color → new.repeat ≡ old.repeat
-    → new.column ≡ old.column + length sixels
-    → new.width ≡ old.width → new.height ≡ old.height → new.raster ≡ old.raster
-    → new.ratio ≡ old.ratio → new.settings ≡ old.settings
-    → new.raster_crop ≡ old.raster_crop → new.pixel_limit ≡ old.pixel_limit
-    → Shows o new (with_sixels h sixels)
+    (old new : Painter C canvas) (sixels : List ℕ) → Shows o old h
+    → IsInside o.pixel_limit (length sixels) h
+    →
+    ((column row : ℕ) → canvas.shown new.canvas column row ≡ clipped_pixel o (with_sixels h sixels)
+    column row) → canvas.paid new.canvas (named_width o.pixel_limit h)
+    (runs_of o.pixel_limit (with_sixels h sixels)) → canvas.top new.canvas ≡ canvas.top old.canvas
+    →
+    ((row : ℕ) → drawn_rows new.drawn row ≡ lowered (drawn_rows old.drawn row) row
+    (most_rows sixels)) → new.registers ≡ old.registers → new.color ≡ old.color
+    → new.repeat ≡ old.repeat → new.column ≡ old.column + length sixels → new.width ≡ old.width
+    → new.height ≡ old.height → new.raster ≡ old.raster → new.ratio ≡ old.ratio
+    → new.settings ≡ old.settings → new.raster_crop ≡ old.raster_crop
+    → new.pixel_limit ≡ old.pixel_limit → Shows o new (with_sixels h sixels)
 Shows-sixels o h old new sixels shows inside drawn paid' top' lower' registers' color' repeat'
     column' width' height' raster' ratio' settings' crop' limit' =
     let passed = IsPassed-sixels o.pixel_limit o h sixels inside in
-    record {
-      pixels = drawn;
-      paid = rw (named_width-sixels o.pixel_limit h sixels) paid';
-      registers = registers' ∙ shows.registers ∙ sym passed.registers;
-      color = color' ∙ shows.color ∙ ap (λ c. c ++ 255 ∷ []) (sym passed.color);
-      repeat = repeat' ∙ shows.repeat ∙ inside.single ∙ sym passed.span;
-      column = omega (arith, column', shows.column, passed.across);
-      top = top' ∙ shows.top ∙ sym passed.down;
-      width = width' ∙ shows.width ∙ sym passed.width;
-      height = height' ∙ shows.height ∙ sym passed.height;
-      raster = raster' ∙ shows.raster ∙ sym passed.raster;
-      drawn =
-          ap (drawn_rows new.drawn) passed.down ∙ lower' (down h)
-          ∙ ap (λ (rows : ℕ). lowered rows (down h) (most_rows sixels)) shows.drawn
-          ∙ sym (drawn_height-sixels o.pixel_limit h sixels inside);
-      ratio = ratio' ∙ shows.ratio ∙ sym passed.ratio;
-      settings = settings' ∙ shows.settings;
-      crop = crop' ∙ shows.crop;
-      limit = limit' ∙ shows.limit;
-      faultless = passed.faultless;
-    }
+    let lowest = drawn_height-sixels o.pixel_limit h sixels inside in
+    grind (arith, nat_tests, named_width-sixels)
 
 -- the painter once a block of sixels was drawn, of which the first ones are these
 pub Shows-block : {C : Type 0} {canvas : Ghosts C} (o : Origin) (h after : History)
-    (old new : Painter C canvas) (sixels eight : List ℕ)
-    → after ≡ with_sixels h sixels → Shows o old h
-    → old.repeat ≡ 1 → old.column + length sixels ≤ old.clipped_width
-    → canvas.top old.canvas + 6 ≤ old.clipped_height
-    → length sixels ≤ 8 → take (length sixels) eight ≡ sixels
-    → ((k : ℕ) → length sixels ≤ k → get_or eight k 0 ≡ 0)
-    → ((column row : ℕ)
-    → canvas.shown new.canvas column row
-    ≡ (if covers_block old.column eight (canvas.top old.canvas) column row then old.color
-    else canvas.shown old.canvas column row))
-    → ((named : ℕ) (runs : List Run)
-    → canvas.paid old.canvas named runs
-    → canvas.paid new.canvas named (with_runs old.column sixels (canvas.top old.canvas) runs))
+    (old new : Painter C canvas) (sixels eight : List ℕ) → after ≡ with_sixels h sixels
+    → Shows o old h → old.repeat ≡ 1 → old.column + length sixels ≤ old.clipped_width
+    → canvas.top old.canvas + 6 ≤ old.clipped_height → length sixels ≤ 8
+    → take (length sixels) eight ≡ sixels → ((k : ℕ) → length sixels ≤ k → get_or eight k 0 ≡ 0)
+    →
+    ((column row : ℕ) → canvas.shown new.canvas column row ≡
+    (if covers_block old.column eight (canvas.top old.canvas) column row then old.color else
+    canvas.shown old.canvas column row))
+    → ((named : ℕ) (runs : List Run) → canvas.paid old.canvas named runs → canvas.paid new.canvas
+    named (with_runs old.column sixels (canvas.top old.canvas) runs))
     → canvas.top new.canvas ≡ canvas.top old.canvas
-    → ((row : ℕ)
-    → drawn_rows new.drawn row ≡ lowered (drawn_rows old.drawn row) row (most_rows eight))
-    → new.registers ≡ old.registers → new.color ≡ old.color → new.repeat ≡ old.repeat
-    → new.column ≡ old.column + length sixels
-    → new.width ≡ old.width → new.height ≡ old.height → new.raster ≡ old.raster
-    → new.ratio ≡ old.ratio → new.settings ≡ old.settings
-    → new.raster_crop ≡ old.raster_crop → new.pixel_limit ≡ old.pixel_limit
-    → Shows o new after
+    →
+    ((row : ℕ) → drawn_rows new.drawn row ≡ lowered (drawn_rows old.drawn row) row
+    (most_rows eight)) → new.registers ≡ old.registers → new.color ≡ old.color
+    → new.repeat ≡ old.repeat → new.column ≡ old.column + length sixels → new.width ≡ old.width
+    → new.height ≡ old.height → new.raster ≡ old.raster → new.ratio ≡ old.ratio
+    → new.settings ≡ old.settings → new.raster_crop ≡ old.raster_crop
+    → new.pixel_limit ≡ old.pixel_limit → Shows o new after
 Shows-block {C} {canvas} o h after old new sixels eight whole shows single right lower few first
     blank drawn paid' top' lower' registers' color' repeat' column' width' height' raster' ratio'
     settings' crop' limit' =

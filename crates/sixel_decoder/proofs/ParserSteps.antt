@@ -1,6 +1,6 @@
 -- How a parser goes on from one history to the next.
-use Rattle.std.proofs.Common.{◌≡◌, ℕ, ◌≤◌, Bool, true, false, List, [], ◌∷◌, ◌++◌}
-use Rattle.std.proofs.Common.{arith, Option, Some}
+use Rattle.std.proofs.Common.{◌≡◌, ℕ, ◌≤◌, Bool, true, false, List, [], ◌∷◌, ◌++◌, arith, Option}
+use Rattle.std.proofs.Common.{Some}
 use Rattle.std.specs.Prelude.{IsTrue, nat_lt}
 use Rattle.sixel_base.specs.declared.error.SixelError.{SixelError}
 use Rattle.sixel_canvas.specs.declared.drawing.Canvas.{Ghosts}
@@ -8,8 +8,7 @@ use Rattle.sixel_decoder.specs.declared.payload_parser.PayloadParser.{PayloadPar
 use Rattle.sixel_decoder.specs.declared.payload_parser.OpenCommand.{OpenCommand}
 use Rattle.sixel_base.specs.Fault.{Fault, Faults}
 use Rattle.sixel_base.specs.inside.Parameters.{Parameters, Keeps}
-use Rattle.sixel_base.specs.History.{Token}
-use Rattle.sixel_base.specs.History.{History, begun, goes_on, read}
+use Rattle.sixel_base.specs.History.{Token, History, begun, goes_on, read}
 use Rattle.sixel_base.specs.Limits.{Limit}
 use Rattle.sixel_base.specs.Lenient.{fault}
 use Rattle.sixel_base.specs.Stroke.{Origin}
@@ -33,8 +32,7 @@ pub growths-closed : (h : History) → growths (closed h) ≤ growths h
 growths-closed h = grind (arith, nat_tests)
 
 pub stands_goes_on : {C : Type 0} {canvas : Ghosts C} (command : OpenCommand) (o : Origin)
-    (h : History) (parser : PayloadParser C canvas)
-    (ps : Parameters) (byte : ℕ)
+    (h : History) (parser : PayloadParser C canvas) (ps : Parameters) (byte : ℕ)
     → goes_on h byte ≡ true → StandsIn command o parser h
     → ((text : List ℕ) → Keeps parser.parameters text → Keeps ps (text ++ byte ∷ []))
     → StandsIn command o (record parser { parameters = ps }) (read h byte)
@@ -42,8 +40,7 @@ stands_goes_on command o h parser ps byte goes is pushed = grind (arith, nat_tes
 
 -- if the open command is rejected at the next byte, so are the tokens up to that byte
 pub refused_close : (e : SixelError) (limit : Limit) (h : History) (byte : ℕ)
-    → goes_on h byte ≡ false
-    → Faults e false (fault limit h)
+    → goes_on h byte ≡ false → Faults e false (fault limit h)
     → Faults e (nat_lt (growths (closed h)) (growths (closed (read h byte))))
     (fault limit (closed (read h byte)))
 refused_close e limit h byte ends is = grind (arith, Faults-along, fault_stays, read_ends)

@@ -1,10 +1,9 @@
 -- What is rejected while a payload is fed is rejected at its end.
-use Rattle.std.proofs.Common.{◌∙◌, Bool, List, ℕ, Option, Result, Ok}
-use Rattle.std.proofs.Common.{Err, sym, subst}
-use Rattle.std.specs.Prelude.{IsTrue, nat_lt, ◌||◌, is_none}
+use Rattle.std.proofs.Common.{Bool, List, ℕ, Result, arith}
+use Rattle.std.specs.Prelude.{IsTrue, nat_lt, ◌||◌}
 use Rattle.sixel_base.specs.declared.error.SixelError.{SixelError}
 use Rattle.sixel_base.specs.Bytes.{front}
-use Rattle.sixel_base.specs.Fault.{Fault, Faults}
+use Rattle.sixel_base.specs.Fault.{Faults}
 use Rattle.sixel_base.specs.History.{history_of}
 use Rattle.sixel_base.specs.IgnoredCommands.{payload_ignored}
 use Rattle.sixel_base.specs.Lenient.{fault, effective}
@@ -16,7 +15,6 @@ use Rattle.sixel_decoder.specs.inside.PayloadParser.{Decodes}
 use Rattle.sixel_decoder.specs.inside.Painter.{Ends}
 use Rattle.sixel_decoder.specs.declared.decoded_payload.DecodedPayload.{DecodedPayload}
 use Rattle.sixel_decoder.proofs.ParserSteps.{Faults-along}
-use Rattle.std.proofs.Common.{arith}
 use Rattle.std.proofs.lemmas.Bool.Decides.{nat_tests}
 
 pub or_right : (a b : Bool) → IsTrue b → IsTrue (a || b)
@@ -33,20 +31,7 @@ payload_refused e limit bytes refused = grind (arith, nat_tests)
 -- what is rejected at the end of a payload
 pub payload_ends : (result : Result DecodedPayload SixelError) (o : Origin) (bytes : List ℕ)
     → Ends result o (effective o.pixel_limit (history_of (front bytes)))
-    (payload_ignored o.pixel_limit bytes)
-    → Decodes result o bytes
-payload_ends (Ok picture) o bytes is = (
-  sym (effective-fault o.pixel_limit (history_of (front bytes))) ∙ is.0,
-  is.1,
-  is.2,
-  is.3,
-  is.4,
-)
-payload_ends (Err e) o bytes refused =
-    Faults-along e (is_none (payload_fault o.pixel_limit bytes)) (payload_wants o.pixel_limit bytes)
-    (payload_fault o.pixel_limit bytes) (payload_fault o.pixel_limit bytes)
-    (λ may.
-    or_left (is_none (payload_fault o.pixel_limit bytes)) (nat_lt 0 (growths (settled bytes))) may)
-    (λ f is. is)
-    (subst (λ (w : Option Fault). Faults e (is_none w) w)
-    (effective-fault o.pixel_limit (history_of (front bytes))) refused)
+    (payload_ignored o.pixel_limit bytes) → Decodes result o bytes
+payload_ends result o bytes is =
+    let same = effective-fault o.pixel_limit (history_of (front bytes)) in
+    grind (arith, nat_tests, same, Faults-along, or_left)

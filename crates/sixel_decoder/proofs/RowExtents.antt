@@ -1,57 +1,31 @@
 -- How far the rows of an image are reached, and its sizes.
-use Rattle.std.proofs.Common.{◌≡◌, ℕ, suc, zero, ◌+◌, ◌*◌, ◌≤◌, Bool, false, nat_lt}
+use Rattle.std.proofs.Common.{◌≡◌, ℕ, suc, zero, ◌*◌, ◌≤◌, Bool, nat_lt}
 use Rattle.std.proofs.Common.{List, [], ◌∷◌, Option, None, refl, arith}
-use Rattle.std.specs.Prelude.{◌&&◌}
 use Rattle.std.specs.Option.{option_or}
 use Rattle.std.proofs.Math.Nat.{mul-suc}
 use Rattle.std.proofs.lemmas.Nat.{mul-le}
 use Rattle.std.proofs.lemmas.Bool.Decides.{nat_tests}
-use Rattle.std.proofs.lemmas.Bool.{le-ltb, le-leb}
-use Rattle.sixel_base.specs.History.{Sixel, Repeat, Raster, Color, Return, Newline, Skip, History}
+use Rattle.sixel_base.specs.History.{Raster, History}
 use Rattle.sixel_base.specs.Fault.{Fault}
-use Rattle.sixel_base.specs.Fields.{field}
 use Rattle.sixel_base.specs.Limits.{Limit, side_limit}
 use Rattle.sixel_base.specs.Lenient.{effective}
 use Rattle.sixel_base.specs.Payload.{cropped_height, extent_fault, first_fault, closed}
 use Rattle.sixel_base.specs.Payload.{payload_area}
-use Rattle.sixel_base.specs.Clip.{is_inside}
 use Rattle.sixel_base.specs.Picture.{total}
-use Rattle.sixel_base.specs.Place.{across, down, height, raster_height, span, width}
+use Rattle.sixel_base.specs.Place.{height, raster_height, width}
 use Rattle.sixel_base.specs.Reach.{payload_reached_area, row_reach, reached_area}
 use Rattle.sixel_base.proofs.ToleratedTokens.{effective-same}
-
--- a test that fails last
-fails_last : (a : Bool) → (a && false) ≡ false
-fails_last a = grind (arith, nat_tests)
 
 -- no sixel covers a row from the height on
 pub row_reach-past : (limit : Limit) (h : History) (row : ℕ) → height h ≤ row
     → row_reach limit h row ≡ 0
 row_reach-past limit [] row past = refl
-row_reach-past limit (Sixel bits ∷ h) row past =
-    let below : down h + 6 ≤ row = omega arith in
-    rw (
-      le-leb (down h) row (omega arith),
-      le-ltb row (down h + 6) below,
-      fails_last (is_inside limit h),
-    ) (row_reach-past limit h row (omega arith))
-row_reach-past limit (Repeat _ ∷ h) row past = row_reach-past limit h row past
-row_reach-past limit (Raster _ ∷ h) row past = row_reach-past limit h row (omega arith)
-row_reach-past limit (Color _ ∷ h) row past = row_reach-past limit h row past
-row_reach-past limit (Return ∷ h) row past = row_reach-past limit h row past
-row_reach-past limit (Newline ∷ h) row past = row_reach-past limit h row past
-row_reach-past limit (Skip _ ∷ h) row past = row_reach-past limit h row past
+row_reach-past limit (token ∷ h) row past = grind (arith, nat_tests, row_reach-past limit h row)
 
 -- no row is reached beyond the width
 row_reach-most : (limit : Limit) (h : History) (row : ℕ) → row_reach limit h row ≤ width h
 row_reach-most limit [] row = omega arith
-row_reach-most limit (Sixel bits ∷ h) row = grind (arith, nat_tests, row_reach-most limit h row)
-row_reach-most limit (Repeat _ ∷ h) row = row_reach-most limit h row
-row_reach-most limit (Raster _ ∷ h) row = omega (arith, row_reach-most limit h row)
-row_reach-most limit (Color _ ∷ h) row = row_reach-most limit h row
-row_reach-most limit (Return ∷ h) row = row_reach-most limit h row
-row_reach-most limit (Newline ∷ h) row = row_reach-most limit h row
-row_reach-most limit (Skip _ ∷ h) row = row_reach-most limit h row
+row_reach-most limit (token ∷ h) row = grind (arith, nat_tests, row_reach-most limit h row)
 
 -- numbers up to a bound
 total-most : (f : ℕ → ℕ) (bound n : ℕ) → ((k : ℕ) → f k ≤ bound) → total f n ≤ bound * n
@@ -71,40 +45,19 @@ both_none a b is = grind (arith, nat_tests)
 
 -- an extent without a fault has its sides within theirs
 extent-fits : (limit : Limit) (right lower : ℕ) (h : History)
-    → extent_fault limit right lower h ≡ None
-    → (right ≤ side_limit) × (lower ≤ side_limit)
+    → extent_fault limit right lower h ≡ None → (right ≤ side_limit) × (lower ≤ side_limit)
 extent-fits limit right lower h is = (grind (arith, nat_tests), grind (arith, nat_tests))
 
 -- so have tokens without a fault
 pub sides-fit : (limit : Limit) (h : History) → first_fault limit h ≡ None
     → (width h ≤ side_limit) × (height h ≤ side_limit)
 sides-fit limit [] is = (omega arith, omega arith)
-sides-fit limit (Sixel bits ∷ h) is =
-    let both = both_none (first_fault limit h) _ is in
-    let before = sides-fit limit h both.0 in
-    let here = extent-fits limit (across h + span h) (down h + 6) (Sixel bits ∷ h) both.1 in
-    (omega (arith, before.0, here.0), omega (arith, before.1, here.1))
-sides-fit limit (Repeat _ ∷ h) is = sides-fit limit h (both_none (first_fault limit h) _ is).0
-sides-fit limit (Raster text ∷ h) is =
-    let both = both_none (first_fault limit h) _ is in
-    let before = sides-fit limit h both.0 in
-    let here = extent-fits limit (field text 2) (field text 3) (Raster text ∷ h) both.1 in
-    (omega (arith, before.0, here.0), omega (arith, before.1, here.1))
-sides-fit limit (Color _ ∷ h) is = sides-fit limit h (both_none (first_fault limit h) _ is).0
-sides-fit limit (Return ∷ h) is = sides-fit limit h (both_none (first_fault limit h) _ is).0
-sides-fit limit (Newline ∷ h) is = sides-fit limit h (both_none (first_fault limit h) _ is).0
-sides-fit limit (Skip _ ∷ h) is = sides-fit limit h (both_none (first_fault limit h) _ is).0
+sides-fit limit (token ∷ h) is = grind (arith, nat_tests, sides-fit limit h, both_none, extent-fits)
 
 -- raster attributes name no height above the extent's
 raster_height-most : (h : History) → raster_height h ≤ height h
 raster_height-most [] = omega arith
-raster_height-most (Sixel bits ∷ h) = omega (arith, raster_height-most h)
-raster_height-most (Repeat _ ∷ h) = raster_height-most h
-raster_height-most (Raster text ∷ h) = grind (arith, nat_tests, raster_height-most h)
-raster_height-most (Color _ ∷ h) = raster_height-most h
-raster_height-most (Return ∷ h) = raster_height-most h
-raster_height-most (Newline ∷ h) = raster_height-most h
-raster_height-most (Skip _ ∷ h) = raster_height-most h
+raster_height-most (token ∷ h) = grind (arith, nat_tests, raster_height-most h)
 
 -- so an image is at most as high as the extent, and inside a clip as high as that inside the clip
 pub cropped_height-most : (crop : Bool) (h : History) → cropped_height crop h ≤ height h

@@ -1,85 +1,43 @@
 -- What the runs of a history have cost a canvas, against its sixels and how far they reach.
-use Rattle.std.proofs.Common.{◌≡◌, ℕ, suc, ◌+◌, ◌*◌, ◌≤◌, ◌∷◌, [], min, None, refl}
-use Rattle.std.proofs.Common.{arith, cond, false, true, ◌∙◌}
+use Rattle.std.proofs.Common.{◌≡◌, ℕ, ◌+◌, ◌*◌, ◌≤◌, ◌∷◌, [], None, refl, arith, ◌∙◌}
 use Rattle.std.proofs.lemmas.Bool.Decides.{nat_tests}
-use Rattle.sixel_base.specs.History.{Sixel, Repeat, Raster, Color, Return, Newline, Skip, History}
-use Rattle.sixel_base.specs.Clip.{clipped_bits, is_inside}
+use Rattle.sixel_base.specs.History.{History}
 use Rattle.sixel_base.specs.Limits.{Limit, repeat_limit}
 use Rattle.sixel_base.specs.Payload.{first_fault}
-use Rattle.sixel_base.specs.Place.{across, down, height, span}
+use Rattle.sixel_base.specs.Place.{height, span}
 use Rattle.sixel_base.specs.Reach.{row_reach, reached_area}
-use Rattle.sixel_canvas.specs.inside.Drawn.{Work, run}
+use Rattle.sixel_canvas.specs.inside.Drawn.{Work}
 use Rattle.sixel_canvas.specs.inside.RowCanvas.{RowCanvasState, HasCost, IsDrawnBy, row_edge}
 use Rattle.sixel_canvas.specs.inside.RowCanvas.{row_canvas_work, runs_least, runs_most}
 use Rattle.sixel_canvas.proofs.RowCosts.{drawn_cost}
 use Rattle.sixel_canvas.proofs.Totals.{total-same}
-use Rattle.sixel_decoder.specs.Paints.{sixels, least_paints, least_count}
-use Rattle.sixel_decoder.specs.Paints.{most_sixel_paints}
+use Rattle.sixel_decoder.specs.Paints.{sixels, least_paints, least_count, most_sixel_paints}
 use Rattle.sixel_decoder.specs.inside.Runs.{runs_of}
-use Rattle.sixel_decoder.proofs.RowExtents.{both_none, row_reach-past}
+use Rattle.sixel_decoder.proofs.RowExtents.{row_reach-past}
 
 -- the right edge of a row
 row_edge-history : (limit : Limit) (h : History) (row : ℕ)
     → row_edge (runs_of limit h) row ≡ row_reach limit h row
 row_edge-history limit [] row = refl
-row_edge-history limit (Sixel bits ∷ h) row = grind (arith, nat_tests, row_edge-history limit h row)
-row_edge-history limit (Repeat _ ∷ h) row = row_edge-history limit h row
-row_edge-history limit (Raster _ ∷ h) row = row_edge-history limit h row
-row_edge-history limit (Color _ ∷ h) row = row_edge-history limit h row
-row_edge-history limit (Return ∷ h) row = row_edge-history limit h row
-row_edge-history limit (Newline ∷ h) row = row_edge-history limit h row
-row_edge-history limit (Skip _ ∷ h) row = row_edge-history limit h row
+row_edge-history limit (token ∷ h) row = grind (arith, nat_tests, row_edge-history limit h row)
 
 -- what the sixels are counted as at least
 runs_least-history : (limit : Limit) (h : History)
     → runs_least (runs_of limit h) ≡ least_paints limit h
 runs_least-history limit [] = refl
-runs_least-history limit (Sixel bits ∷ h) = grind (arith, nat_tests, runs_least-history limit h)
-runs_least-history limit (Repeat _ ∷ h) = runs_least-history limit h
-runs_least-history limit (Raster _ ∷ h) = runs_least-history limit h
-runs_least-history limit (Color _ ∷ h) = runs_least-history limit h
-runs_least-history limit (Return ∷ h) = runs_least-history limit h
-runs_least-history limit (Newline ∷ h) = runs_least-history limit h
-runs_least-history limit (Skip _ ∷ h) = runs_least-history limit h
+runs_least-history limit (token ∷ h) = grind (arith, nat_tests, runs_least-history limit h)
 
 -- no sixel of tokens without a fault has more columns than a repeat introducer may name
 pub span-fits : (limit : Limit) (h : History) → first_fault limit h ≡ None → span h ≤ repeat_limit
 span-fits limit [] is = omega arith
-span-fits limit (Sixel bits ∷ h) is = omega arith
-span-fits limit (Repeat text ∷ h) is = grind (arith, nat_tests)
-span-fits limit (Raster _ ∷ h) is = span-fits limit h (both_none (first_fault limit h) _ is).0
-span-fits limit (Color _ ∷ h) is = span-fits limit h (both_none (first_fault limit h) _ is).0
-span-fits limit (Return ∷ h) is = span-fits limit h (both_none (first_fault limit h) _ is).0
-span-fits limit (Newline ∷ h) is = span-fits limit h (both_none (first_fault limit h) _ is).0
-span-fits limit (Skip _ ∷ h) is = span-fits limit h (both_none (first_fault limit h) _ is).0
+span-fits limit (token ∷ h) is = grind (arith, nat_tests, span-fits limit h)
 
 -- what the sixels are counted as at most
 runs_most-history : (limit : Limit) (h : History) → first_fault limit h ≡ None
     → runs_most (runs_of limit h) ≤ most_sixel_paints * sixels h
 runs_most-history limit [] is = omega arith
-runs_most-history limit (Sixel bits ∷ h) is =
-    let before = (both_none (first_fault limit h) _ is).0 in
-    let cut : ℕ = clipped_bits limit (down h) bits in
-    let right : ℕ = min (across h + span h) limit.columns in
-    elim (is_inside limit h) as
-    (λ t.
-    runs_most (cond t (run (across h) right (down h) cut ∷ runs_of limit h) (runs_of limit h))
-    ≤ most_sixel_paints * suc (sixels h)) [
-      | true ↦ omega (arith, runs_most-history limit h before, span-fits limit h before)
-      | false ↦ omega (arith, runs_most-history limit h before)
-    ]
-runs_most-history limit (Repeat _ ∷ h) is =
-    runs_most-history limit h (both_none (first_fault limit h) _ is).0
-runs_most-history limit (Raster _ ∷ h) is =
-    runs_most-history limit h (both_none (first_fault limit h) _ is).0
-runs_most-history limit (Color _ ∷ h) is =
-    runs_most-history limit h (both_none (first_fault limit h) _ is).0
-runs_most-history limit (Return ∷ h) is =
-    runs_most-history limit h (both_none (first_fault limit h) _ is).0
-runs_most-history limit (Newline ∷ h) is =
-    runs_most-history limit h (both_none (first_fault limit h) _ is).0
-runs_most-history limit (Skip _ ∷ h) is =
-    runs_most-history limit h (both_none (first_fault limit h) _ is).0
+runs_most-history limit (token ∷ h) is =
+    grind (arith, nat_tests, runs_most-history limit h, span-fits limit h)
 
 -- What these tokens have cost a canvas of rows.
 pub record CostsAs (work : Work) (limit : Limit) (h : History) : Type 0 where

@@ -1,5 +1,5 @@
 -- The rows that bits set, of several sixels together.
-use Rattle.std.proofs.Common.{◌≡◌, ℕ, zero, suc, ◌/◌, ◌%◌, ◌^◌, ◌≤◌, Bool, true, false}
+use Rattle.std.proofs.Common.{◌≡◌, ℕ, zero, suc, ◌/◌, ◌%◌, ◌^◌, ◌≤◌, Bool}
 use Rattle.std.proofs.Common.{cond, List, [], ◌∷◌, max, length, refl, ap, ◌∙◌, arith}
 use Rattle.std.specs.Prelude.{◌||◌, ◌==◌}
 use Rattle.std.specs.Int.{to_le_bytes, w64}
@@ -21,10 +21,7 @@ is_set-or a b k = grind (arith, nat_tests, bit_at_or, one_of, bit_at-lt)
 
 few : (bits k : ℕ) → set_rows_within bits k ≤ k
 few bits zero = omega arith
-few bits (suc k) = elim (is_set bits k) as (λ t. cond t (suc k) (set_rows_within bits k) ≤ suc k) [
-  | true ↦ omega arith
-  | false ↦ omega (arith, few bits k)
-]
+few bits (suc k) = grind (arith, nat_tests, few bits k)
 
 or-cases : (s t : Bool) (k m n : ℕ) → m ≤ k → n ≤ k
     → cond (s || t) (suc k) (max m n) ≡ max (cond s (suc k) m) (cond t (suc k) n)
@@ -58,25 +55,15 @@ pub lowered-again : (before top a b : ℕ)
     → lowered (lowered before top a) top b ≡ lowered before top (max a b)
 lowered-again before top a b = grind (arith, nat_tests)
 
-byte-or : (a b k : ℕ)
-    → bit_or a b / 2 ^ k % 256 ≡ bit_or (a / 2 ^ k % 256) (b / 2 ^ k % 256)
+byte-or : (a b k : ℕ) → bit_or a b / 2 ^ k % 256 ≡ bit_or (a / 2 ^ k % 256) (b / 2 ^ k % 256)
 byte-or a b k = ap (λ n. n % 256) (or_shr a b k) ∙ or_mod (a / 2 ^ k) (b / 2 ^ k) 8
-
-cons-same : (x y : ℕ) (xs ys : List ℕ) → x ≡ y → xs ≡ ys → x ∷ xs ≡ y ∷ ys
-cons-same x y xs ys first rest = cc
 
 -- the bytes of two numbers together
 pub bytes-or : (a b : ℕ)
     → to_le_bytes w64 (bit_or a b) ≡ zip2 bit_or (to_le_bytes w64 a) (to_le_bytes w64 b)
 bytes-or a b =
-    cons-same _ _ _ _ (or_mod a b 8)
-    (cons-same _ _ _ _ (byte-or a b 8)
-    (cons-same _ _ _ _ (byte-or a b 16)
-    (cons-same _ _ _ _ (byte-or a b 24)
-    (cons-same _ _ _ _ (byte-or a b 32)
-    (cons-same _ _ _ _ (byte-or a b 40)
-    (cons-same _ _ _ _ (byte-or a b 48)
-    (cons-same _ _ _ _ (byte-or a b 56) refl)))))))
+    let byte = byte-or a b in
+    rw (or_mod a b 8, byte 8, byte 16, byte 24, byte 32, byte 40, byte 48, byte 56) refl
 
 pub length-bytes : (a : ℕ) → length (to_le_bytes w64 a) ≡ 8
 length-bytes a = refl

@@ -1,11 +1,9 @@
 -- What sixels of one column each that stand inside the picture do to the words of a history: they
 -- change pixels and the place alone.
 use Rattle.std.proofs.Common.{◌≡◌, ℕ, suc, ◌+◌, ◌*◌, ◌<◌, ◌≤◌, ◌-◌, true, false, List, [], ◌∷◌}
-use Rattle.std.proofs.Common.{length, get_or, take, length-take, get_or-take, subst, refl, sym, ap}
-use Rattle.std.proofs.Common.{◌∙◌, None, arith}
+use Rattle.std.proofs.Common.{length, get_or, take, length-take, get_or-take, refl, ap, None, arith}
 use Rattle.std.specs.Prelude.{fold, nat_lt}
-use Rattle.sixel_base.specs.History.{Sixel, History}
-use Rattle.sixel_base.specs.History.{goes_on, read}
+use Rattle.sixel_base.specs.History.{Sixel, History, goes_on, read}
 use Rattle.sixel_base.specs.Payload.{first_fault, closed, growths}
 use Rattle.sixel_base.specs.Clip.{clipped_height, clipped_width}
 use Rattle.sixel_base.specs.Fault.{Faults}
@@ -19,9 +17,8 @@ use Rattle.sixel_canvas.specs.declared.drawing.Canvas.{Ghosts}
 use Rattle.sixel_decoder.specs.Report.{raster_size}
 use Rattle.sixel_decoder.specs.inside.Lenient.{HasDrawn}
 use Rattle.sixel_decoder.specs.declared.payload_parser.PayloadParser.{PayloadParser}
-use Rattle.sixel_decoder.specs.declared.payload_parser.OpenCommand.{OpenCommand}
 use Rattle.sixel_decoder.specs.declared.payload_parser.OpenCommand.TheVariants.{Ground}
-use Rattle.sixel_decoder.specs.inside.PayloadParser.{IsDrawn, Stands, StandsIn}
+use Rattle.sixel_decoder.specs.inside.PayloadParser.{Stands}
 use Rattle.sixel_decoder.specs.inside.Runs.{IsSixelByte, IsRun, bits_of}
 use Rattle.sixel_canvas.specs.inside.Drawn.{run}
 use Rattle.std.proofs.lemmas.Bool.Decides.{nat_tests}
@@ -43,8 +40,8 @@ pub fold_run : (h : History) (run : List ℕ) → IsRun run
     → fold read h run ≡ with_sixels h (bits_of run)
 fold_run h [] are = refl
 fold_run h (byte ∷ run) are =
-    ap (λ (w : History). fold read w run) (read_sixel h byte (are 0 (omega arith)))
-    ∙ fold_run (Sixel (byte - 63) ∷ h) run (λ k lt. are (suc k) (omega arith))
+    rw (read_sixel h byte (are 0 (omega arith)))
+    (fold_run (Sixel (byte - 63) ∷ h) run (λ k lt. are (suc k) (omega arith)))
 
 -- as many bits as bytes
 pub length-bits_of : (run : List ℕ) → length (bits_of run) ≡ length run
@@ -62,15 +59,6 @@ pub record IsInside (limit : Limit) (n : ℕ) (h : History) : Type 0 where
   pub high : height h ≤ 1000000
   pub area : clipped_width limit h * clipped_height limit h ≤ limit.pixels
   pub faultless : first_fault limit h ≡ None
-
--- one of them leaves the sizes
-width-inside : (limit : Limit) (n bits : ℕ) (h : History) → IsInside limit (suc n) h
-    → width (Sixel bits ∷ h) ≡ width h
-width-inside limit n bits h inside = omega (arith, inside.single, inside.right)
-
-height-inside : (limit : Limit) (n bits : ℕ) (h : History) → IsInside limit (suc n) h
-    → height (Sixel bits ∷ h) ≡ height h
-height-inside limit n bits h inside = omega (arith, inside.lower)
 
 pub IsInside-sixel : (limit : Limit) (n bits : ℕ) (h : History) → IsInside limit (suc n) h
     → IsInside limit n (Sixel bits ∷ h)
@@ -91,34 +79,12 @@ pub record IsPassed (limit : Limit) (o : Origin) (n : ℕ) (h after : History) :
 
 pub IsPassed-sixels : (limit : Limit) (o : Origin) (h : History) (sixels : List ℕ)
     → IsInside limit (length sixels) h → IsPassed limit o (length sixels) h (with_sixels h sixels)
-IsPassed-sixels limit o h [] inside = record {
-  registers = refl;
-  color = refl;
-  span = inside.single;
-  across = omega arith;
-  down = refl;
-  width = refl;
-  height = refl;
-  raster = refl;
-  ratio = refl;
-  faultless = inside.faultless;
-}
+IsPassed-sixels limit o h [] inside = grind (arith, nat_tests)
 IsPassed-sixels limit o h (bits ∷ more) inside =
     let rest =
     IsPassed-sixels limit o (Sixel bits ∷ h) more
     (IsInside-sixel limit (length more) bits h inside) in
-    record {
-      registers = rest.registers;
-      color = rest.color;
-      span = rest.span;
-      across = omega (arith, rest.across, inside.single);
-      down = rest.down;
-      width = rest.width ∙ width-inside limit (length more) bits h inside;
-      height = rest.height ∙ height-inside limit (length more) bits h inside;
-      raster = rest.raster;
-      ratio = rest.ratio;
-      faultless = rest.faultless;
-    }
+    grind (arith, nat_tests, rest, inside)
 
 -- the bytes at the front are a run
 pub IsRun-take : (n : ℕ) (bytes : List ℕ) → n ≤ length bytes
@@ -135,34 +101,26 @@ ended-sixels : (h : History) (bytes : List ℕ)
     → ((byte : ℕ) → goes_on h byte ≡ false) → (byte : ℕ) → goes_on (fold read h bytes) byte ≡ false
 ended-sixels h [] are ended = ended
 ended-sixels h (byte ∷ bytes) are ended =
-    ended-sixels (read h byte) bytes
-    (λ k lt. are (suc k) (omega arith))
-    (λ next. ap (λ (w : History). goes_on w next) (read_sixel h byte (are 0 (omega arith))))
+    ended-sixels (read h byte) bytes (λ k lt. are (suc k) (omega arith))
+    (λ next. rw (read_sixel h byte (are 0 (omega arith))) refl)
 
 ended-run : (h : History) (run : List ℕ) → 0 < length run → IsRun run → (byte : ℕ)
     → goes_on (fold read h run) byte ≡ false
 ended-run h [] some are = absurd (omega (arith, some))
 ended-run h (byte ∷ run) some are =
-    ended-sixels (read h byte) run
-    (λ k lt. are (suc k) (omega arith))
-    (λ next. ap (λ (w : History). goes_on w next) (read_sixel h byte (are 0 (omega arith))))
+    ended-sixels (read h byte) run (λ k lt. are (suc k) (omega arith))
+    (λ next. rw (read_sixel h byte (are 0 (omega arith))) refl)
 
 -- a parser whose painter has drawn a run at the front
 pub Stands-run : {C : Type 0} {canvas : Ghosts C} (o : Origin) (new : PayloadParser C canvas)
-    (h : History) (n : ℕ) (bytes : List ℕ)
-    → new.command ≡ Ground → 0 < n → n ≤ length bytes
+    (h : History) (n : ℕ) (bytes : List ℕ) → new.command ≡ Ground → 0 < n → n ≤ length bytes
     → ((k : ℕ) → k < n → IsSixelByte (get_or bytes k 0))
-    → HasDrawn o new.painter new.ignored (fold read h (take n bytes)) → Stands o new
-    (fold read h (take n bytes))
+    → HasDrawn o new.painter new.ignored (fold read h (take n bytes))
+    → Stands o new (fold read h (take n bytes))
 Stands-run o new h n bytes ground some le are shows =
-    let after : History = fold read h (take n bytes) in
-    let is : IsDrawn o new after = record {
-      ended =
-          ended-run h (take n bytes) (omega (arith, some, le, length-take n bytes))
-          (IsRun-take n bytes le are);
-      shows = shows;
-    } in
-    subst (λ (p : OpenCommand). StandsIn p o new after) (sym ground) is
+    let long = length-take n bytes in
+    let ended = ended-run h (take n bytes) (omega arith) (IsRun-take n bytes le are) in
+    rw ground (record { ended = ended; shows = shows })
 
 -- one sixel at the front
 pub fold_one : (h : History) (bytes : List ℕ) → 0 < length bytes → IsSixelByte (get_or bytes 0 0)

@@ -1,20 +1,18 @@
 -- How a payload's end goes on as more bytes come.
-use Rattle.std.proofs.Common.{◌≡◌, ℕ, ◌+◌, ◌<◌, ◌≤◌, suc, true, false, cond, List, [], ◌∷◌}
-use Rattle.std.proofs.Common.{◌++◌, refl, ap, ◌∙◌, arith, Some, None, length, drop}
+use Rattle.std.proofs.Common.{◌≡◌, ℕ, ◌+◌, ◌<◌, ◌≤◌, true, false, List, [], ◌∷◌}
+use Rattle.std.proofs.Common.{◌++◌, refl, arith, Some, None, length, drop}
 use Rattle.std.proofs.Common.{drop-cons, take, get_or, add-one, append_assoc}
 use Rattle.std.specs.Prelude.{◌==◌, ◌||◌}
 use Rattle.std.proofs.Math.Seq.{take-suc}
 use Rattle.std.proofs.lemmas.List.{take-append-drop}
 use Rattle.sixel_base.specs.declared.error.SixelError.{SixelError}
 use Rattle.sixel_decoder.specs.inside.DcsParser.{IsStageFault}
-use Rattle.sixel_base.specs.Fault.{Fault, Malformed, BadHeader}
-use Rattle.sixel_base.specs.Bytes.{is_terminator, carrying, count, first_terminator}
-use Rattle.sixel_base.specs.Bytes.{before_terminator}
+use Rattle.sixel_base.specs.Fault.{Fault}
+use Rattle.sixel_base.specs.Bytes.{count, first_terminator}
 use Rattle.sixel_base.specs.Settings.{Settings}
 use Rattle.sixel_base.specs.declared.status.SixelDcsFeedStatus.TheVariants.{NeedMoreData}
-use Rattle.sixel_base.specs.Header.{Begun, Faulty, headed, headed_by, header_rest, header_text}
-use Rattle.sixel_base.specs.Header.{settings_of}
-use Rattle.sixel_base.specs.Dcs.{Introduced, Waiting, Absent, Entered, introduced, Stage}
+use Rattle.sixel_base.specs.Header.{headed, headed_by, header_rest}
+use Rattle.sixel_base.specs.Dcs.{Introduced, Waiting, Absent, Entered, introduced}
 use Rattle.sixel_base.specs.Dcs.{Failing, Reading, stage_after, stage_by, stage}
 use Rattle.sixel_base.specs.Dcs.{after_terminator, end_status, end_count}
 use Rattle.sixel_decoder.proofs.DcsHeaders.{introduced-entered, header_rest-ended}
@@ -25,40 +23,21 @@ pub after_terminator-none : (bytes more : List ℕ) → first_terminator bytes �
     → after_terminator (bytes ++ more) ≡ after_terminator more
 after_terminator-none [] more none = refl
 after_terminator-none (byte ∷ bytes) more none =
-    (elim (is_terminator byte) as
-    (λ t.
-    cond t (Some byte) (first_terminator bytes) ≡ None
-    → cond t (bytes ++ more) (after_terminator (bytes ++ more)) ≡ after_terminator more) [
-      | true ↦ λ never. absurd cc
-      | false ↦ λ is. after_terminator-none bytes more is
-    ]) none
+    grind (arith, nat_tests, after_terminator-none bytes more)
 
 pub after_terminator-some : (bytes more : List ℕ) (t : ℕ) → first_terminator bytes ≡ Some t
     → after_terminator (bytes ++ more) ≡ after_terminator bytes ++ more
 after_terminator-some [] more t some = absurd cc
 after_terminator-some (byte ∷ bytes) more t some =
-    (elim (is_terminator byte) as
-    (λ b.
-    cond b (Some byte) (first_terminator bytes) ≡ Some t
-    → cond b (bytes ++ more) (after_terminator (bytes ++ more))
-    ≡ cond b bytes (after_terminator bytes) ++ more) [
-      | true ↦ λ is. refl
-      | false ↦ λ is. after_terminator-some bytes more t is
-    ]) some
+    grind (arith, nat_tests, after_terminator-some bytes more)
 
 -- the bytes after a terminator stand behind those before it
 pub drop-count : (bytes : List ℕ) (t : ℕ) → first_terminator bytes ≡ Some t
     → (drop (count bytes + 1) bytes ≡ after_terminator bytes) × (count bytes + 1 ≤ length bytes)
 drop-count [] t some = absurd cc
 drop-count (byte ∷ bytes) t some =
-    (elim (is_terminator byte) as (λ b. cond b (Some byte) (first_terminator bytes) ≡ Some t
-    → (drop (length (cond b [] (byte ∷ before_terminator bytes)) + 1) (byte ∷ bytes)
-    ≡ cond b bytes (after_terminator bytes))
-    × (length (cond b [] (byte ∷ before_terminator bytes)) + 1 ≤ suc (length bytes))) [
-      | true ↦ λ is. (refl, omega arith)
-      | false ↦ λ is.
-          let r = drop-count bytes t is in (rw add-one (rw add-one at r.0), omega (arith, r.1))
-    ]) some
+    let more : (n : ℕ) → drop (n + 1) (byte ∷ bytes) ≡ drop n bytes = λ n. rw add-one refl in
+    grind (arith, nat_tests, more 0, more (count bytes + 1), drop-count bytes t)
 
 -- only ESC without a byte after it leaves a string open
 pub escape_waits : (t : ℕ) (rest : List ℕ) → end_status t rest ≡ NeedMoreData
@@ -78,26 +57,8 @@ staged_reading : (rest more : List ℕ) (h : List ℕ) (s : Settings) (payload :
     → stage_after (rest ++ more) (headed (rest ++ more)) ≡ Reading s (payload ++ more)
 staged_reading rest more [] s payload ended is = absurd cc
 staged_reading rest more (byte ∷ tail) s payload ended is =
-    ap (λ w. stage_after (rest ++ more) (headed_by w)) (header_rest-ended rest more tail byte ended)
-    ∙
-    (elim (byte == 113) as (λ q. stage_after rest
-    (cond q (Begun tail) (cond (is_terminator byte) (Faulty Malformed) (Faulty BadHeader)))
-    ≡ Reading s payload
-    → stage_after (rest ++ more) (cond q (Begun (tail ++ more))
-    (cond (is_terminator byte) (Faulty Malformed) (Faulty BadHeader)))
-    ≡ Reading s (payload ++ more)) [
-      | true ↦ λ e.
-          let same_settings : settings_of (header_text rest) ≡ s = cc in
-          let same_payload : tail ≡ payload = cc in
-          ap (λ w. Reading (settings_of (carrying w)) (tail ++ more))
-          (header_front-ended rest more tail byte ended)
-          ∙ (ap (λ w. Reading w (tail ++ more)) same_settings
-          ∙ ap (λ w. Reading s (w ++ more)) same_payload)
-      | false ↦ elim (is_terminator byte) as (λ t. stage_after rest
-          (cond t (Faulty Malformed) (Faulty BadHeader)) ≡ Reading s payload
-          → stage_after (rest ++ more) (cond t (Faulty Malformed) (Faulty BadHeader))
-          ≡ Reading s (payload ++ more)) [ true ↦ λ e. absurd cc | false ↦ λ e. absurd cc ]
-    ]) is
+    let same = header_rest-ended rest more tail byte ended in
+    let front = header_front-ended rest more tail byte ended in grind (arith, nat_tests)
 
 stage_reading_by : (bytes more : List ℕ) (i : Introduced) (s : Settings) (payload : List ℕ)
     → introduced bytes ≡ i → stage_by i ≡ Reading s payload
@@ -120,39 +81,23 @@ failing_after : (rest more h : List ℕ) (f : Fault) → header_rest rest ≡ h
     → stage_after (rest ++ more) (headed (rest ++ more)) ≡ Failing f
 failing_after rest more [] f is fails = absurd cc
 failing_after rest more (byte ∷ tail) f is fails =
-    ap (λ w. stage_after (rest ++ more) (headed_by w)) (header_rest-ended rest more tail byte is) ∙
-    (elim (byte == 113) as (λ q. stage_after rest
-    (cond q (Begun tail) (cond (is_terminator byte) (Faulty Malformed) (Faulty BadHeader)))
-    ≡ Failing f
-    → stage_after (rest ++ more) (cond q (Begun (tail ++ more))
-    (cond (is_terminator byte) (Faulty Malformed) (Faulty BadHeader))) ≡ Failing f) [
-      | true ↦ λ e. absurd cc
-      | false ↦ elim (is_terminator byte) as (λ t. stage_after rest
-          (cond t (Faulty Malformed) (Faulty BadHeader)) ≡ Failing f
-          → stage_after (rest ++ more) (cond t (Faulty Malformed) (Faulty BadHeader))
-          ≡ Failing f) [ true ↦ λ e. e | false ↦ λ e. e ]
-    ]) fails
+    grind (arith, nat_tests, header_rest-ended rest more tail byte is)
 
 failing_by : (bytes more : List ℕ) (i : Introduced) (f : Fault) → introduced bytes ≡ i
     → stage_by i ≡ Failing f → stage (bytes ++ more) ≡ Failing f
 failing_by bytes more Waiting f is fails = absurd cc
-failing_by bytes more Absent f is fails = ap stage_by (introduced-absent bytes more is) ∙ fails
+failing_by bytes more Absent f is fails = rw (introduced-absent bytes more is) fails
 failing_by bytes more (Entered rest) f is fails =
-    ap stage_by (introduced-entered bytes rest more is)
-    ∙ failing_after rest more (header_rest rest) f refl fails
+    rw (introduced-entered bytes rest more is)
+    (failing_after rest more (header_rest rest) f refl fails)
 
 pub failing_stays : (bytes more : List ℕ) (f : Fault) → stage bytes ≡ Failing f
     → stage (bytes ++ more) ≡ Failing f
 failing_stays bytes more f is = failing_by bytes more (introduced bytes) f refl is
 
-refused_by : (e : SixelError) (was now : Stage) → ((f : Fault) → was ≡ Failing f → now ≡ Failing f)
-    → IsStageFault e was → IsStageFault e now
-refused_by e was now stays refused = grind (arith, nat_tests)
-
 pub refused_stays : (e : SixelError) (bytes more : List ℕ) → IsStageFault e (stage bytes)
     → IsStageFault e (stage (bytes ++ more))
-refused_stays e bytes more refused =
-    refused_by e (stage bytes) (stage (bytes ++ more)) (failing_stays bytes more) refused
+refused_stays e bytes more refused = grind (arith, nat_tests, failing_stays bytes more)
 
 -- the bytes before a chunk, a beginning of the chunk and the next byte, and the rest of it
 pub pieces_join : (before piece : List ℕ) (index : ℕ) → index < length piece

@@ -1,8 +1,7 @@
 -- Which errors are faults of the tokens.
-use Rattle.std.proofs.Common.{◌≡◌, Bool, true, Option, Some}
+use Rattle.std.proofs.Common.{◌≡◌, Bool, true, Option, Some, arith}
 use Rattle.sixel_base.specs.declared.error.SixelError.{SixelError}
 use Rattle.sixel_base.specs.Fault.{Fault, Faults, is_fault}
-use Rattle.std.proofs.Common.{arith}
 use Rattle.std.proofs.lemmas.Bool.Decides.{nat_tests}
 
 -- an error that is a fault was found in the tokens

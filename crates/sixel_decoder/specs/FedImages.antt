@@ -10,13 +10,13 @@ use Rattle.sixel_base.specs.Bytes.{first_terminator, is_terminated}
 use Rattle.sixel_base.specs.Bytes as own
 use Rattle.sixel_base.specs.Dcs.{dcs_count, dcs_status, dcs_fault, dcs_growths, IsSameString}
 use Rattle.sixel_base.specs.Dcs as strings
-use Rattle.sixel_base.specs.Fault.{Fault, Faults, IsFault}
+use Rattle.sixel_base.specs.Fault.{Fault, Faults}
 use Rattle.sixel_base.specs.Limits.{Limit}
 use Rattle.sixel_base.specs.Payload.{fed_fault, settled, payload_fault, payload_wants}
 use Rattle.sixel_base.specs.Payload as payloads
 use Rattle.sixel_base.specs.Settings.{Settings}
 use Rattle.sixel_base.specs.Status.{status_of}
-use Rattle.sixel_decoder.specs.FinishedImages.{failed}
+use Rattle.sixel_decoder.specs.FinishedImages.{IsAgain}
 use Rattle.sixel_decoder.specs.Reception.{Form, Nothing, OfPayload, OfString, Reception}
 use Rattle.sixel_decoder.specs.declared.received.Received.{Received}
 use Rattle.sixel_decoder.specs.declared.received.Status.{Status}
@@ -103,9 +103,9 @@ pub record IsFed (old new : Reception) (chunk : List ℕ)
   -- the status is that of all bytes so far
   pub status : IfOk result (λ fed. fed.status ≡ status new.form new.bytes)
   -- an error is the first fault of all bytes so far, or an allocation failed; after an error each
-  -- feed reports that the stream has failed
+  -- feed reports that error again, if it is stored, and else that the stream has failed
   pub error : IfErr result (λ error. MatchBool old.is_refused
-      (IsFault error (failed old.form))
+      (IsAgain old.failure old.form error)
       (Faults error
       (nat_lt (growths old.form old.bytes) (growths new.form new.bytes))
       (fault old.start.pixel_limit new.form new.bytes)))

@@ -1,11 +1,13 @@
 -- What finishing an image that is read in chunks returns. Each field is one fact. What the bytes
 -- mean is in Payload, Dcs and OneShot of sixel_base, which do not mention chunks.
-use Rattle.std.specs.Prelude.{ℕ, ◌≡◌, ◌*◌, ◌≤◌, ◌++◌, min, if◌then◌else◌, Bool, false, List, Option}
-use Rattle.std.specs.Prelude.{Some, None, is_none, Result, Err, OnOk, IfOk, IfErr, MatchBool}
+use Rattle.std.specs.Prelude.{ℕ, ◌≡◌, ◌≢◌, ◌*◌, ◌≤◌, ◌++◌, min, if◌then◌else◌, Bool, false}
+use Rattle.std.specs.Prelude.{List, Option, Some, None, is_none, Result, Err, OnOk, IfOk, IfErr}
+use Rattle.std.specs.Prelude.{MatchBool}
 use Rattle.sixel_base.specs.declared.error.SixelError.{SixelError}
 use Rattle.sixel_base.specs.Dcs.{IsStringImage, AreStringRegisters, can_finish, dcs_status}
 use Rattle.sixel_base.specs.Dcs as strings
-use Rattle.sixel_base.specs.Fault.{Fault, Faults, IsFault, StreamFailed, DcsStreamFailed}
+use Rattle.sixel_base.specs.Fault.{Fault, Faults, IsFault, MissingCommand, StreamFailed}
+use Rattle.sixel_base.specs.Fault.{DcsStreamFailed}
 use Rattle.sixel_base.specs.Limits.{Limit}
 use Rattle.sixel_base.specs.OneShot.{Found, Payload, NoPayload, found_fault, IsFoundImage}
 use Rattle.sixel_base.specs.OneShot.{AreFoundRegisters, IsDecodedAs}
@@ -38,11 +40,22 @@ end_wants limit Nothing bytes = false
 end_wants limit (OfPayload settings) bytes = is_none (payload_fault limit bytes)
 end_wants limit OfString bytes = can_finish limit bytes
 
--- the error of each call after an error
+-- the fault of each call after an error, if no error is stored
 abbrev pub failed : Form → Fault
 failed Nothing = StreamFailed
 failed (OfPayload settings) = StreamFailed
 failed OfString = DcsStreamFailed
+
+-- the error is that of the stored fault, and a missing command is stored for no image
+abbrev pub IsStored : Option (Option Fault) → SixelError → Type 0
+IsStored None error = ⊥
+IsStored (Some fault) error =
+    Faults error (is_none fault) fault × (fault ≢ Some MissingCommand)
+
+-- the error of each call after an error: the stored one, or that the stream has failed
+abbrev pub IsAgain : Option (Option Fault) → Form → SixelError → Type 0
+IsAgain None form error = IsFault error (failed form)
+IsAgain failure form error = IsStored failure error
 
 -- The image of the bytes is returned, with the registers after it, or an error.
 pub record IsFinished {A : Type 0} (image_of : A → Image) (registers_of : A → List (List ℕ))
@@ -73,10 +86,10 @@ pub record IsFinished {A : Type 0} (image_of : A → Image) (registers_of : A �
   -- a DCS sequence has an image only once it has ended, unless it is lenient
   pub ended : OnOk result
       (end_fault reception.start.pixel_limit reception.form reception.bytes ≡ None)
-  -- an error is the fault of the bytes, or an allocation failed; a rejected image reports that the
-  -- stream has failed
+  -- an error is the fault of the bytes, or an allocation failed; a rejected image reports its error
+  -- again, or that the stream has failed
   pub error : IfErr result (λ error. MatchBool reception.is_refused
-      (IsFault error (failed reception.form))
+      (IsAgain reception.failure reception.form error)
       (Faults error
       (end_wants reception.start.pixel_limit reception.form reception.bytes)
       (end_fault reception.start.pixel_limit reception.form reception.bytes)))

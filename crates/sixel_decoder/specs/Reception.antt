@@ -1,12 +1,12 @@
 -- What contracts see of an image that is read in chunks, and what its bytes mean so far: those of a
 -- payload, or of a DCS sequence with its payload. Chunks are not mentioned. The words are those of
 -- Dcs and Payload of sixel_base, where DEC's manual gives the rules.
-use Rattle.std.specs.Prelude.{ℕ, ◌≡◌, Bool, false, List, [], Option}
+use Rattle.std.specs.Prelude.{ℕ, ◌≡◌, Bool, false, List, [], Option, None}
 use Rattle.sixel_base.specs.Dcs.{Stage, Heading, Failing, Reading, stage, stage_in_payload}
 use Rattle.sixel_base.specs.Dcs.{stage_reached_area, stage_size}
 use Rattle.sixel_base.specs.Decoder.{origin_of}
 use Rattle.sixel_base.specs.DrawnHeight.{stage_drawn_height}
-use Rattle.sixel_base.specs.Fault.{StreamFailed}
+use Rattle.sixel_base.specs.Fault.{Fault, StreamFailed}
 use Rattle.sixel_base.specs.Limits.{Limit}
 use Rattle.sixel_base.specs.OneShot.{Found, Payload, NoPayload}
 use Rattle.sixel_base.specs.OneShot as one_shot
@@ -24,13 +24,15 @@ pub data Form : Type 0 where
   OfString : Form
 
 -- The image that is open: its form, the decoder that it began from, the bytes fed, whether a feed
--- was rejected, how many pixels were written to grow its canvas, the capacity of its canvas in
--- pixels, an upper bound of what sixels have painted, and how many rows from the top were released.
+-- was rejected, the fault that is stored for later calls, if one is, how many pixels were written
+-- to grow its canvas, the capacity of its canvas in pixels, an upper bound of what sixels have
+-- painted, and how many rows from the top were released. A failed allocation is stored as no fault.
 pub record Reception : Type 0 where
   pub form : Form
   pub start : DecoderState
   pub bytes : List ℕ
   pub is_refused : Bool
+  pub failure : Option (Option Fault)
   pub writes : ℕ
   pub room : ℕ
   pub paints : ℕ
@@ -43,19 +45,21 @@ begun form decoder = record {
   start = decoder;
   bytes = [];
   is_refused = false;
+  failure = None;
   writes = 0;
   room = 0;
   paints = 0;
   released = 0;
 }
 
--- the image of a payload session
+-- the image of a payload session, which stores no error
 abbrev pub of_payload : Session → Reception
 of_payload session = record {
   form = OfPayload session.origin.settings;
   start = decoder_of session.origin;
   bytes = session.bytes;
   is_refused = session.is_refused;
+  failure = None;
   writes = session.writes;
   room = session.room;
   paints = session.paints;
@@ -69,6 +73,7 @@ of_sequence session = record {
   start = session.decoder;
   bytes = session.bytes;
   is_refused = session.is_refused;
+  failure = None;
   writes = session.writes;
   room = session.room;
   paints = session.paints;

@@ -13,8 +13,8 @@ ghost use Rattle.sixel_decoder.specs.Reception.{of_sequence, HasNoPayload, IsPay
 use crate::dcs_parser::{DcsParser, DcsState};
 use crate::decoded_payload::DecodedPayload;
 use crate::image_end::SequenceEnd;
-use crate::log::Log;
 use crate::payload_reader::PayloadReader;
+use sixel_base::ghost_list::GhostList;
 use sixel_base::state::DecoderState;
 use sixel_base::status::SixelDcsFeedResult;
 use sixel_base::{Result, SixelError};
@@ -27,7 +27,7 @@ use std::marker::Model;
 #[derive(Drop)]
 pub struct DcsReader<C: Canvas + Drop> {
     parser: DcsParser<C>,
-    log: Log,
+    log: GhostList<u8>,
 }
 
 impl<C: Canvas + Drop> Model for DcsReader<C> {
@@ -49,7 +49,7 @@ impl<C: Canvas + Drop> DcsReader<C> {
     {
         DcsReader {
             parser: DcsParser::new(alloc, decoder),
-            log: Log::new(),
+            log: GhostList::new(),
         }
     }
 
@@ -120,6 +120,13 @@ impl<C: Canvas + Drop> DcsReader<C> {
             DcsState::Payload(_) => self.parser.has_ended(),
             _ => false,
         }
+    }
+
+    /// Whether a feed has failed.
+    pub fn has_failed(&self) -> bool
+        ensures { result ≡ self.now.is_refused }
+    {
+        matches!(self.parser.state, DcsState::Failed)
     }
 
     /// Returns the rows of the image that are left, and the registers after it.

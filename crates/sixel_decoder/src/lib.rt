@@ -14,7 +14,6 @@ mod front_sixels;
 mod header;
 mod image_end;
 mod lenience;
-mod log;
 mod one_shot;
 mod painter;
 mod payload_parser;

@@ -20,9 +20,9 @@ ghost use Rattle.sixel_decoder.specs.declared.payload_reader.PayloadState.TheVar
 
 use crate::decoded_payload::DecodedPayload;
 use crate::image_end::payload_end;
-use crate::log::Log;
 use crate::painter::Painter;
 use crate::payload_parser::PayloadParser;
+use sixel_base::ghost_list::GhostList;
 use sixel_base::settings::DcsSettings;
 use sixel_base::state::DecoderState;
 use sixel_base::status::{SixelFeedResult, SixelFeedStatus};
@@ -62,7 +62,7 @@ pub struct PayloadReader<C: Canvas + Drop> {
     terminator: Option<u8>,
     settings: DcsSettings,
     start: Snapshot<DecoderState>,
-    log: Log,
+    log: GhostList<u8>,
 }
 
 impl<C: Canvas + Drop> Model for PayloadReader<C> {
@@ -87,7 +87,7 @@ impl<C: Canvas + Drop> PayloadReader<C> {
             terminator: None,
             settings,
             start: Snapshot::of(&decoder),
-            log: Log::new(),
+            log: GhostList::new(),
         }
     }
 
@@ -185,6 +185,13 @@ impl<C: Canvas + Drop> PayloadReader<C> {
             PayloadState::Reading(_) => self.terminator.is_some(),
             PayloadState::Failed => false,
         }
+    }
+
+    /// Whether a feed has failed.
+    pub fn has_failed(&self) -> bool
+        ensures { result ≡ self.now.is_refused }
+    {
+        matches!(self.state, PayloadState::Failed)
     }
 
     /// Returns the rows of the image that are left, and the registers after it.

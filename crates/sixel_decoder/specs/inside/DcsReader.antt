@@ -31,7 +31,7 @@ released_of _ = 0
 abbrev pub session_of : {C : Type 0} → Inside C → DcsSession
 session_of reader = record {
   decoder = reader.parser.decoder;
-  bytes = reader.log.bytes;
+  bytes = reader.log;
   is_refused = is_failed reader.parser.state;
   writes = writes_of reader.parser.state;
   room = room_of reader.parser.state;
@@ -41,4 +41,4 @@ session_of reader = record {
 
 abbrev pub IsFollowing : {C : Type 0} → Inside C → Type 0
 IsFollowing reader =
-    HasFollowed reader.parser.state reader.parser.decoder reader.parser.ended reader.log.bytes
+    HasFollowed reader.parser.state reader.parser.decoder reader.parser.ended reader.log

@@ -41,7 +41,7 @@ released_of {C} {canvas} (Some parser) = canvas.released parser.painter.canvas
 abbrev pub session_of : {C : Type 0} {canvas : Ghosts C} → Inside C canvas → Session
 session_of reader = record {
   origin = origin_of reader.start.value reader.settings;
-  bytes = reader.log.bytes;
+  bytes = reader.log;
   is_refused = is_none (parser_of reader.state);
   writes = (work_of (parser_of reader.state)).writes;
   room = (work_of (parser_of reader.state)).room;
@@ -60,7 +60,7 @@ HasRead (Some parser) origin terminator bytes =
 
 abbrev pub IsReading : {C : Type 0} {canvas : Ghosts C} → Inside C canvas → Type 0
 IsReading reader =
-    HasRead (parser_of reader.state) (session_of reader).origin reader.terminator reader.log.bytes
+    HasRead (parser_of reader.state) (session_of reader).origin reader.terminator reader.log
 
 -- The painter of a session that was not rejected shows its closed tokens.
 pub record IsPainterOf {C : Type 0} {canvas : Ghosts C} (painter : Painter C canvas)

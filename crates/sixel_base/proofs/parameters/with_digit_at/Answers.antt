@@ -1,6 +1,5 @@
-use Rattle.std.proofs.Common.{ℕ, ◌≡◌, ◌+◌, ◌-◌, ◌*◌, min, [], ◌∷◌, take, get_or, refl, sym, subst}
-use Rattle.std.proofs.Common.{inl, inr, arith}
-use Rattle.std.proofs.lemmas.Bool.{cases_lt}
+use Rattle.std.proofs.Common.{◌≡◌, ◌+◌, ◌-◌, ◌*◌, min, [], ◌∷◌, take, get_or, refl, sym, subst}
+use Rattle.std.proofs.Common.{arith}
 use Rattle.std.proofs.lemmas.List.{take_more}
 use Rattle.sixel_base.specs.Limits.{parameter_limit}
 use Rattle.sixel_base.specs.inside.Parameters.{Parameters, AreRead, IsDigit, Keeps}
@@ -15,7 +14,7 @@ returns-then-digit-lt10-clause-read c = λ read.
     let value = c.args.value in
     let byte = get_or bytes at 0 in
     let inside = c.requires.inside in
-    let before : AreRead bytes value at = subst (AreRead bytes value) c.if-len-at.true read in
+    let before : AreRead bytes value at = rw c.if-len-at.true at read in
     let is : IsDigit byte = grind (arith, nat_tests) in
     let next = 10 * value + c.from-digit.result in
     let old : Parameters = record { values = value ∷ 0 ∷ 0 ∷ 0 ∷ 0 ∷ []; count = min at 1 } in
@@ -23,10 +22,7 @@ returns-then-digit-lt10-clause-read c = λ read.
     let worth : next ≡ min (value * 10 + (byte - 48)) parameter_limit =
     grind (arith, nat_tests) in (
       omega (arith, inside),
-      λ k lt. elim (cases_lt k at) [
-        | inl below ↦ before.1 k below
-        | inr above ↦ subst (λ (j : ℕ). IsDigit (get_or bytes j 0)) (omega (arith, lt, above)) is
-      ],
+      λ k lt. grind (arith, nat_tests, before.1 k, is),
       subst (Keeps new) (sym (take_more bytes at 0 inside))
           (Keeps-push_digit_kept (take at bytes) byte is.0 is.1 old new 0 next (omega arith)
           (omega arith) refl refl

@@ -19,7 +19,5 @@ ordered-preserved c =
     (pixel_four now column fits ∙ pixel_kept now old column fits inside before.2) in (
       put_len now (4 * column) c.of-bytes.result ∙ before.0,
       put_more now c.of-bytes.result f column fits is before.1,
-      λ i past.
-          put_past now (4 * column) c.of-bytes.result i (omega (arith, past))
-          ∙ before.2 i (omega (arith, past)),
+      grind (arith, put_past),
     )

@@ -2,8 +2,8 @@ use Rattle.std.proofs.Common.{[], ◌∙◌, arith}
 use Rattle.std.proofs.lemmas.List.Elements.{All-push}
 use Rattle.sixel_canvas.specs.inside.RowBand.{IsRowBand}
 use Rattle.sixel_canvas.proofs.RowCosts.{empty_band}
-use Rattle.sixel_canvas.proofs.RowPixels.{get_or-more_default}
 use Rattle.sixel_canvas.proofs.row_canvas.add_bands.Goals as goal
+use Rattle.std.proofs.lemmas.Grind.{common_steps}
 
 pub made-preserved : goal.made-preserved
 made-preserved c =
@@ -12,9 +12,7 @@ made-preserved c =
       omega (arith, c.made-test.true),
       omega (arith, before.2, c.push_reserved.ensures.capacity),
       c.push_reserved.ensures.capacity ∙ before.3,
-      λ band.
-          rw (c.push_reserved.ensures.items, c.new.ensures)
-          (get_or-more_default c.made.bands.items 1 band [] ∙ before.4 band),
+      grind (arith, common_steps),
       λ sound.
           rw (c.push_reserved.ensures.items, c.new.ensures)
           (All-push IsRowBand c.made.bands.items [] (before.5 sound) empty_band),

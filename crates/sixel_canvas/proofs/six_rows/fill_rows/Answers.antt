@@ -1,5 +1,4 @@
-use Rattle.std.proofs.Common.{◌≡◌, ◌<◌, ◌≤◌, [], ◌∙◌, true, sym, eq-eqb, ⊎_elim, arith}
-use Rattle.std.proofs.lemmas.Bool.{cases_lt, true≢false}
+use Rattle.std.proofs.Common.{◌≡◌, ◌<◌, [], true, arith}
 use Rattle.sixel_base.specs.Picture.{is_set}
 use Rattle.sixel_canvas.proofs.BandRows.{struck_more}
 use Rattle.sixel_canvas.proofs.BandCopies.{row_above, row_before, row_colored}
@@ -11,23 +10,14 @@ pub drawn-preserved : goal.drawn-preserved
 drawn-preserved c = grind (arith, nat_tests, struck_more)
 
 pub fill_row-requires-clause-before : goal.fill_row-requires-clause-before
-fill_row-requires-clause-before c =
-    row_before c.args.cap c.args.from c.args.to c.drawn.bit c.min.result c.requires.ordered
-    c.requires.within
+fill_row-requires-clause-before c = grind (arith, row_before)
 
 pub fill_row-requires-clause-colored : goal.fill_row-requires-clause-colored
 fill_row-requires-clause-colored c = λ above i low high.
     let first = c.min.result in
     let lower = row_above c.args.cap c.args.from c.drawn.bit first above in
     let six : first < 6 = omega (arith, c.min.ensures) in
-    let set : is_set c.args.bits first ≡ true =
-    ⊎_elim (λ (some : c.first_row.result < 6).
-    let same : first ≡ c.first_row.result = omega (arith, c.min.ensures, some) in
-    rw same (c.first_row.ensures.set some))
-    (λ (none : 6 ≤ c.first_row.result).
-    absurd (true≢false (sym (eq-eqb _ _ c.if-bits-bit-eq1.true)
-    ∙ c.first_row.ensures.above c.drawn.bit (omega (arith, none, c.drawn-test.true)))))
-    (cases_lt c.first_row.result 6) in
+    let set : is_set c.args.bits first ≡ true = grind (arith) in
     row_colored c.args.pixels.now c.drawn.pixels c.args.cap c.args.from c.args.to c.args.bits
     c.drawn.bit first c.args.color i c.requires.within lower six set
     (λ column inside. c.drawn.invariant.1 [] column first inside six) low (omega (arith, high))

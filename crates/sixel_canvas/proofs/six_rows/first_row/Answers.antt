@@ -8,7 +8,7 @@ use Rattle.sixel_canvas.proofs.six_rows.first_row.Goals as goal
 first_set : (bits : ℕ) → bits < 256 → trailing_zeros w8 bits < 6 →
     is_set bits (trailing_zeros w8 bits) ≡ true
 unfolding count_trailing_zeros
-first_set zero low less = let never : 8 < 6 = less in absurd (omega (arith, never))
+first_set zero low less = absurd (grind (arith))
 first_set (suc n) low less =
     eq-eqb _ _ (bit_at-trailing_zeros w8 (suc n) (omega arith) low).1
 

@@ -1,9 +1,7 @@
 use Rattle.sixel_base.specs.Picture.{joined}
-use Rattle.sixel_canvas.proofs.Results.{on_ok_left}
 use Rattle.sixel_canvas.proofs.span.add_pixels.Goals as goal
+use Rattle.std.proofs.Common.{arith}
 
 pub returns-then-count-eq1-clause-ok : goal.returns-then-count-eq1-clause-ok
 unfolding joined
-returns-then-count-eq1-clause-ok c =
-    rw c.if-count-eq1.true
-    (on_ok_left c.extend_from_slice.result _ _ _ c.extend_from_slice.ensures.items)
+returns-then-count-eq1-clause-ok c = grind (arith)

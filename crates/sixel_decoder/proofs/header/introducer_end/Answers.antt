@@ -1,5 +1,4 @@
-use Rattle.std.proofs.Common.{◌≡◌, ◌-◌, ◌≤◌, length, get_or, take, drop, length-drop, ap}
-use Rattle.std.proofs.Common.{arith}
+use Rattle.std.proofs.Common.{length-drop, arith}
 use Rattle.std.proofs.lemmas.Bool.Decides.{nat_tests}
 use Rattle.std.proofs.lemmas.List.{drop_all}
 use Rattle.sixel_decoder.proofs.FoundPayloads.{tail_whole, introduced_at_once, introduced_by_escape}
@@ -22,14 +21,7 @@ returns-in-27-clause-found c =
 
 pub returns-in-144-clause-found : goal.returns-in-144-clause-found
 returns-in-144-clause-found c =
-    let bytes = c.args.bytes.now in
-    let index = c.search.index in
-    let this = take (length bytes - index) (drop index bytes) in
-    let whole = tail_whole index bytes in
-    let some : 1 ≤ length this =
-    omega (arith, c.search-test.true, ap length whole, length-drop index bytes) in
-    let first : get_or this 0 0 ≡ 144 = grind arith in
-    introduced_at 1 index bytes this whole c.search.invariant (introduced_at_once this some first)
+    grind (arith, nat_tests, introduced_at, tail_whole, c.search.invariant, introduced_at_once)
 
 pub search-preserved : goal.search-preserved
 search-preserved c =

@@ -1,6 +1,5 @@
-use Rattle.std.proofs.Common.{ℕ, ◌+◌, ◌*◌, min, [], ◌∷◌, take, get_or, refl, sym, subst, inl, inr}
-use Rattle.std.proofs.Common.{arith}
-use Rattle.std.proofs.lemmas.Bool.{cases_lt}
+use Rattle.std.proofs.lemmas.Bool.Decides.{nat_tests}
+use Rattle.std.proofs.Common.{◌+◌, ◌*◌, min, [], ◌∷◌, take, get_or, refl, sym, subst, arith}
 use Rattle.std.proofs.lemmas.List.{take_more}
 use Rattle.sixel_base.specs.inside.Parameters.{Parameters, IsDigit, Keeps}
 use Rattle.sixel_base.proofs.KeptFields.{Keeps-push_digit_kept}
@@ -23,10 +22,7 @@ digits-preserved c =
     } in (
       (
         omega (arith, c.digits-test.true),
-        λ k lt. elim (cases_lt k len) [
-          | inl below ↦ before.1 k below
-          | inr above ↦ subst (λ (j : ℕ). IsDigit (get_or bytes j 0)) (omega (arith, lt, above)) is
-        ],
+        λ k lt. grind (arith, nat_tests, before.1 k, is),
         subst (Keeps new) (sym (take_more bytes len 0 c.digits-test.true))
             (Keeps-push_digit_kept (take len bytes) byte is.0 is.1 old new 0 next (omega arith)
             (omega arith) refl refl

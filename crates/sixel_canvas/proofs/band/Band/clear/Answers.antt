@@ -9,15 +9,11 @@ invariant_of-self c =
     let is =
     with_items_is band.pixels c.fill_rows.new.pixels
     (c.fill_rows.ensures.len ∙ c.deref_mut.ensures.len) in
-    rw is record {
-      fits = rw (c.fill_rows.ensures.len, c.deref_mut.ensures.value) c.self.invariant.fits;
-      few = c.self.invariant.few;
-      reached = omega arith;
-      clean = λ column k past.
-          cleared band.background band.pixels.items c.fill_rows.new.pixels band.cap band.reach
-          c.self.invariant
-          (rw (← c.deref_mut.ensures.value) (c.fill_rows.ensures.drawn band.background)) column k;
-    }
+    let shown =
+    cleared band.background band.pixels.items c.fill_rows.new.pixels band.cap band.reach
+    c.self.invariant
+    (rw (← c.deref_mut.ensures.value) (c.fill_rows.ensures.drawn band.background)) in
+    grind (arith)
 
 pub returns-clause-shown : goal.returns-clause-shown
 returns-clause-shown c =

@@ -1,4 +1,4 @@
-use Rattle.std.proofs.Common.{◌-◌, ◌≤◌, ap, sym, ◌∙◌, arith}
+use Rattle.std.proofs.Common.{◌-◌, ◌≤◌, ap, ◌∙◌, arith}
 use Rattle.std.specs.Prelude.{nat_lt, if◌then◌else◌}
 use Rattle.sixel_canvas.specs.inside.BandCanvas.{BandCanvasState, band_canvas_shown}
 use Rattle.sixel_canvas.specs.inside.FinalRows.{final}
@@ -14,7 +14,7 @@ use Rattle.sixel_canvas.proofs.band_canvas.BandCanvas.finish_rows.Goals.{
 pub returns-clause-shown : goal.returns-clause-shown
 returns-clause-shown c = λ column row.
     let all = c.self.inside in
-    let gone = released_pixel all.gone.rows all.rows.background column row in
+    let gone = released_pixel all.gone all.rows.background column row in
     let seen = ap (λ (s : BandCanvasState). band_canvas_shown s column row) c.self.view_is in
     elim c.if-reach-gt0.branch [
       | then-reach-gt0 w ↦
@@ -22,7 +22,7 @@ returns-clause-shown c = λ column row.
           rw w.self-inside-is
           (ap
           (λ background.
-          if nat_lt row all.released then released_pixel all.gone.rows background column row
+          if nat_lt row all.released then released_pixel all.gone background column row
           else final w.hand_out.new.rows column (row - all.released))
           w.hand_out.ensures.rows_background
           ∙ above_handed all.released all.top gone (final all.rows column (row - all.released))
@@ -32,6 +32,5 @@ returns-clause-shown c = λ column row.
           rw w.self-inside-is
           (above_clear all.rows all.released all.top gone (tagged_cell all.band column) column row
           c.self.invariant.above
-          (λ k. c.reach.ensures.clean column k (omega (arith, w.if-reach-gt0.false))
-          ∙ sym c.self.invariant.background) ∙ seen)
+          (grind (arith)) ∙ seen)
     ]

@@ -14,9 +14,9 @@ returns-clause-shown c = λ column row.
     c.free_unused.ensures.shown column row
     ∙ ap (λ pixel. if nat_lt row all.top then pixel else tagged_cell all.band column
     (row - all.top))
-    (above_released all.gone.rows c.extend.new.self.rows all.rows c.remove.new.self all.released
+    (above_released all.gone c.append_rows.new.gone all.rows c.remove.new.self all.released
     (all.released + count) count c.remove.ensures.sound c.self.invariant.logged refl
-    c.remove.ensures.background c.extend.ensures.rows c.remove.ensures.shown column row)
+    c.remove.ensures.background c.append_rows.ensures.rows c.remove.ensures.shown column row)
     ∙ ap (λ (s : BandCanvasState). band_canvas_shown s column row) c.self.view_is
 
 pub returns-clause-moved : goal.returns-clause-moved

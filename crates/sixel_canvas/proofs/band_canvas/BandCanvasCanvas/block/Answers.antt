@@ -1,6 +1,5 @@
-use Rattle.std.proofs.Common.{◌≡◌, ◌≤◌, ◌∙◌, ◌+◌, ◌*◌, ℕ, List, max, length, take}
-use Rattle.std.proofs.Common.{ap, arith, rules}
-use Rattle.sixel_canvas.specs.inside.BandCanvas.{BandCanvasState}
+use Rattle.std.proofs.Common.{◌≡◌, ◌≤◌, ◌+◌, ◌*◌, ℕ, List, max, length, take}
+use Rattle.std.proofs.Common.{arith}
 use Rattle.sixel_canvas.specs.inside.BandCanvas.{band_canvas_state, least_width}
 use Rattle.sixel_canvas.specs.inside.Drawn.{Run, with_sixels}
 use Rattle.sixel_canvas.specs.inside.TaggedBand.{capacity}
@@ -17,46 +16,28 @@ returns-clause-paid c = λ named runs before.
     let now = c.args.self.now in
     let band = c.block.new.self in
     let right = c.args.from + c.args.len in
-    let long : length c.args.sixels ≡ 8 = search rules in
-    let few : c.args.len ≤ length c.args.sixels = omega (arith, long, c.requires.few) in
+    let few : c.args.len ≤ length c.args.sixels = grind (arith, c.requires.few) in
     let same_top : c.self.inside.top ≡ now.top =
-    ap (λ (s : BandCanvasState). s.top) c.self.view_is ∙ c.in_ok-hold.ensures.top in
-    let held_cap = ap (λ (s : BandCanvasState). capacity s.band) c.self.view_is in
-    let held_painted =
-    ap (λ (s : BandCanvasState). s.band.painted) c.self.view_is ∙ c.in_ok-hold.ensures.painted in
-    let held_reach =
-    ap (λ (s : BandCanvasState). s.band.pixels.reach) c.self.view_is ∙ c.in_ok-hold.ensures.reach in
-    let cap : capacity band ≤ max (capacity now.band) (2 * right + 16) =
-    omega (
-      arith,
-      c.block.ensures.cap,
-      c.block.ensures.tags_cap,
-      held_cap,
-      c.in_ok-hold.ensures.capacity,
-    ) in
+    grind (arith) in
+    let cap : capacity band ≤ max (capacity now.band) (2 * right + 16) = grind (arith) in
     let painted : band.painted ≤ now.band.painted + 264 =
-    omega (arith, c.block.ensures.painted, held_painted) in
+    grind (arith, c.block.ensures.painted) in
     let reach : band.pixels.reach ≡ max now.band.pixels.reach right =
-    omega (arith, c.block.ensures.reach, held_reach) in
+    grind (arith, c.block.ensures.reach) in
     let tagged : band.tags.reach ≡ now.band.tags.reach =
-    c.block.ensures.tags_reach ∙ ap (λ (s : BandCanvasState). s.band.tags.reach) c.self.view_is
-    ∙ c.in_ok-hold.ensures.tagged in
+    grind (arith) in
     let all = c.self.inside in
     let state =
-    band_canvas_state all.gone.rows all.released all.rows band all.top all.held
+    band_canvas_state all.gone all.released all.rows band all.top all.held
     all.expected_width in
     let more : List Run = with_sixels c.args.from (take c.args.len c.args.sixels) all.top runs in
     let edge = edges c.args.from c.args.sixels all.top runs c.args.len c.requires.some few in
     let wide : ℕ = max (least_width named runs) right in
     let laid =
     laid_held now c.hold.new.self state named runs right before.1 c.in_ok-hold.ensures.laid
-    (ap (λ (s : BandCanvasState). s.expected) c.self.view_is)
-    (ap (λ (s : BandCanvasState). s.rows) c.self.view_is)
-    (ap (λ (s : BandCanvasState). s.released) c.self.view_is) in (
-      rw same_top (paid-sixels (capacity now.band) (capacity band) now.band.painted band.painted
-          now.band.pixels.reach band.pixels.reach now.band.tags.reach band.tags.reach now.top
-          c.args.from c.args.len c.args.sixels runs before.0 c.requires.some few cap painted reach
-          tagged),
+    (grind (arith)) (grind (arith)) (grind (arith)) in (
+      rw same_top (paid-sixels _ _ _ _ _ _ _ _ now.top c.args.from c.args.len c.args.sixels runs
+          before.0 c.requires.some few cap painted reach tagged),
       rw (← same_top) (moved_more state named more
           (laid_wider state wide (least_width named more) laid (omega (arith, edge)))
           c.self.invariant.above

@@ -1,7 +1,7 @@
-use Rattle.std.proofs.Common.{◌≡◌, ◌≤◌, ◌-◌, ◌*◌, ◌++◌, length, take, drop, ap, ◌∙◌, arith, rules}
+use Rattle.std.proofs.Common.{◌≡◌, ◌≤◌, ◌-◌, ◌*◌, ◌++◌, length, take, drop, ap, arith, rules}
 use Rattle.std.proofs.lemmas.List.{with_items_is}
 use Rattle.sixel_base.specs.Picture.{joined}
-use Rattle.sixel_canvas.specs.Row.{RowState, painted, row_state}
+use Rattle.sixel_canvas.specs.Row.{RowState}
 use Rattle.sixel_canvas.specs.inside.Pixels.{pixels_of}
 use Rattle.sixel_canvas.proofs.PixelLists.{length-painted_bytes, pixels_of-painted, thrifty_written}
 use Rattle.sixel_canvas.proofs.row.Row.paint.Goals as goal
@@ -28,16 +28,13 @@ pub returns-clause-after : goal.returns-clause-after
 returns-clause-after c =
     let row = c.self.inside in
     let four : length c.args.color ≡ 4 = search rules in
-    let from = c.args.from in
-    let to = c.args.to in
-    let all = length (pixels_of row.bytes.items) in
-    ap (λ bytes. row_state row.background (pixels_of bytes) row.room row.writes)
-    (with_items_is row.bytes c.paint_pixels.new.bytes
-    (omega (arith, bytes_long c, c.self.invariant.1, row.bytes.ok.0)) ∙ bytes_are c)
-    ∙ ap (λ pixels. row_state row.background pixels row.room row.writes)
-    (pixels_of-painted row.bytes.items c.args.color from to all c.requires.ordered (held_is c)
-    c.self.invariant.1 four)
-    ∙ ap (painted from to c.args.color) c.self.view_is
+    let is =
+    with_items_is row.bytes c.paint_pixels.new.bytes
+    (omega (arith, bytes_long c, c.self.invariant.1, row.bytes.ok.0)) in
+    let painted =
+    pixels_of-painted row.bytes.items c.args.color c.args.from c.args.to _ c.requires.ordered
+    (held_is c) c.self.invariant.1 four in
+    grind (arith, bytes_are c)
 
 pub invariant_of-self : goal.invariant_of-self
 invariant_of-self c =

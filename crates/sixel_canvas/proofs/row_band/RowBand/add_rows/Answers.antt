@@ -2,8 +2,8 @@ use Rattle.std.proofs.Common.{◌∙◌, arith}
 use Rattle.std.proofs.lemmas.List.Elements.{All-push}
 use Rattle.sixel_canvas.specs.inside.TaggedRow.{IsTaggedRow, empty_tagged_row}
 use Rattle.sixel_canvas.proofs.RowCosts.{empty_line}
-use Rattle.sixel_canvas.proofs.RowPixels.{get_or-more_default}
 use Rattle.sixel_canvas.proofs.row_band.RowBand.add_rows.Goals as goal
+use Rattle.std.proofs.lemmas.Grind.{common_steps}
 
 pub made-preserved : goal.made-preserved
 made-preserved c =
@@ -12,9 +12,7 @@ made-preserved c =
       omega (arith, before.0, c.push_reserved.ensures.len),
       omega (arith, c.made-test.true),
       c.push_reserved.ensures.capacity ∙ before.2,
-      λ k.
-          rw (c.push_reserved.ensures.items, c.new.ensures.empty)
-          (get_or-more_default c.made.rows.items 1 k empty ∙ before.3 k),
+      grind (arith, common_steps),
       rw (c.push_reserved.ensures.items, c.new.ensures.empty)
           (All-push IsTaggedRow c.made.rows.items empty before.4 (empty_line c.args.background)),
     )

@@ -1,22 +1,15 @@
-use Rattle.std.proofs.lemmas.Bool.{le-ltb, true≢false}
-use Rattle.std.proofs.Common.{◌≡◌, ℕ, ◌+◌, ◌<◌, List, max, length, sym, ap, ◌∙◌, arith}
+use Rattle.std.proofs.lemmas.Bool.{le-ltb}
+use Rattle.std.proofs.Common.{◌≡◌, ℕ, ◌+◌, List, max, length, ap, ◌∙◌, arith}
 use Rattle.std.specs.Prelude.{nat_le, nat_lt, ◌&&◌, if◌then◌else◌}
 use Rattle.sixel_base.specs.Picture.{is_struck}
 use Rattle.sixel_canvas.specs.inside.RowBand.{line_in}
-use Rattle.sixel_canvas.specs.inside.TaggedRow.{TaggedRowState, empty_tagged_row, tagged_pixel}
-use Rattle.sixel_canvas.proofs.RowCosts.{get_or-made}
-use Rattle.sixel_canvas.proofs.StruckRows.{struck_more, is_struck-below, is_struck-hit}
-use Rattle.sixel_canvas.proofs.StruckRows.{is_struck-miss, struck_all}
-use Rattle.sixel_canvas.proofs.StruckRows.{struck_skip}
+use Rattle.sixel_canvas.specs.inside.TaggedRow.{TaggedRowState, tagged_pixel}
+use Rattle.std.proofs.lemmas.List.{get_or_default}
+use Rattle.sixel_canvas.proofs.StruckRows.{struck_more, is_struck-hit}
 use Rattle.sixel_canvas.proofs.row_band.RowBand.draw.Goals as goal
 use Rattle.sixel_canvas.proofs.row_band.RowBand.draw.Goals.{then-bits-bit-eq1+in_ok-draw_row}
 use Rattle.sixel_canvas.proofs.row_band.RowBand.draw.Goals.{else-bits-bit-eq1}
 use Rattle.std.proofs.lemmas.Bool.Decides.{nat_tests}
-use Rattle.std.proofs.lemmas.Grind.{common_steps}
-
-pub drawn-init : goal.drawn-init
-drawn-init c =
-    grind (arith, common_steps, nat_tests, c.requires.made, c.self.invariant.rows, c.self.view_is)
 
 pub drawn-preserved : goal.drawn-preserved
 drawn-preserved c =
@@ -44,9 +37,7 @@ drawn-preserved c =
                 (λ k. tagged_pixel (line_in rows background k) column)
                 (λ k. tagged_pixel (line_in next background k) column)
                 (before.2 background column) hit (w.in_ok-draw_row.ensures.drawn background column)
-                (λ k apart.
-                ap (λ (l : TaggedRowState). tagged_pixel l column)
-                (w.in_ok-draw_row.ensures.others background k apart)),
+                (grind (arith)),
             λ background.
                 struck_more grow struck row
                 (λ k. length (line_in old background k).row.pixels)
@@ -57,31 +48,8 @@ drawn-preserved c =
                 ap (λ (l : TaggedRowState). length l.row.pixels)
                 (w.in_ok-draw_row.ensures.others background k apart)),
           )
-      | else-bits-bit-eq1 w ↦
-          let miss =
-          ap struck down ∙ is_struck-miss 0 c.args.bits row six w.if-bits-bit-eq1.false in
-          rw w.self-inside-is (
-            before.0,
-            before.1,
-            λ background column.
-                struck_skip (paint column) struck row
-                (λ k. tagged_pixel (line_in old background k) column)
-                (λ k. tagged_pixel (line_in rows background k) column)
-                (before.2 background column) miss,
-            λ background.
-                struck_skip grow struck row
-                (λ k. length (line_in old background k).row.pixels)
-                (λ k. length (line_in rows background k).row.pixels)
-                (before.3 background) miss,
-          )
+      | else-bits-bit-eq1 w ↦ grind (arith, nat_tests)
     ]
-
-pub returns-clause-drawn : goal.returns-clause-drawn
-returns-clause-drawn c = λ background column row. grind arith
-
-pub returns-clause-grown : goal.returns-clause-grown
-returns-clause-grown c = λ background row.
-    grind (arith, nat_tests, is_struck-below, struck_all, c.drawn-test.false, c.drawn.invariant.3)
 
 pub returns-in_err-draw_row-clause-held : goal.returns-in_err-draw_row-clause-held
 returns-in_err-draw_row-clause-held c = λ background single held.
@@ -89,25 +57,16 @@ returns-in_err-draw_row-clause-held c = λ background single held.
     let old = c.args.self.now in
     let row = c.drawn.bit in
     let before = c.drawn.invariant in
-    let six = c.drawn-test.true in
     let same : length (line_in rows background row).row.pixels
     ≡ length (line_in old background row).row.pixels =
     rw (le-ltb row row (omega arith)) at (before.3 background row) in
-    let made : row < length rows = omega (arith, before.0, six) in
-    absurd (true≢false (sym (c.in_err-draw_row.ensures.held single (λ other.
-    omega (
-      arith,
-      held row six,
-      same,
-      ap (λ (l : TaggedRowState). length l.row.pixels)
-          (get_or-made rows row (empty_tagged_row other) (empty_tagged_row background) made),
-    )))))
+    absurd (grind (arith, get_or_default))
 
 pub invariant_of-self-in_err-draw_row : goal.invariant_of-self-in_err-draw_row
-invariant_of-self-in_err-draw_row c = record {
-  whole = λ _. omega (arith, c.draw_row.ensures.len, c.drawn.invariant.0);
-  rows = c.draw_row.ensures.rows c.drawn.invariant.1;
-}
+invariant_of-self-in_err-draw_row c = grind (arith)
 
 pub returns-in_err-draw_row-clause-sound : goal.returns-in_err-draw_row-clause-sound
 returns-in_err-draw_row-clause-sound c = invariant_of-self-in_err-draw_row c
+
+pub returns-clause-drawn : goal.returns-clause-drawn
+returns-clause-drawn c = λ background column row. grind arith

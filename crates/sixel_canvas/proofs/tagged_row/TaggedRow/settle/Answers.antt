@@ -1,9 +1,10 @@
 use Rattle.std.proofs.Common.{◌≡◌, length, true, sym, ap, ◌∙◌}
-use Rattle.sixel_canvas.specs.inside.TaggedRow.{TaggedRowState, tag_of, tagged_pixel}
+use Rattle.sixel_canvas.specs.inside.TaggedRow.{TaggedRowState, tag_of}
 use Rattle.sixel_canvas.specs.inside.TaggedRow.{tagged_row_state}
 use Rattle.sixel_canvas.specs.inside.Tags.{is_tag}
 use Rattle.sixel_canvas.proofs.TaggedRows.{IsSettled, settled_row}
 use Rattle.sixel_canvas.proofs.tagged_row.TaggedRow.settle.Goals as goal
+use Rattle.std.proofs.Common.{arith}
 
 -- the row as it was, and what was done to it
 is_settled : (c : goal.After-paint-3)
@@ -27,9 +28,7 @@ pub returns-clause-sound : goal.returns-clause-sound
 returns-clause-sound c = (is_settled c).sound
 
 pub returns-clause-outside : goal.returns-clause-outside
-returns-clause-outside c = λ column apart.
-    (is_settled c).outside column apart
-    ∙ ap (λ (s : TaggedRowState). tagged_pixel s column) c.self.view_is
+returns-clause-outside c = grind (arith, is_settled)
 
 pub returns-clause-settled : goal.returns-clause-settled
 returns-clause-settled c = (is_settled c).settled

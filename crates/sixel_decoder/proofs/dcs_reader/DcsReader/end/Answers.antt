@@ -8,7 +8,7 @@ pub returns : goal.returns
 returns g c =
     let parser = c.self.inside.parser in
     let is =
-    end_of parser.state parser.decoder parser.ended c.self.inside.log.bytes c.self.invariant in
+    end_of parser.state parser.decoder parser.ended c.self.inside.log c.self.invariant in
     let begun : not c.match-matches.matches ≡ is_begun parser.state = elim c.match-matches.branch [
       | in-Start w ↦ rw (w.matches-is, w.in-Start.is) refl
       | in_default w ↦ ap not w.matches-is ∙ begun_other parser.state w.in_default.not-Start

@@ -12,17 +12,20 @@ use Rattle.sixel_decoder.proofs.FedImages.{image_fed, image_rejected}
 use Rattle.sixel_decoder.proofs.ImageEnds.{end_of, refused_begun}
 use Rattle.sixel_decoder.proofs.Sessions.{followed_sound}
 use Rattle.sixel_decoder.proofs.dcs_reader.DcsReader.feed.Goals as goal
-use Rattle.std.proofs.Common.{arith}
-use Rattle.std.proofs.lemmas.Bool.Decides.{nat_tests}
 
 pub invariant_of-self : goal.invariant_of-self
-invariant_of-self g c = grind (arith, nat_tests)
+invariant_of-self g c =
+    let state = c.self.inside.parser.state in
+    let accepted : is_failed state ≡ false =
+    false_from_ne_true (is_failed state) c.in-Ok.ensures.failed in
+    rw (c.extend.ensures, c.in-Ok.ensures.decoder)
+    (c.in-Ok.ensures.follows c.self.inside.log accepted c.self.invariant).3
 
 pub returns-in-Ok : goal.returns-in-Ok
 returns-in-Ok g c =
     let inside = c.self.inside in
     let state = inside.parser.state in
-    let bytes : List ℕ = inside.log.bytes in
+    let bytes : List ℕ = inside.log in
     let accepted : is_failed state ≡ false =
     false_from_ne_true (is_failed state) c.in-Ok.ensures.failed in
     let goes = c.in-Ok.ensures.follows bytes accepted c.self.invariant in
@@ -37,7 +40,7 @@ pub returns-in-Err : goal.returns-in-Err
 returns-in-Err g c =
     let inside = c.self.inside in
     let parser = inside.parser in
-    let bytes : List ℕ = inside.log.bytes in
+    let bytes : List ℕ = inside.log in
     rw (← c.self.view_is)
     (image_rejected (of_sequence (session_of inside)) _ c.args.chunk.now c.in-Err.error
     (rw c.fail.ensures.state refl) refl (c.fail.ensures.decoder ∙ c.in-Err.ensures.decoder)
@@ -49,7 +52,7 @@ pub invariant_of-self-in-Err : goal.invariant_of-self-in-Err
 invariant_of-self-in-Err g c =
     let inside = c.self.inside in
     let parser = inside.parser in
-    let bytes : List ℕ = inside.log.bytes in
+    let bytes : List ℕ = inside.log in
     let known =
     end_of parser.state parser.decoder parser.ended bytes c.self.invariant in
     let told : is_failed parser.state ≡ false → Faults c.in-Err.error

@@ -13,7 +13,7 @@ returns-then-can_finish g c =
     let inside = c.self.inside in
     let parser = inside.parser in
     let reader = c.in-Payload.reader in
-    let bytes : List ℕ = inside.log.bytes in
+    let bytes : List ℕ = inside.log in
     let is : IsInPayload reader parser.decoder parser.ended bytes =
     subst (λ (p : DcsState _). HasFollowed p parser.decoder parser.ended bytes)
     c.in-Payload.is c.self.invariant in

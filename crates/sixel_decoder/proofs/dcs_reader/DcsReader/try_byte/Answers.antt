@@ -18,11 +18,11 @@ use Rattle.sixel_decoder.proofs.dcs_reader.DcsReader.try_byte.Goals as goal
 -- the sequence goes on in its payload
 followed : (g : Over) (c : goal.After-push g)
     → Follows {C = g.row.C.Denot} byte_read (Payload c.try_byte.new.self)
-    c.self.inside.parser.decoder c.self.inside.parser.ended c.self.inside.log.bytes
+    c.self.inside.parser.decoder c.self.inside.parser.ended c.self.inside.log
     (c.args.byte ∷ [])
 followed g c =
     let parser = c.self.inside.parser in
-    let bytes : List ℕ = c.self.inside.log.bytes in
+    let bytes : List ℕ = c.self.inside.log in
     let is : IsInPayload c.in-Payload.reader parser.decoder parser.ended bytes =
     subst (λ (w : DcsState _). HasFollowed w parser.decoder parser.ended bytes) c.in-Payload.is
     c.self.invariant in
@@ -38,8 +38,8 @@ returns-clause-fed g c = λ told.
     let inside = c.self.inside in
     let parser = inside.parser in
     let accepted : is_failed parser.state ≡ false = rw c.in-Payload.is refl in
-    let sound : dcs_fault parser.decoder.pixel_limit inside.log.bytes ≡ None =
-    followed_sound parser.state parser.decoder parser.ended inside.log.bytes c.self.invariant
+    let sound : dcs_fault parser.decoder.pixel_limit inside.log ≡ None =
+    followed_sound parser.state parser.decoder parser.ended inside.log c.self.invariant
     accepted in
     let goes = followed g c in
     rw (← c.self.view_is)

@@ -1,10 +1,8 @@
-use Rattle.std.proofs.Common.{◌≡◌, ℕ, ◌+◌, ◌≤◌, List, length, take, refl, sym, ap, subst, ◌∙◌}
-use Rattle.std.proofs.Common.{arith}
+use Rattle.std.proofs.Common.{◌≡◌, ℕ, ◌+◌, ◌≤◌, List, length, take, refl, sym, ap, ◌∙◌, arith}
 use Rattle.std.specs.Prelude.{fold}
-use Rattle.sixel_base.specs.History.{History, read}
-use Rattle.sixel_decoder.specs.inside.Painter.{Shows}
-use Rattle.sixel_decoder.proofs.SixelRuns.{IsRun-take, fold_one, fold_run}
-use Rattle.sixel_decoder.proofs.SixelRuns.{length-front, length-bits_of, with_sixels}
+use Rattle.sixel_base.specs.History.{read}
+use Rattle.sixel_decoder.proofs.SixelRuns.{IsRun-take, fold_one, fold_run, length-front}
+use Rattle.sixel_decoder.proofs.SixelRuns.{length-bits_of, with_sixels}
 use Rattle.sixel_decoder.proofs.PaintedRuns.{Shows-block}
 use Rattle.sixel_decoder.proofs.painter.Painter.draw_front.Goals as goal
 
@@ -38,6 +36,5 @@ returns-then-self-len-clause-draws g c = λ o h shows.
 
 pub returns-in-Ok-clause-draws : goal.returns-in-Ok-clause-draws
 returns-in-Ok-clause-draws g c = λ o h shows.
-    subst (λ (w : History). Shows o c.find_ready.new.self w)
-    (sym (fold_one h c.args.bytes.now c.requires.some c.requires.sixel))
+    rw (fold_one h c.args.bytes.now c.requires.some c.requires.sixel)
     (c.find_ready.ensures.shows o _ (c.in-Ok.ensures.draws o h shows))

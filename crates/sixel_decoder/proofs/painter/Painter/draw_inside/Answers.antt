@@ -1,5 +1,6 @@
 use Rattle.std.proofs.Common.{◌≡◌, ◌∙◌, ℕ, true, false, min, refl, sym, ap, arith}
 use Rattle.std.proofs.lemmas.Bool.{le-ltb, lt-ltb}
+use Rattle.std.proofs.lemmas.Bool.Decides.{nat_tests}
 use Rattle.sixel_base.specs.Clip.{clipped_bits, is_pixel_inside}
 use Rattle.sixel_base.specs.Limits.{Limit}
 use Rattle.sixel_decoder.proofs.Clips.{covers_clipped, covers_outside}
@@ -36,31 +37,8 @@ returns g c =
           let right : w.min.result ≡ min c.args.right limit.columns =
           w.min.ensures ∙ ap (min c.args.right) columns_is in
           let drawn = w.in_ok-draw.ensures in
-          rw w.self-is (record {
-            pixels = λ column row.
-                drawn.drawn column row
-                ∙ rw (
-                  right,
-                  bits,
-                  covers_clipped limit c.args.from c.args.right top c.args.bits column row,
-                ) refl;
-            top = drawn.top;
-            paid = λ named runs paid.
-                rw (inside, ← right, ← bits) (drawn.paid named runs paid);
-            drawn = λ row. w.add.ensures row ∙ rw (inside, bits) refl;
-            released = drawn.released;
-            registers = refl;
-            settings = refl;
-            crop = refl;
-            limit = refl;
-            ratio = refl;
-            color = refl;
-            repeat = refl;
-            column = refl;
-            width = refl;
-            height = refl;
-            raster = refl;
-          })
+          rw w.self-is
+          (grind (arith, nat_tests, inside, right, bits, covers_clipped, drawn, w.add.ensures))
       | else-from-columns w ↦
           let outside : is_pixel_inside limit c.args.from top ≡ false =
           elim w.else-from-columns.branch [
@@ -72,25 +50,5 @@ returns g c =
                 (le-ltb c.args.from limit.columns
                 (omega (arith, v.if-from-columns.false, columns_is))) refl
           ] in
-          rw w.self-is (record {
-            pixels = λ column row.
-                let none =
-                covers_outside limit c.args.from c.args.right top c.args.bits column row outside in
-                rw none refl;
-            top = refl;
-            paid = λ named runs paid. rw outside paid;
-            drawn = λ row. rw outside refl;
-            released = refl;
-            registers = refl;
-            settings = refl;
-            crop = refl;
-            limit = refl;
-            ratio = refl;
-            color = refl;
-            repeat = refl;
-            column = refl;
-            width = refl;
-            height = refl;
-            raster = refl;
-          })
+          rw w.self-is (grind (arith, nat_tests, outside, covers_outside))
     ]

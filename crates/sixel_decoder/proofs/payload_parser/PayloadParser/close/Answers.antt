@@ -1,9 +1,7 @@
-use Rattle.std.proofs.Common.{refl, sym, subst}
-use Rattle.sixel_base.specs.Lenient.{effective}
-use Rattle.sixel_decoder.specs.inside.Lenient.{Tolerates, HasDrawn}
+use Rattle.std.proofs.Common.{refl, subst}
 use Rattle.sixel_decoder.specs.inside.PayloadParser.{IsOpen, StandsIn}
 use Rattle.sixel_decoder.specs.declared.payload_parser.OpenCommand.{OpenCommand}
-use Rattle.sixel_base.specs.History.{History, Repeat, Raster, Color}
+use Rattle.sixel_base.specs.History.{Repeat, Raster, Color}
 use Rattle.sixel_decoder.proofs.LenientTokens.{has_drawn_more, tolerates}
 use Rattle.sixel_decoder.proofs.payload_parser.PayloadParser.close.Goals as goal
 
@@ -13,12 +11,10 @@ returns-in-InRepeat-clause-drawn g c = λ o h stands.
     subst (λ (p : OpenCommand). StandsIn p o c.args.self.now h) c.in-InRepeat.is stands in
     let drawn = c.set_repeat-outcome in
     let told = c.tolerate in
-    subst (λ (w : History). Tolerates told.result o drawn.new.self told.new.ignored w)
-    (sym is.newest)
-    (tolerates drawn.result told.result c.lenient-lenient.result o c.args.self.now.painter
-    drawn.new.self c.args.self.now.ignored told.new.ignored (Repeat is.text) is.older
-    c.lenient-lenient.ensures told.ensures.result told.ensures.count (λ w. refl) is.shows
-    (drawn.ensures.draws o (effective o.pixel_limit is.older) is.text is.keeps is.shows.shows)
+    rw is.newest (tolerates drawn.result told.result c.lenient-lenient.result o
+    c.args.self.now.painter drawn.new.self c.args.self.now.ignored told.new.ignored
+    (Repeat is.text) is.older c.lenient-lenient.ensures told.ensures.result told.ensures.count
+    (λ w. refl) is.shows (drawn.ensures.draws o _ is.text is.keeps is.shows.shows)
     drawn.ensures.kept)
 
 pub returns-in-InRaster-clause-drawn : goal.returns-in-InRaster-clause-drawn
@@ -27,21 +23,15 @@ returns-in-InRaster-clause-drawn g c = λ o h stands.
     subst (λ (p : OpenCommand). StandsIn p o c.args.self.now h) c.in-InRaster.is stands in
     let drawn = c.set_raster-outcome in
     let told = c.tolerate-in-InRaster in
-    subst (λ (w : History). Tolerates told.result o drawn.new.self told.new.ignored w)
-    (sym is.newest)
-    (tolerates drawn.result told.result c.lenient-lenient-in-InRaster.result o
+    rw is.newest (tolerates drawn.result told.result c.lenient-lenient-in-InRaster.result o
     c.args.self.now.painter drawn.new.self c.args.self.now.ignored told.new.ignored
     (Raster is.text) is.older c.lenient-lenient-in-InRaster.ensures told.ensures.result
     told.ensures.count (λ w. refl) is.shows
-    (drawn.ensures.draws o (effective o.pixel_limit is.older) is.text is.keeps is.shows.shows)
-    drawn.ensures.kept)
+    (drawn.ensures.draws o _ is.text is.keeps is.shows.shows) drawn.ensures.kept)
 
 pub returns-in-InColor-clause-drawn : goal.returns-in-InColor-clause-drawn
 returns-in-InColor-clause-drawn g c = λ o h stands.
     let is : IsOpen Color o c.args.self.now h =
     subst (λ (p : OpenCommand). StandsIn p o c.args.self.now h) c.in-InColor.is stands in
-    subst (λ (w : History). HasDrawn o c.select.new.self c.args.self.now.ignored w)
-    (sym is.newest)
-    (has_drawn_more o c.select.new.self c.args.self.now.ignored (Color is.text) is.older
-    (c.select.ensures.shows o (effective o.pixel_limit is.older) is.text is.keeps is.shows.shows)
-    is.shows.count)
+    rw is.newest (has_drawn_more o c.select.new.self c.args.self.now.ignored (Color is.text)
+    is.older (c.select.ensures.shows o _ is.text is.keeps is.shows.shows) is.shows.count)

@@ -1,12 +1,10 @@
-use Rattle.std.proofs.Common.{◌≡◌, ◌-◌, ◌∷◌, ℕ, List, true, false, get_or, subst, sym}
-use Rattle.std.proofs.Common.{◌∙◌, arith}
+use Rattle.std.proofs.Common.{◌≡◌, ◌-◌, ◌∷◌, ℕ, true, get_or, subst, sym, ◌∙◌, arith}
 use Rattle.std.specs.Prelude.{◌⊎◌}
 use Rattle.std.proofs.lemmas.Result.{err_from_is_err_and}
 use Rattle.sixel_base.specs.Fault.{Faults}
 use Rattle.sixel_base.specs.History.{Sixel}
 use Rattle.sixel_base.specs.Lenient.{fault}
-use Rattle.sixel_base.specs.Bytes.{is_ignored, is_sixel, is_terminator}
-use Rattle.sixel_decoder.specs.declared.payload_parser.PayloadParser.{PayloadParser}
+use Rattle.sixel_base.specs.Bytes.{is_sixel}
 use Rattle.sixel_decoder.specs.inside.Runs.{IsPrintable}
 use Rattle.sixel_decoder.proofs.ChunkPlaces.{feeds_refused, feeds_refused_end}
 use Rattle.sixel_decoder.proofs.ChunkPlaces.{feeds_refused_printable, feeds_terminated, feeds_whole}
@@ -40,58 +38,40 @@ draw_sixels-requires-clause-sixel g c =
 
 pub returns-in_err-close-clause-feeds : goal.returns-in_err-close-clause-feeds
 returns-in_err-close-clause-feeds g c = λ o h reached.
-    let piece = c.args.chunk.now in
-    let index = c.bytes.index in
-    let byte = get_or piece index 0 in
+    let byte = get_or c.args.chunk.now c.bytes.index 0 in
     let test : is_sixel byte ≡ true = sym c.is_sixel.ensures ∙ c.if-is_sixel.true in
     let r = c.bytes.invariant.0 o h reached in
     let p = err_from_is_err_and c.from_residual.result c.from_residual.ensures.1 in
     rw (p.1, p.2)
-    (feeds_refused_printable _ o c.bytes.self h index piece c.bytes-test.true
-    (printable_from_sixel byte test) r
+    (feeds_refused_printable _ o _ h _ _ c.bytes-test.true (printable_from_sixel byte test) r
     (refused_close _ o.pixel_limit r.now byte (goes_on_byte r.now byte (sixel_from_test byte test))
     (c.in_err-close.ensures.drawn o r.now r.stands)))
 
 pub returns-in_err-drawn-clause-feeds : goal.returns-in_err-drawn-clause-feeds
 returns-in_err-drawn-clause-feeds g c = λ o h reached.
-    let piece = c.args.chunk.now in
-    let index = c.bytes.index in
-    let byte = get_or piece index 0 in
+    let byte = get_or c.args.chunk.now c.bytes.index 0 in
     let test : is_sixel byte ≡ true = sym c.is_sixel.ensures ∙ c.if-is_sixel.true in
     let r = c.bytes.invariant.0 o h reached in
     let e = c.in_err-drawn.field-0.0 in
     let refused =
     c.in_err-drawn.ensures.tolerates o r.now (c.in_ok-close.ensures.drawn o r.now r.stands) in
-    let p =
-    err_from_is_err_and c.from_residual-in_err-drawn.result
-    c.from_residual-in_err-drawn.ensures.1 in
+    let residual = c.from_residual-in_err-drawn in
+    let p = err_from_is_err_and residual.result residual.ensures.1 in
     rw (p.1, p.2)
-    (feeds_refused_printable _ o c.bytes.self h index piece c.bytes-test.true
-    (printable_from_sixel byte test) r
+    (feeds_refused_printable _ o _ h _ _ c.bytes-test.true (printable_from_sixel byte test) r
     (refused_sixel e o.pixel_limit r.now byte (sixel_from_test byte test)
     (subst (λ (b : ℕ). Faults e true (fault o.pixel_limit (Sixel (b - 63) ∷ r.now)))
-    (first_ahead index piece c.tail.result.now c.tail.ensures) refused)))
+    (first_ahead c.bytes.index c.args.chunk.now c.tail.result.now c.tail.ensures) refused)))
 
 pub bytes-preserved-then-is_sixel : goal.bytes-preserved-then-is_sixel
 bytes-preserved-then-is_sixel g c =
-    let piece : List ℕ = c.args.chunk.now in
-    let rest : List ℕ = c.tail.result.now in
-    let drawn = c.in_ok-drawn.drawn in
-    let is = c.in_ok-drawn.ensures in
-    let closed = c.close.new.self in
-    let new : PayloadParser _ g.C.Canvas = record {
-      command = closed.command;
-      parameters = closed.parameters;
-      painter = c.draw_sixels.new.self;
-      ignored = c.draw_sixels.new.ignored;
-    } in (
+    let is = c.in_ok-drawn.ensures in (
       λ o h reached.
           let r = c.bytes.invariant.0 o h reached in
           let shows = is.tolerates o r.now (c.in_ok-close.ensures.drawn o r.now r.stands) in
-          reaches_read o c.bytes.self new h c.bytes.index drawn piece rest c.tail.ensures
+          reaches_read o _ _ h _ _ _ _ c.tail.ensures
           (λ k lt. (omega (arith, is.sixels k lt), omega (arith, is.sixels k lt))) is.within r
-          (Stands-run o new r.now drawn rest c.in_ok-close.ensures.ground is.some is.within
-          is.sixels shows),
+          (Stands-run o _ r.now _ _ c.in_ok-close.ensures.ground is.some is.within is.sixels shows),
       is.released ∙ c.in_ok-close.ensures.released ∙ c.bytes.invariant.1,
     )
 
@@ -108,30 +88,21 @@ open_numbered-read-requires-clause-numbered g c =
 
 pub returns-in_err-close-2-clause-feeds : goal.returns-in_err-close-2-clause-feeds
 returns-in_err-close-2-clause-feeds g c = λ o h reached.
-    let piece = c.args.chunk.now in
-    let index = c.bytes.index in
-    let byte = get_or piece index 0 in
     let numbered = c.is_numbered.ensures.bytes c.if-is_numbered.true in
     let r = c.bytes.invariant.0 o h reached in
-    let p =
-    err_from_is_err_and c.from_residual-in_err-close-2.result
-    c.from_residual-in_err-close-2.ensures.1 in
+    let residual = c.from_residual-in_err-close-2 in
+    let p = err_from_is_err_and residual.result residual.ensures.1 in
     rw (p.1, p.2)
-    (feeds_refused_printable _ o c.bytes.self h index piece c.bytes-test.true
-    (numbered_printable byte numbered) r
-    (refused_close _ o.pixel_limit r.now byte (goes_on_numbered r.now byte numbered)
+    (feeds_refused_printable _ o _ h _ _ c.bytes-test.true (numbered_printable _ numbered) r
+    (refused_close _ o.pixel_limit r.now _ (goes_on_numbered r.now _ numbered)
     (c.in_err-close-2.ensures.drawn o r.now r.stands)))
 
 pub bytes-preserved-then-is_numbered : goal.bytes-preserved-then-is_numbered
 bytes-preserved-then-is_numbered g c =
-    let piece : List ℕ = c.args.chunk.now in
-    let rest : List ℕ = c.tail-then-is_numbered.result.now in
-    let read = c.open_numbered-read.result in
     let is = c.open_numbered-read.ensures in (
       λ o h reached.
           let r = c.bytes.invariant.0 o h reached in
-          reaches_read o c.bytes.self c.open_numbered-read.new.self h c.bytes.index read piece rest
-          c.tail-then-is_numbered.ensures is.printable is.within r
+          reaches_read o _ _ h _ _ _ _ c.tail-then-is_numbered.ensures is.printable is.within r
           (is.stands o r.now (c.in_ok-close-2.ensures.drawn o r.now r.stands)),
       is.released ∙ c.in_ok-close-2.ensures.released ∙ c.bytes.invariant.1,
     )
@@ -140,69 +111,50 @@ bytes-preserved-then-is_numbered g c =
 
 pub returns-in_err-close-3-clause-feeds : goal.returns-in_err-close-3-clause-feeds
 returns-in_err-close-3-clause-feeds g c = λ o h reached.
-    let piece = c.args.chunk.now in
-    let index = c.bytes.index in
-    let byte = get_or piece index 0 in
-    let ends : is_terminator byte ≡ true = sym c.is_terminator.ensures ∙ c.if-is_terminator.true in
-    let read =
-    reads_before o c.bytes.self h index piece byte (splits_at piece index c.bytes-test.true) ends
-    (c.bytes.invariant.0 o h reached) in
-    let p =
-    err_from_is_err_and c.from_residual-in_err-close-3.result
-    c.from_residual-in_err-close-3.ensures.1 in
+    let splits = splits_at c.args.chunk.now c.bytes.index c.bytes-test.true in
+    let ends = sym c.is_terminator.ensures ∙ c.if-is_terminator.true in
+    let read = reads_before o c.bytes.self h _ _ _ splits ends (c.bytes.invariant.0 o h reached) in
+    let residual = c.from_residual-in_err-close-3 in
+    let p = err_from_is_err_and residual.result residual.ensures.1 in
     rw (p.1, p.2)
-    (feeds_refused_end _ o.pixel_limit h index piece c.bytes-test.true read.0
+    (feeds_refused_end _ o.pixel_limit h _ _ c.bytes-test.true read.0
     (c.in_err-close-3.ensures.drawn o _ read.1))
 
 pub returns-then-is_terminator-clause-feeds : goal.returns-then-is_terminator-clause-feeds
 returns-then-is_terminator-clause-feeds g c = λ o h reached.
-    let piece = c.args.chunk.now in
-    let index = c.bytes.index in
-    let byte = get_or piece index 0 in
-    let ends : is_terminator byte ≡ true = sym c.is_terminator.ensures ∙ c.if-is_terminator.true in
-    let read =
-    reads_before o c.bytes.self h index piece byte (splits_at piece index c.bytes-test.true) ends
-    (c.bytes.invariant.0 o h reached) in
-    feeds_terminated o _ h index piece c.bytes-test.true read.0 c.in_ok-close-3.ensures.ground
+    let splits = splits_at c.args.chunk.now c.bytes.index c.bytes-test.true in
+    let ends = sym c.is_terminator.ensures ∙ c.if-is_terminator.true in
+    let read = reads_before o c.bytes.self h _ _ _ splits ends (c.bytes.invariant.0 o h reached) in
+    feeds_terminated o _ h _ _ c.bytes-test.true read.0 c.in_ok-close-3.ensures.ground
     (c.in_ok-close-3.ensures.drawn o _ read.1)
 
 -- ---- any other byte, and the end of the chunk
 
 pub returns-in_err-push-clause-feeds : goal.returns-in_err-push-clause-feeds
 returns-in_err-push-clause-feeds g c = λ o h reached.
-    let piece = c.args.chunk.now in
-    let index = c.bytes.index in
-    let byte = get_or piece index 0 in
+    let splits = splits_at c.args.chunk.now c.bytes.index c.bytes-test.true in
     let r = c.bytes.invariant.0 o h reached in
-    let ends : is_terminator byte ≡ false =
-    sym c.is_terminator.ensures ∙ c.if-is_terminator.false in
-    let carries : is_ignored byte ≡ false = sym c.is_ignored.ensures ∙ c.if-not-is_ignored.true in
-    let p =
-    err_from_is_err_and c.from_residual-in_err-push.result c.from_residual-in_err-push.ensures.1 in
-    rw (p.1, p.2) (feeds_refused _ o c.bytes.self h index piece byte
-    (splits_at piece index c.bytes-test.true) ends carries r
+    let residual = c.from_residual-in_err-push in
+    let p = err_from_is_err_and residual.result residual.ensures.1 in
+    rw (p.1, p.2)
+    (feeds_refused _ o _ h _ _ _ splits (sym c.is_terminator.ensures ∙ c.if-is_terminator.false)
+    (sym c.is_ignored.ensures ∙ c.if-not-is_ignored.true) r
     (c.in_err-push.ensures.reads o r.now r.stands))
 
 pub bytes-preserved : goal.bytes-preserved
 bytes-preserved g c = (
   λ o h reached.
-      let piece = c.args.chunk.now in
-      let index = c.bytes.index in
-      let byte = get_or piece index 0 in
       let r = c.bytes.invariant.0 o h reached in
-      let splits = splits_at piece index c.bytes-test.true in
-      let ends : is_terminator byte ≡ false =
-      sym c.is_terminator.ensures ∙ c.if-is_terminator.false in
+      let splits = splits_at c.args.chunk.now c.bytes.index c.bytes-test.true in
+      let ends = sym c.is_terminator.ensures ∙ c.if-is_terminator.false in
       elim c.if-not-is_ignored.branch [
         | then-not-is_ignored+in_ok-push w ↦
-            let carries : is_ignored byte ≡ false =
-            sym c.is_ignored.ensures ∙ w.if-not-is_ignored.true in
-            reaches_pushed o c.bytes.self _ h index piece byte splits ends carries r
+            reaches_pushed o _ _ h _ _ _ splits ends
+            (sym c.is_ignored.ensures ∙ w.if-not-is_ignored.true) r
             (rw w.self-is (w.in_ok-push.ensures.reads o r.now r.stands))
         | else-not-is_ignored w ↦
-            let ignored : is_ignored byte ≡ true =
-            sym c.is_ignored.ensures ∙ w.if-not-is_ignored.false in
-            rw w.self-is (reaches_ignored o c.bytes.self h index piece byte splits ends ignored r)
+            rw w.self-is (reaches_ignored o _ h _ _ _ splits ends
+            (sym c.is_ignored.ensures ∙ w.if-not-is_ignored.false) r)
       ],
   elim c.if-not-is_ignored.branch [
     | then-not-is_ignored+in_ok-push w ↦
@@ -213,6 +165,5 @@ bytes-preserved g c = (
 
 pub returns-clause-feeds : goal.returns-clause-feeds
 returns-clause-feeds g c = λ o h reached.
-    feeds_whole o c.bytes.self h c.bytes.index c.args.chunk.now (omega (arith, c.bytes-test.false))
-    (reads_whole o c.bytes.self h c.bytes.index c.args.chunk.now (omega (arith, c.bytes-test.false))
-    (c.bytes.invariant.0 o h reached))
+    feeds_whole o _ h _ _ c.bytes-test.false
+    (reads_whole o _ h _ _ c.bytes-test.false (c.bytes.invariant.0 o h reached))

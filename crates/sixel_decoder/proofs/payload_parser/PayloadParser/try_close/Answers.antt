@@ -1,11 +1,9 @@
-use Rattle.std.proofs.Common.{◌≡◌, sym, subst, rules}
-use Rattle.sixel_base.specs.History.{History, Color}
-use Rattle.sixel_decoder.specs.declared.payload_parser.OpenCommand.{OpenCommand}
+use Rattle.std.proofs.Common.{◌≡◌, subst, rules}
+use Rattle.sixel_base.specs.History.{Color}
 use Rattle.sixel_decoder.specs.declared.payload_parser.OpenCommand.TheVariants.{InColor}
-use Rattle.sixel_base.specs.Lenient.{effective}
-use Rattle.sixel_decoder.specs.inside.Lenient.{HasDrawn}
 use Rattle.sixel_decoder.proofs.LenientTokens.{has_drawn_more}
 use Rattle.sixel_decoder.specs.inside.PayloadParser.{IsOpen, StandsIn}
+use Rattle.sixel_decoder.specs.declared.payload_parser.OpenCommand.{OpenCommand}
 use Rattle.sixel_decoder.proofs.payload_parser.PayloadParser.try_close.Goals as goal
 
 pub returns-clause-shows : goal.returns-clause-shows
@@ -13,8 +11,5 @@ returns-clause-shows g c = λ told o h stands.
     let color : c.args.self.now.command ≡ InColor = search rules in
     let is : IsOpen Color o c.args.self.now h =
     subst (λ (p : OpenCommand). StandsIn p o c.args.self.now h) color stands in
-    subst (λ (w : History). HasDrawn o c.select_only.new.self c.args.self.now.ignored w)
-    (sym is.newest)
-    (has_drawn_more o c.select_only.new.self c.args.self.now.ignored (Color is.text) is.older
-    (c.select_only.ensures.shows o (effective o.pixel_limit is.older) is.text is.keeps
-    is.shows.shows) is.shows.count)
+    rw is.newest (has_drawn_more o c.select_only.new.self c.args.self.now.ignored (Color is.text)
+    is.older (c.select_only.ensures.shows o _ is.text is.keeps is.shows.shows) is.shows.count)

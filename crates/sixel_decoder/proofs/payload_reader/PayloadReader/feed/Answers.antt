@@ -22,7 +22,7 @@ pub invariant_of-self-in-Some : goal.invariant_of-self-in-Some
 invariant_of-self-in-Some g c =
     let inside = c.self.inside in
     let origin : Origin = (session_of inside).origin in
-    let bytes : List ℕ = inside.log.bytes in
+    let bytes : List ℕ = inside.log in
     let parser = c.in-Reading.parser in
     let read : HasRead (Some parser) origin inside.terminator bytes =
     subst (λ (w : PayloadState _ _). HasRead (parser_of w) origin inside.terminator bytes)
@@ -36,7 +36,7 @@ pub returns-in-Some : goal.returns-in-Some
 returns-in-Some g c =
     let inside = c.self.inside in
     let origin : Origin = (session_of inside).origin in
-    let bytes : List ℕ = inside.log.bytes in
+    let bytes : List ℕ = inside.log in
     let chunk : List ℕ = c.args.chunk.now in
     let parser = c.in-Reading.parser in
     let byte : ℕ = c.in-Some.byte in
@@ -58,7 +58,7 @@ pub invariant_of-self-in-Ok : goal.invariant_of-self-in-Ok
 invariant_of-self-in-Ok g c =
     let inside = c.self.inside in
     let origin : Origin = (session_of inside).origin in
-    let bytes : List ℕ = inside.log.bytes in
+    let bytes : List ℕ = inside.log in
     let read : HasRead (Some c.in-Reading.parser) origin inside.terminator bytes =
     subst (λ (w : PayloadState _ _). HasRead (parser_of w) origin inside.terminator bytes)
     c.in-Reading.is c.self.invariant in
@@ -74,7 +74,7 @@ pub returns-in-Ok : goal.returns-in-Ok
 returns-in-Ok g c =
     let inside = c.self.inside in
     let origin : Origin = (session_of inside).origin in
-    let bytes : List ℕ = inside.log.bytes in
+    let bytes : List ℕ = inside.log in
     let read : HasRead (Some c.in-Reading.parser) origin inside.terminator bytes =
     subst (λ (w : PayloadState _ _). HasRead (parser_of w) origin inside.terminator bytes)
     c.in-Reading.is c.self.invariant in
@@ -93,7 +93,7 @@ pub returns-in-Err : goal.returns-in-Err
 returns-in-Err g c =
     let inside = c.self.inside in
     let origin : Origin = (session_of inside).origin in
-    let bytes : List ℕ = inside.log.bytes in
+    let bytes : List ℕ = inside.log in
     let chunk : List ℕ = c.args.chunk.now in
     let error : SixelError = c.in-Err.error in
     let read : HasRead (Some c.in-Reading.parser) origin inside.terminator bytes =

@@ -44,7 +44,7 @@ returns-in-Reading g c =
     let inside = c.self.inside in
     let o : Origin = (session_of inside).origin in
     let read =
-    reading inside.state c.in-Reading.parser o inside.terminator inside.log.bytes
+    reading inside.state c.in-Reading.parser o inside.terminator inside.log
     c.in-Reading.is c.self.invariant in
     rw (← c.self.view_is)
     (taken_by c.finish.result (session_of inside) (rw c.in-Reading.is refl)

@@ -13,13 +13,13 @@ use Rattle.sixel_decoder.proofs.payload_reader.PayloadReader.try_byte.Goals as g
 -- the parser has read the byte
 went_on : (g : Over) (c : goal.After-push g)
     → GoesOn byte_read (session_of c.self.inside).origin c.try_byte.new.self
-    c.self.inside.log.bytes (c.args.byte ∷ [])
+    c.self.inside.log (c.args.byte ∷ [])
     × HasRead (Some c.try_byte.new.self) (session_of c.self.inside).origin
-    c.self.inside.terminator (c.self.inside.log.bytes ++ c.args.byte ∷ [])
+    c.self.inside.terminator (c.self.inside.log ++ c.args.byte ∷ [])
 went_on g c =
     let inside = c.self.inside in
     let origin : Origin = (session_of inside).origin in
-    let bytes : List ℕ = inside.log.bytes in
+    let bytes : List ℕ = inside.log in
     let read : HasRead (Some c.in-Reading.parser) origin inside.terminator bytes =
     subst (λ (w : PayloadState _ _). HasRead (parser_of w) origin inside.terminator bytes)
     c.in-Reading.is c.self.invariant in
@@ -38,7 +38,7 @@ returns-clause-fed g c = λ told.
     let goes = (went_on g c).0 in
     let was : is_none (parser_of inside.state) ≡ false = rw c.in-Reading.is refl in
     let sound =
-    read_sound (parser_of inside.state) origin inside.terminator inside.log.bytes
+    read_sound (parser_of inside.state) origin inside.terminator inside.log
     c.self.invariant was in
     rw (← c.self.view_is)
     (payload_fed (session_of inside) _ (c.args.byte ∷ [])
