@@ -1,8 +1,6 @@
 -- The rows of a band: one dot more, one line more.
-use Rattle.std.proofs.Common.{◌≡◌, ◌≢◌, ℕ, ◌+◌, ◌*◌, ◌<◌, Bool, true, List, length}
-use Rattle.std.proofs.Common.{◌≤◌, set, ◌∙◌, arith, inl, inr}
+use Rattle.std.proofs.Common.{◌≡◌, ℕ, ◌+◌, ◌*◌, ◌<◌, Bool, true, List, length, ◌≤◌, set, arith}
 use Rattle.std.specs.Prelude.{slice_index}
-use Rattle.std.proofs.lemmas.Bool.{cases_eq}
 use Rattle.std.proofs.lemmas.Bool.Decides.{nat_tests}
 use Rattle.std.proofs.Math.Nat.{mul_comm}
 use Rattle.std.proofs.lemmas.Nat.{mul-add-lt, same_from_place}
@@ -26,37 +24,14 @@ pub sixel_inside : (image : IndexedImage) (rows : List ℕ) (used : List Bool)
 sixel_inside image rows used pixel row column is entries are within opaque entry inside =
     grind (arith, nat_tests, place_inside)
 
-dot_at-entry : (weight entry column e x : ℕ) → e ≢ entry → dot_at weight entry column e x ≡ 0
-dot_at-entry weight entry column e x h = grind (arith, nat_tests)
-
-dot_at-column : (weight entry column e x : ℕ) → x ≢ column → dot_at weight entry column e x ≡ 0
-dot_at-column weight entry column e x h = grind (arith, nat_tests)
-
--- a sixel that was written
-cell-set : (rows : List ℕ) (width e x v : ℕ) → e * width + x < length rows
-    → cell (set rows (e * width + x) v) width e x ≡ v
-cell-set rows width e x v h = get_or-set_same rows (e * width + x) v 0 h
-
--- the sixel of another entry or column
-cell-set_other : (rows : List ℕ) (width entry column e x v : ℕ)
-    → (e * width + x ≡ entry * width + column → ⊥)
-    → cell (set rows (entry * width + column) v) width e x ≡ cell rows width e x
-cell-set_other rows width entry column e x v h = grind (arith, nat_tests, get_or-set_other)
-
 -- a dot adds its weight to one sixel
 pub cell-dot : (rows : List ℕ) (width entry column weight e x : ℕ)
     → entry * width + column < length rows → column < width → x < width
     → cell (set rows (entry * width + column) (cell rows width entry column + weight)) width e x
     ≡ cell rows width e x + dot_at weight entry column e x
 cell-dot rows width entry column weight e x inside lc lx =
-    elim (cases_eq e entry) [
-      | inl same ↦
-          grind (arith, nat_tests, same_from_place, cell-set, cell-set_other, dot_at-column)
-      | inr apart ↦
-          cell-set_other rows width entry column e x _
-          (λ p. apart (same_from_place e x entry column width lx lc p).0)
-          ∙ omega (arith, dot_at-entry weight entry column e x apart)
-    ]
+    let same = same_from_place e x entry column width lx lc in
+    grind (arith, nat_tests, get_or-set_same, get_or-set_other)
 
 -- a dot keeps the marks
 pub AreMarks-dot : (rows : List ℕ) (used : List Bool) (width entry column weight : ℕ)
@@ -69,7 +44,7 @@ AreMarks-dot rows used width entry column weight marks inside le lc lw =
     let new : (e x : ℕ) → x < width
     → cell (set rows (entry * width + column) (cell rows width entry column + weight)) width e x
     ≡ cell rows width e x + dot_at weight entry column e x = λ e x lx. grind (arith, cell-dot) in
-    grind (arith, nat_tests, get_or-set_other, get_or-set_same, dot_at-entry)
+    grind (arith, nat_tests, get_or-set_other, get_or-set_same)
 
 pub AreMarks-same : {rows others : List ℕ} {used marks : List Bool} {width : ℕ} → rows ≡ others
     → used ≡ marks → AreMarks others marks width → AreMarks rows used width

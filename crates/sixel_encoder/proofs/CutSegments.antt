@@ -1,10 +1,10 @@
 -- The segments that a band is cut into, pixel by pixel: those of one entry are a gap apart.
-use Rattle.std.specs.Prelude.{Some, nat_lt, ◌&&◌, ◌==◌}
-use Rattle.std.proofs.Common.{Bool, List, arith, cond, refl, ℕ, ◌+◌, ◌<◌, ◌∙◌, ◌∷◌, ◌≡◌, ◌≤◌, []}
+use Rattle.std.specs.Prelude.{Some}
+use Rattle.std.proofs.Common.{List, arith, refl, ℕ, ◌+◌, ◌<◌, ◌∙◌, ◌∷◌, ◌≡◌, ◌≤◌, []}
 use Rattle.std.proofs.lemmas.Bool.Decides.{nat_tests}
 use Rattle.sixel_encoder.specs.declared.segments.Segment.{Segment}
 use Rattle.sixel_encoder.specs.Segments.{with_pixel}
-use Rattle.sixel_encoder.proofs.SegmentTallies.{is_of, one, tally}
+use Rattle.sixel_encoder.proofs.SegmentTallies.{is_of, tally}
 
 -- ---- segments that are cut at gaps
 
@@ -49,12 +49,6 @@ pub AreAfter-pixel : (gap column entry : ℕ) (segment : Segment) (segments : Li
 AreAfter-pixel gap column entry segment [] new after = (new, tt)
 AreAfter-pixel gap column entry segment (other ∷ others) new after =
     grind (arith, nat_tests, AreAfter-pixel gap column entry segment others new after.1)
-  where
-    go : (b : Bool) → AreAfter gap segment (with_pixel gap column entry others)
-        → AreAfter gap segment
-        (cond b (record { entry = other.entry; first = other.first; end = column + 1 } ∷ others)
-        (other ∷ with_pixel gap column entry others))
-    go b rest = grind (arith, nat_tests)
 
 -- one more pixel keeps them cut
 pub AreCut-pixel : (gap entries bound column entry : ℕ) (segments : List Segment)
@@ -62,32 +56,10 @@ pub AreCut-pixel : (gap entries bound column entry : ℕ) (segments : List Segme
     → AreCut gap entries (column + 1) (with_pixel gap column entry segments)
 AreCut-pixel gap entries bound column entry [] l known are = grind (arith, nat_tests)
 AreCut-pixel gap entries bound column entry (segment ∷ segments) l known are =
-    go (segment.entry == entry && nat_lt column (segment.end + gap)) refl
-    (AreCut-pixel gap entries bound column entry segments l known are.4)
-  where
-    go : (b : Bool) → segment.entry == entry && nat_lt column (segment.end + gap) ≡ b
-        → AreCut gap entries (column + 1) (with_pixel gap column entry segments)
-        → AreCut gap entries (column + 1)
-        (cond b
-        (record { entry = segment.entry; first = segment.first; end = column + 1 } ∷ segments)
-        (segment ∷ with_pixel gap column entry segments))
-    go b e rest = grind (arith, nat_tests, AreAfter-near, AreCut-wider, AreAfter-pixel)
+    let rest = AreCut-pixel gap entries bound column entry segments l known are.4 in
+    grind (arith, nat_tests, AreAfter-near, AreCut-wider, AreAfter-pixel)
 
 -- ---- what their pixels are
-
--- whether a pixel is one of a segment's, as a number
-pub of-is : (x entry : ℕ) (segment : Segment) → entry ≡ segment.entry → segment.first ≤ x
-    → x < segment.end → one (is_of x (Some entry) segment) ≡ 1
-of-is x entry segment same low high = grind (arith, nat_tests)
-
--- of a segment that begins later
-pub of-before : (x entry : ℕ) (segment : Segment) → (segment.entry ≡ entry → x < segment.first)
-    → one (is_of x (Some entry) segment) ≡ 0
-of-before x entry segment before = grind (arith, nat_tests)
-
--- at most one
-pub one-few : (b : Bool) → one b ≤ 1
-one-few b = grind (arith, nat_tests)
 
 -- no segment after this one has a column of it
 pub none-after : (gap x entry : ℕ) (segment : Segment) (segments : List Segment) → x < segment.end
@@ -95,26 +67,14 @@ pub none-after : (gap x entry : ℕ) (segment : Segment) (segments : List Segmen
     → tally (is_of x (Some entry)) segments ≡ 0
 none-after gap x entry segment [] l same after = refl
 none-after gap x entry segment (other ∷ others) l same after =
-    grind (arith, nat_tests, of-before, none-after gap x entry segment others l same after.1)
+    grind (arith, nat_tests, none-after gap x entry segment others l same after.1)
 
 -- so a pixel is in at most one segment
 pub few-cut : (gap entries bound x entry : ℕ) (segments : List Segment)
     → AreCut gap entries bound segments → tally (is_of x (Some entry)) segments ≤ 1
 few-cut gap entries bound x entry [] are = omega arith
 few-cut gap entries bound x entry (segment ∷ segments) are =
-    go (is_of x (Some entry) segment) refl (few-cut gap entries bound x entry segments are.4)
-  where
-    go : (b : Bool) → is_of x (Some entry) segment ≡ b
-        → tally (is_of x (Some entry)) segments ≤ 1
-        → one (is_of x (Some entry) segment) + tally (is_of x (Some entry)) segments ≤ 1
-    go b e rest = grind (arith, nat_tests, none-after, one-few)
-
--- a segment that grows keeps its pixels
-pub of-longer : (x e column : ℕ) (segment : Segment) → segment.end ≤ column + 1
-    → one (is_of x (Some e) segment)
-    ≤ one (is_of x (Some e)
-    record { entry = segment.entry; first = segment.first; end = column + 1 })
-of-longer x e column segment l = grind (arith, nat_tests, of-is, one-few)
+    grind (arith, nat_tests, none-after, few-cut gap entries bound x entry segments are.4)
 
 -- one more pixel takes none away
 pub tally-pixel : (gap entries bound column entry x e : ℕ) (segments : List Segment)
@@ -124,16 +84,6 @@ pub tally-pixel : (gap entries bound column entry x e : ℕ) (segments : List Se
 tally-pixel gap entries bound column entry x e [] l are = omega arith
 tally-pixel gap entries bound column entry x e (segment ∷ segments) l are =
     grind (arith, nat_tests, tally-pixel gap entries bound column entry x e segments l are.4)
-  where
-    go : (b : Bool)
-        → tally (is_of x (Some e)) segments
-        ≤ tally (is_of x (Some e)) (with_pixel gap column entry segments)
-        → one (is_of x (Some e) segment) + tally (is_of x (Some e)) segments
-        ≤ tally (is_of x (Some e))
-        (cond b
-        (record { entry = segment.entry; first = segment.first; end = column + 1 } ∷ segments)
-        (segment ∷ with_pixel gap column entry segments))
-    go b rest = grind (arith, nat_tests, of-longer)
 
 -- and adds its own
 pub own-pixel : (gap entries bound column entry : ℕ) (segments : List Segment)
@@ -142,14 +92,3 @@ pub own-pixel : (gap entries bound column entry : ℕ) (segments : List Segment)
 own-pixel gap entries bound column entry [] l are = grind (arith, nat_tests)
 own-pixel gap entries bound column entry (segment ∷ segments) l are =
     grind (arith, nat_tests, own-pixel gap entries bound column entry segments l are.4)
-  where
-    longer : Segment
-    longer = record { entry = segment.entry; first = segment.first; end = column + 1 }
-
-    go : (b : Bool) → segment.entry == entry && nat_lt column (segment.end + gap) ≡ b
-        → 1 ≤ tally (is_of column (Some entry)) (with_pixel gap column entry segments)
-        → 1 ≤ tally (is_of column (Some entry))
-        (cond b
-        (record { entry = segment.entry; first = segment.first; end = column + 1 } ∷ segments)
-        (segment ∷ with_pixel gap column entry segments))
-    go b e rest = grind (arith, nat_tests, of-is, longer)

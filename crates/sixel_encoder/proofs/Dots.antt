@@ -1,6 +1,6 @@
 -- When an entry's row has a dot, and what its text is then.
-use Rattle.std.proofs.Common.{◌≡◌, ℕ, ◌+◌, ◌<◌, true, false, not, List, ◌++◌, get_or, ap}
-use Rattle.std.proofs.Common.{sym, ◌∙◌, arith, []}
+use Rattle.std.proofs.Common.{◌≡◌, ℕ, ◌+◌, ◌<◌, true, false, not, List, ◌++◌, ap, sym, ◌∙◌, arith}
+use Rattle.std.proofs.Common.{[]}
 use Rattle.std.specs.Prelude.{◌==◌}
 use Rattle.std.proofs.lemmas.Bool.Decides.{nat_tests}
 use Rattle.std.proofs.lemmas.List.{append-nil, append_assoc}
@@ -13,18 +13,14 @@ use Rattle.sixel_encoder.specs.inside.Grid.{cell, grid_row, grid_text}
 use Rattle.sixel_encoder.proofs.JoinedLists.{joined-none, joined-more, joined-same}
 use Rattle.sixel_encoder.proofs.RowParts.{All-grid_row}
 
-is_dot-positive : (bits : ℕ) → 0 < bits → not (bits == 0) ≡ true
-is_dot-positive bits h = grind (arith, nat_tests)
-
 pub is_dot-zero : (bits : ℕ) → bits ≡ 0 → not (bits == 0) ≡ false
 is_dot-zero bits h = grind (arith, nat_tests)
 
 pub has_dot-some : (rows : List ℕ) (width entry x : ℕ) → x < width → 0 < cell rows width entry x
     → has_dot (grid_row rows width entry) ≡ true
 has_dot-some rows width entry x l some =
-    let is : get_or (grid_row rows width entry) x 0 ≡ cell rows width entry x =
-    get_or-map-range_with_len (cell rows width entry) 0 width x x 0 l (omega arith) in
-    grind (arith, nat_tests, list_any_at, not, length-map-range_with_len, is_dot-positive)
+    let is = get_or-map-range_with_len (cell rows width entry) 0 width x x 0 l (omega arith) in
+    grind (arith, nat_tests, list_any_at, not, length-map-range_with_len)
 
 pub has_dot-none : (rows : List ℕ) (width entry : ℕ)
     → ((x : ℕ) → x < width → cell rows width entry x ≡ 0)
@@ -63,9 +59,7 @@ row-entry drawing band from entry rows h =
     fill_by_all (sixel_of drawing band (from + entry)) (grid_row rows drawing.width entry)
     drawing.width 0
     (length-map-range_with_len (cell rows drawing.width entry) 0 drawing.width)
-    (λ x l.
-    get_or-map-range_with_len (cell rows drawing.width entry) 0 drawing.width x x 0 l (omega arith)
-    ∙ h x l)
+    (grind (arith, nat_tests, get_or-map-range_with_len))
 
 -- rows that hold a band's sixels of some entries have the text of these entries
 pub joined-part : (drawing : Drawing) (band from count : ℕ) (rows : List ℕ)

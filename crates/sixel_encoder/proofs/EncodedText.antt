@@ -1,7 +1,7 @@
 -- What the text of an image that was encoded is: in the fewest bytes, blind to what is hidden, and
 -- read back as its trip.
-use Rattle.std.proofs.Common.{◌≡◌, ℕ, ◌*◌, ◌<◌, ◌≤◌, List, Option, None, Result, Ok, Err}
-use Rattle.std.proofs.Common.{refl, sym, ap, ◌∙◌, arith, length}
+use Rattle.std.proofs.Common.{◌≡◌, ℕ, ◌*◌, ◌<◌, ◌≤◌, List, Result, Ok, Err, sym, ap, ◌∙◌, arith}
+use Rattle.std.proofs.Common.{length}
 use Rattle.std.specs.Prelude.{All, IfErr, IfOk, OnOk, MatchOption}
 use Rattle.sixel_base.specs.declared.error.SixelError.{SixelError}
 use Rattle.sixel_base.specs.declared.error.SixelError.TheVariants.{OutOfMemory}
@@ -13,18 +13,23 @@ use Rattle.sixel_encoder.specs.declared.form.TextForm.{TextForm}
 use Rattle.sixel_encoder.specs.Text.{Drawing, row_of, text_of}
 use Rattle.sixel_encoder.specs.Encoding.{image_fault, AreShortest, IsDrawing, IsText}
 use Rattle.sixel_encoder.specs.Form.{IsFormText, form_text}
-use Rattle.sixel_encoder.proofs.FormText.{image-form_back, image-one_form, length-form}
 use Rattle.sixel_encoder.proofs.ShortestRows.{spells, shortest}
 use Rattle.sixel_base.specs.Limits.{Limit}
-use Rattle.sixel_encoder.specs.Trip.{CanRead, trip, IsTrip, IsReadAs, IsOneString}
+use Rattle.sixel_encoder.specs.Trip.{CanRead, trip, IsTrip, IsReadAs, IsOneString, IsWritable}
 use Rattle.sixel_encoder.proofs.SecondTrip.{text-again}
 use Rattle.std.proofs.lemmas.Bool.Decides.{nat_tests}
+use Rattle.sixel_encoder.proofs.CompactText.{length-compact, IsDrawnText-compact}
+use Rattle.sixel_encoder.proofs.DcsText.{IsOneString-drawn, IsReadAs-drawn}
+use Rattle.sixel_encoder.proofs.TripLimits.{CanRead-drawn, IsWritable-drawn, area-drawn}
+use Rattle.sixel_encoder.specs.declared.form.TextForm.TheVariants.{Plain, Compact}
+use Rattle.sixel_encoder.specs.Marks.{IsDrawnText}
+use Rattle.sixel_encoder.proofs.PlainText.{IsDrawnText-plain}
 
--- an image that was encoded has no fault
-accepted : {S : Type 0} (result : Result S SixelError) (text : S) (fault : Option SixelError)
-    → result ≡ Ok text
-    → MatchOption fault (IfErr result (λ e. e ≡ OutOfMemory)) (λ f. result ≡ Err f) → fault ≡ None
-accepted result text fault ok is = grind (arith, nat_tests)
+-- a text of marks that draw the drawing
+pub IsDrawnText-form : (form : TextForm) (drawing : Drawing) → IsWritable drawing
+    → IsDrawnText drawing (form_text form drawing)
+IsDrawnText-form Plain drawing is = IsDrawnText-plain drawing is
+IsDrawnText-form Compact drawing is = IsDrawnText-compact drawing is
 
 -- the plain text is that of a drawing whose rows are all in the fewest bytes
 pub shortest-written : {S : Type 0} (bytes : S → List ℕ) (result : Result S SixelError)
@@ -34,12 +39,8 @@ pub shortest-written : {S : Type 0} (bytes : S → List ℕ) (result : Result S 
     (λ text.
     (drawing : Drawing) × IsDrawing image k drawing × (bytes text ≡ text_of drawing)
     × AreShortest drawing)
-shortest-written bytes (Ok text) image k is = (
-  is.0,
-  is.1,
-  is.2,
-  λ band entry. (spells (row_of is.0 band entry), shortest (row_of is.0 band entry)),
-)
+shortest-written bytes (Ok text) image k is =
+    (is.0, is.1, is.2, λ band entry. (spells (row_of is.0 band entry), shortest _))
 shortest-written bytes (Err e) image k is = tt
 
 -- where the drawings are one, so are the texts
@@ -64,7 +65,7 @@ pub short-written : {S : Type 0} (form : TextForm) (bytes : S → List ℕ)
     → IfOk result (λ text. length (bytes text) ≤ length plain)
 short-written form bytes (Ok text) image k plain one fits is also =
     let same : is.0 ≡ also.0 = one is.0 also.0 fits is.1 also.1 in
-    grind (arith, nat_tests, length-form)
+    grind (arith, nat_tests, length-compact)
 short-written form bytes (Err e) image k plain one fits is also = tt
 
 pub one_string-written : {S : Type 0} (form : TextForm) (bytes : S → List ℕ)
@@ -75,8 +76,10 @@ pub one_string-written : {S : Type 0} (form : TextForm) (bytes : S → List ℕ)
     → image.width * banded image.height ≤ limit.pixels
     → IfOk result (λ text. IsOneString limit (bytes text))
 one_string-written form bytes (Ok text) limit image k refused fits is room =
-    image-one_form form limit image k (bytes text)
-    (accepted (Ok text) text (image_fault image) refl refused) fits room is
+    let sound = IsWritable-drawn image k is.0 is.1 (grind (arith, nat_tests)) fits in
+    let small = area-drawn image k is.0 is.1 in
+    rw is.2
+    (IsOneString-drawn limit is.0 _ sound (IsDrawnText-form form is.0 sound) (omega (arith, room)))
 one_string-written form bytes (Err e) limit image k refused fits is room = tt
 
 pub read_back-written : {S : Type 0} (form : TextForm) (bytes : S → List ℕ)
@@ -90,8 +93,10 @@ pub read_back-written : {S : Type 0} (form : TextForm) (bytes : S → List ℕ)
     (drawing : Drawing) × IsDrawing image k drawing
     × IsReadAs decoder (bytes text) (trip decoder.raster_crop drawing))
 read_back-written form bytes (Ok text) decoder image k refused fits is reads =
-    image-form_back form decoder image k (bytes text)
-    (accepted (Ok text) text (image_fault image) refl refused) fits reads is
+    let sound = IsWritable-drawn image k is.0 is.1 (grind (arith, nat_tests)) fits in
+    let drawn = IsDrawnText-form form is.0 sound in
+    let back = CanRead-drawn image k is.0 is.1 decoder reads in
+    (is.0, is.1, rw is.2 (IsReadAs-drawn decoder is.0 _ sound drawn back))
 read_back-written form bytes (Err e) decoder image k refused fits is reads = tt
 
 pub again-written : {S : Type 0} (bytes : S → List ℕ) (result : Result S SixelError)
@@ -101,5 +106,5 @@ pub again-written : {S : Type 0} (bytes : S → List ℕ) (result : Result S Six
     → image.background_mode ≡ Transparent
     → IfOk result (λ text. IsReadAs decoder (bytes text) image)
 again-written bytes (Ok text) decoder image k is reads of clear =
-    text-again decoder image k (bytes text) of clear reads is
+    text-again decoder image k (bytes text) reads is of clear
 again-written bytes (Err e) decoder image k is reads of clear = tt

@@ -1,8 +1,8 @@
 -- The lanes of a column that have a value, as the bits of a number.
 use Rattle.std.specs.Prelude.{None, Option, Some, is_some, not, ◌==◌, ◌≢◌}
-use Rattle.std.proofs.Common.{Bool, List, ap, arith, cond, eqb, false, inl, inr, length, map}
-use Rattle.std.proofs.Common.{refl, replicate, suc, sym, true, w16, zero, ℕ, ◌%◌, ◌*◌, ◌+◌}
-use Rattle.std.proofs.Common.{◌<◌, ◌^◌, ◌∙◌, ◌∷◌, ◌≡◌, ◌≤◌, get_or, []}
+use Rattle.std.proofs.Common.{Bool, List, ap, arith, cond, eqb, false, inl, inr, length, map, refl}
+use Rattle.std.proofs.Common.{replicate, suc, sym, true, w16, zero, ℕ, ◌%◌, ◌*◌, ◌+◌, ◌<◌, ◌∙◌, ◌∷◌}
+use Rattle.std.proofs.Common.{◌≡◌, ◌≤◌, get_or, []}
 use Rattle.std.proofs.lemmas.Bool.{both_ways, cases_lt}
 use Rattle.std.proofs.lemmas.Bool.Decides.{nat_tests}
 use Rattle.std.proofs.lemmas.Grind.{pow_more}
@@ -19,15 +19,12 @@ use Rattle.sixel_encoder.proofs.Masks.{hits, hits-past, mask-more, mask-none}
 
 -- ---- the mask of a list of answers
 
-double : (b : Bool) (n : ℕ) → cond b (2 ^ suc n) 0 ≡ 2 * cond b (2 ^ n) 0
-double b n = grind (arith, nat_tests, pow_more)
-
 -- a mask by its lowest bit and the others
 mask-low : (test : ℕ → Bool) (n : ℕ)
     → mask test (suc n) ≡ cond (test 0) 1 0 + 2 * mask (λ k. test (suc k)) n
 unfolding mask
 mask-low test zero = omega arith
-mask-low test (suc n) = omega (arith, mask-low test n, double (test (suc n)) n)
+mask-low test (suc n) = grind (arith, nat_tests, mask-low test n, pow_more)
 
 -- tests that agree have one mask
 pub mask-same : (p q : ℕ → Bool) (n : ℕ) → ((k : ℕ) → k < n → p k ≡ q k) → mask p n ≡ mask q n
@@ -72,7 +69,7 @@ known image band column bit e is lc at =
       | inr past ↦
           let own : is_entry e (Some e) ≡ true = grind (arith, nat_tests) in
           absurd (both_ways (hits image band e column bit)
-          (hits-past image band e column bit is lc (omega (arith, past, is.colors)))
+          (hits-past image band bit e column is lc (omega (arith, past, is.colors)))
           (ap (is_entry e) at ∙ own))
     ]
 
@@ -93,11 +90,6 @@ pub transparent-lane : (entries : BandEntries) (column bit lane : ℕ) → AreLa
     → entry_at (drawing_of entries.image.now) column (6 * entries.band + bit) ≡ None
 transparent-lane entries column bit lane are lc is none = grind (arith, nat_tests, known)
 
--- whether a lane has an entry
-lane-entry : (entry : ℕ) (place : Option ℕ) → entry < 256
-    → (lane_of place == entry) ≡ is_entry entry place
-lane-entry entry place l = grind (arith, nat_tests)
-
 -- whether a lane of a pixel is transparent
 lane-none : (place : Option ℕ) → ((e : ℕ) → place ≡ Some e → e < 256)
     → (lane_of place == 256) ≡ not (is_some place)
@@ -110,30 +102,11 @@ pub sixel-lanes : (entries : BandEntries) (column entry : ℕ) → AreLanes entr
     ≡ sixel_of (drawing_of entries.image.now) entries.band entry column
 sixel-lanes entries column entry are lc le =
     let test : ℕ → Bool = λ bit. get_or entries.lanes.items (8 * column + bit) 0 == entry in
-    let off6 : test 6 ≡ false = grind (arith, nat_tests) in
-    let off7 : test 7 ≡ false = grind (arith, nat_tests) in
-    omega (
-      arith,
-      mask-more test 6,
-      mask-more test 7,
-      ap {B = ℕ} (λ b. cond b 64 0) off6,
-      ap {B = ℕ} (λ b. cond b 128 0) off7,
-      mask-same test
-          (λ bit. is_entry entry
-          (entry_at (drawing_of entries.image.now) column (6 * entries.band + bit))) 6
-          (λ k l. ap (λ x. x == entry) (are.pixels column k lc l)
-          ∙ lane-entry entry
-          (entry_at (drawing_of entries.image.now) column (6 * entries.band + k)) le),
-    )
-
--- pixels of one lane have one entry
-pub same-lane : (entries : BandEntries) (column bit other : ℕ) → AreLanes entries
-    → column < entries.image.now.width
-    → lane_of (entry_at (drawing_of entries.image.now) column (6 * entries.band + bit))
-    ≡ lane_of (entry_at (drawing_of entries.image.now) column (6 * entries.band + other))
-    → entry_at (drawing_of entries.image.now) column (6 * entries.band + bit)
-    ≡ entry_at (drawing_of entries.image.now) column (6 * entries.band + other)
-same-lane entries column bit other are lc same = grind (arith, transparent-lane, opaque-lane)
+    let same =
+    mask-same test (λ bit.
+    is_entry entry (entry_at (drawing_of entries.image.now) column (6 * entries.band + bit))) 6
+    (grind (arith, nat_tests)) in
+    grind (arith, nat_tests, mask-more test 6, mask-more test 7)
 
 -- the transparent lanes are the sixel of the transparent pixels and two more bits
 pub transparent-lanes : (entries : BandEntries) (column : ℕ) → AreLanes entries
@@ -142,19 +115,8 @@ pub transparent-lanes : (entries : BandEntries) (column : ℕ) → AreLanes entr
     ≡ transparent_sixel (drawing_of entries.image.now) entries.band column + 192
 transparent-lanes entries column are lc =
     let test : ℕ → Bool = λ bit. get_or entries.lanes.items (8 * column + bit) 0 == 256 in
-    let on6 : test 6 ≡ true = grind (arith, nat_tests) in
-    let on7 : test 7 ≡ true = grind (arith, nat_tests) in
-    omega (
-      arith,
-      mask-more test 6,
-      mask-more test 7,
-      ap {B = ℕ} (λ b. cond b 64 0) on6,
-      ap {B = ℕ} (λ b. cond b 128 0) on7,
-      mask-same test
-          (λ bit. not (is_some
-          (entry_at (drawing_of entries.image.now) column (6 * entries.band + bit)))) 6
-          (λ k l. ap (λ x. x == 256) (are.pixels column k lc l)
-          ∙ lane-none
-          (entry_at (drawing_of entries.image.now) column (6 * entries.band + k))
-          (λ e at. known entries.image.now entries.band column k e are.indexed lc at)),
-    )
+    let same =
+    mask-same test (λ bit. not (is_some
+    (entry_at (drawing_of entries.image.now) column (6 * entries.band + bit)))) 6
+    (grind (arith, nat_tests, lane-none, known)) in
+    grind (arith, nat_tests, mask-more test 6, mask-more test 7)

@@ -1,6 +1,6 @@
 -- What a row's tokens are where equal sixels follow, and runs of equal sixels that are joined.
-use Rattle.std.proofs.Common.{◌≡◌, ℕ, zero, suc, ◌+◌, ◌<◌, ◌≤◌, List, ◌∷◌, length, get_or}
-use Rattle.std.proofs.Common.{drop, ap, ◌∙◌, arith}
+use Rattle.std.proofs.Common.{◌≡◌, ℕ, zero, suc, ◌+◌, ◌<◌, ◌≤◌, List, ◌∷◌, length, get_or, drop, ap}
+use Rattle.std.proofs.Common.{◌∙◌, arith}
 use Rattle.std.proofs.Math.Seq.{drop-cons}
 use Rattle.sixel_encoder.specs.RunTokens.{tokens_after}
 use Rattle.sixel_encoder.proofs.ShortestRows.{tokens_after-same}
@@ -19,5 +19,4 @@ tokens_skip (suc n) row at count bits l same =
     ap (tokens_after count bits) cut
     ∙ tokens_after-same count bits (get_or row at 0) (drop (at + 1) row)
     (same at (omega arith) (omega arith))
-    ∙ rw (a, c) (tokens_skip n row (at + 1) (count + 1) bits (omega arith)
-    (λ k f t. same k (omega arith) (omega arith)))
+    ∙ rw (a, c) (grind (arith, nat_tests, tokens_skip n row (at + 1) (count + 1) bits))

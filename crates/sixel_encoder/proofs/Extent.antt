@@ -1,8 +1,8 @@
 -- How far the tokens of a text reach: within the width, within the bands, and so without a fault.
 use Rattle.std.specs.Option.{option_or}
 use Rattle.std.specs.Prelude.{None, Option, flat_map}
-use Rattle.std.proofs.Common.{List, arith, length, length-append, max, refl, ℕ, ◌*◌, ◌+◌}
-use Rattle.std.proofs.Common.{◌<◌, ◌∷◌, ◌≡◌, ◌≤◌, []}
+use Rattle.std.proofs.Common.{List, arith, length, length-append, max, refl, ℕ, ◌*◌, ◌+◌, ◌<◌, ◌∷◌}
+use Rattle.std.proofs.Common.{◌≡◌, ◌≤◌, [], ◌∙◌}
 use Rattle.std.proofs.lemmas.Bool.Decides.{nat_tests}
 use Rattle.std.proofs.lemmas.List.{length-replicate}
 use Rattle.std.proofs.lemmas.Nat.{mul-le}
@@ -68,18 +68,6 @@ Fits-color limit w h t history fits = grind (arith, nat_tests, first_fault-more)
 both-none : (a b : Option Fault) → option_or a b ≡ None → (a ≡ None) × (b ≡ None)
 both-none a b is = grind (arith, nat_tests)
 
--- nor is any token
-fault_of-other : (limit other : Limit) (token : Token) (older : History)
-    → fault_of limit token older ≡ None
-    → width (token ∷ older) * height (token ∷ older) ≤ other.pixels
-    → fault_of other token older ≡ None
-fault_of-other limit other token older is small = grind (arith, common_steps, nat_tests)
-
--- a token makes no picture smaller
-area-older : (token : Token) (older : History)
-    → width older * height older ≤ width (token ∷ older) * height (token ∷ older)
-area-older token older = grind (arith, nat_tests, mul-le)
-
 -- tokens without a fault have none within another limit that their picture fits
 pub first_fault-other : (limit other : Limit) (history : History)
     → first_fault limit history ≡ None
@@ -88,8 +76,8 @@ first_fault-other limit other [] is small = refl
 first_fault-other limit other (token ∷ older) is small =
     let both = both-none (first_fault limit older) (fault_of limit token older) is in
     first_fault-more other token older
-    (first_fault-other limit other older both.0 (omega (arith, area-older token older, small)))
-    (fault_of-other limit other token older both.1 small)
+    (first_fault-other limit other older both.0 (grind (arith, nat_tests, small, mul-le)))
+    (grind (arith, common_steps, nat_tests))
 
 -- ---- how high run-length tokens make the picture
 
@@ -104,12 +92,10 @@ height-kept : (tokens : List RunToken) (history : History) → AreSound tokens �
 height-kept [] history are one h = refl
 height-kept (token ∷ tokens) history are one h =
     let moved = Moved-run_token token history are.0 one in
-    omega (
-      arith,
-      height-kept tokens (with_run_token token history) are.1 moved.single
-          (omega (arith, moved.level, height-run_token token history)),
-      height-run_token token history,
-    )
+    let new = height-run_token token history in
+    let low : down (with_run_token token history) + 6 ≤ height (with_run_token token history) =
+    omega (arith, moved.level, new) in
+    height-kept tokens (with_run_token token history) are.1 moved.single low ∙ omega (arith, new)
 
 -- run-length tokens with a sixel reach to the end of their band
 pub height-run_tokens : (tokens : List RunToken) (h : History) → AreSound tokens → span h ≡ 1

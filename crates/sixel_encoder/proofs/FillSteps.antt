@@ -1,19 +1,129 @@
--- One column more of a greedy fill, and the blocked pixels after a segment.
+-- The sixels of a greedy fill, one column more of it, and the blocked pixels after a segment.
 use Rattle.std.specs.Int.Bits.{bit_and, bit_or}
 use Rattle.std.specs.List.{range_with_len}
 use Rattle.std.specs.Prelude.{All, slice_index, ◌==◌}
-use Rattle.std.proofs.Common.{Bool, List, ap, arith, cond, false}
-use Rattle.std.proofs.Common.{length, refl, replicate, set, suc, take, true, ℕ, ◌++◌, ◌+◌, ◌-◌}
-use Rattle.std.proofs.Common.{◌<◌, ◌∷◌, ◌≡◌, ◌≢◌, ◌≤◌, length-append, []}
+use Rattle.std.proofs.Common.{Bool, List, ap, arith, cond, false, length, refl, replicate, set, suc}
+use Rattle.std.proofs.Common.{take, true, ℕ, ◌++◌, ◌+◌, ◌-◌, ◌<◌, ◌∷◌, ◌≡◌, ◌≢◌, ◌≤◌, length-append}
+use Rattle.std.proofs.Common.{[], zero, ◌∙◌, inl, inr}
 use Rattle.std.proofs.lemmas.Bool.Decides.{nat_tests}
 use Rattle.std.proofs.lemmas.Grind.{get_or-set_at, same_number_lists, common_steps}
 use Rattle.std.proofs.lemmas.List.{get_or-set_other, length-replicate, length-set, take_all}
+use Rattle.std.proofs.lemmas.List.{get_or-append-add, get_or-replicate, get_or_append_left}
 use Rattle.std.proofs.lemmas.List.Elements.{All-append, All-replicate}
 use Rattle.std.proofs.lemmas.List.FromFn.{get_or-map-range_with_len, length-map-range_with_len}
 use Rattle.std.proofs.lemmas.Nat.{or_lt}
 use Rattle.sixel_encoder.specs.declared.segments.Segment.{Segment}
 use Rattle.sixel_encoder.specs.Compact.{blocked_after, fill_after, union}
 use Rattle.sixel_encoder.specs.Text.{Drawing, sixel_of}
+use Rattle.std.specs.Int.{bit_at}
+use Rattle.std.proofs.lemmas.Nat.Bits.{bit_at-lt, bit_at-zero, bit_at_and, bit_at_or}
+use Rattle.std.proofs.lemmas.Bool.{cases_eq}
+
+-- each bit of a is one of b
+abbrev pub IsPart : ℕ → ℕ → Type 0
+IsPart a b = (i : ℕ) → bit_at a i ≤ bit_at b i
+
+-- a and b have no bit in common
+abbrev pub AreApart : ℕ → ℕ → Type 0
+AreApart a b = (i : ℕ) → bit_at a i + bit_at b i ≤ 1
+
+-- the bits of a number are bits of its union with another
+part-left : (a b : ℕ) → IsPart a (bit_or a b)
+part-left a b i = omega (arith, bit_at_or a b i)
+
+-- from the right, too
+part-right : (a b : ℕ) → IsPart b (bit_or a b)
+part-right a b i = omega (arith, bit_at_or a b i)
+
+-- numbers with no common bit, by the test
+apart-and : (a b : ℕ) → bit_and a b ≡ 0 → AreApart a b
+apart-and a b none i =
+    let bit : bit_at (bit_and a b) i ≡ 0 = ap (λ n. bit_at n i) none ∙ bit_at-zero i in
+    omega (arith, bit, bit_at_and a b i, bit_at-lt a i, bit_at-lt b i)
+
+-- a sixel of the fill has the bits of a column and none that is banned there
+pub record IsFilled (bits ban value : ℕ) : Type 0 where
+  pub all : IsPart bits value
+  pub none : AreApart value ban
+
+-- bits that are apart from the ban serve themselves
+IsFilled-self : (bits ban : ℕ) → AreApart bits ban → IsFilled bits ban bits
+IsFilled-self bits ban apart = record { all = λ i. omega arith; none = apart }
+
+-- the sixels of a fill
+pub record IsFill (own blocked : ℕ → ℕ) (bits ban count : ℕ) (columns row : List ℕ) : Type 0 where
+  pub size : length row ≡ count + length columns
+  pub first : (k : ℕ) → k < count → IsFilled bits ban (slice_index row k)
+  pub then : (k : ℕ) → k < length columns
+      → IsFilled (own (slice_index columns k)) (blocked (slice_index columns k))
+      (slice_index row (count + k))
+
+-- no column's own pixels are blocked
+abbrev pub AreFit : (ℕ → ℕ) → (ℕ → ℕ) → List ℕ → Type 0
+AreFit own blocked columns =
+    (k : ℕ) → k < length columns
+    → AreApart (own (slice_index columns k)) (blocked (slice_index columns k))
+
+-- the run goes on over a column
+IsFill-on : (own blocked : ℕ → ℕ) (bits ban count column : ℕ) (columns row : List ℕ)
+    → IsFill own blocked (bit_or bits (own column)) (bit_or ban (blocked column)) (count + 1)
+    columns row
+    → IsFill own blocked bits ban count (column ∷ columns) row
+IsFill-on own blocked bits ban count column columns row is = record {
+  size = omega (arith, is.size);
+  first = λ k l. let own = is.first k (omega arith) in grind (arith, nat_tests, bit_at_or);
+  then = then;
+}
+  where
+    then : (k : ℕ) → k < suc (length columns)
+        → IsFilled (own (slice_index (column ∷ columns) k))
+        (blocked (slice_index (column ∷ columns) k)) (slice_index row (count + k))
+    then zero l = let own = is.first count (omega arith) in grind (arith, nat_tests, bit_at_or)
+    then (suc k) l = let own = is.then k (omega arith) in grind (arith, nat_tests)
+
+-- or it ends before the column
+IsFill-off : (own blocked : ℕ → ℕ) (bits ban count column : ℕ) (columns row : List ℕ)
+    → AreApart bits ban → IsFill own blocked (own column) (blocked column) 1 columns row
+    → IsFill own blocked bits ban count (column ∷ columns) (replicate count bits ++ row)
+IsFill-off own blocked bits ban count column columns row apart is = record {
+  size = grind (arith, nat_tests, length-append, length-replicate);
+  first = λ k l. grind (arith, nat_tests, get_or_append_left, length-replicate, get_or-replicate);
+  then = then;
+}
+  where
+    then : (k : ℕ) → k < suc (length columns)
+        → IsFilled (own (slice_index (column ∷ columns) k))
+        (blocked (slice_index (column ∷ columns) k))
+        (slice_index (replicate count bits ++ row) (count + k))
+    then zero l =
+        let own = is.first 0 (omega arith) in
+        grind (arith, nat_tests, get_or-append-add, length-replicate)
+    then (suc k) l =
+        let own = is.then k (omega arith) in
+        grind (arith, nat_tests, get_or-append-add, length-replicate)
+
+-- then a fill is one
+pub IsFill-fill : (own blocked : ℕ → ℕ) (bits ban count : ℕ) (columns : List ℕ)
+    → AreFit own blocked columns → AreApart bits ban
+    → IsFill own blocked bits ban count columns (fill_after own blocked bits ban count columns)
+IsFill-fill own blocked bits ban count [] fits apart =
+    grind (arith, nat_tests, length-replicate, get_or-replicate)
+IsFill-fill own blocked bits ban count (column ∷ columns) fits apart =
+    let more = bit_or bits (own column) in
+    let wider = bit_or ban (blocked column) in
+    let rest : AreFit own blocked columns = λ k l. fits (suc k) (omega (arith, l)) in
+    let longer = IsFill-fill own blocked more wider (count + 1) columns rest in
+    let fresh =
+    IsFill-fill own blocked (own column) (blocked column) 1 columns rest (fits 0 (omega arith)) in
+    elim (cases_eq (bit_and more wider) 0) [
+      | inl none ↦
+          let test : bit_and more wider == 0 ≡ true = grind (arith, nat_tests) in
+          rw test (IsFill-on own blocked bits ban count column columns _
+          (longer (apart-and more wider none)))
+      | inr some ↦
+          let test : bit_and more wider == 0 ≡ false = grind (arith, nat_tests) in
+          rw test (IsFill-off own blocked bits ban count column columns _ apart fresh)
+    ]
 
 -- ---- a column of a fill
 
@@ -28,14 +138,6 @@ abbrev pub state : (ℕ → ℕ) → (ℕ → ℕ) → List ℕ → ℕ → ℕ 
 state own blocked row bits ban count column end =
     row ++ fill_after own blocked bits ban count (range_with_len column (end - column))
 
--- a column that the run goes on over
-pub fill-more : (own blocked : ℕ → ℕ) (row : List ℕ) (bits ban count column end : ℕ)
-    → column < end → bit_and (bit_or bits (own column)) (bit_or ban (blocked column)) ≡ 0
-    → state own blocked row (bit_or bits (own column)) (bit_or ban (blocked column)) (count + 1)
-    (column + 1) end
-    ≡ state own blocked row bits ban count column end
-fill-more own blocked row bits ban count column end l none = grind (arith, nat_tests, range-more)
-
 -- the loop goes on with a run
 pub fill-on : (own blocked : ℕ → ℕ) (row row1 whole : List ℕ)
     (bits ban bits1 ban1 from column end : ℕ) → column < end → from + length row ≤ column
@@ -44,9 +146,7 @@ pub fill-on : (own blocked : ℕ → ℕ) (row row1 whole : List ℕ)
     → state own blocked row bits ban (column - from - length row) column end ≡ whole
     → state own blocked row1 bits1 ban1 (column + 1 - from - length row1) (column + 1) end ≡ whole
 fill-on own blocked row row1 whole bits ban bits1 ban1 from column end l short row_is bits_is ban_is
-    none was =
-    let count : column + 1 - from - length row ≡ column - from - length row + 1 = omega arith in
-    grind (arith, nat_tests, fill-more)
+    none was = grind (arith, nat_tests, range-more)
 
 -- the loop begins a run
 pub fill-off : (own blocked : ℕ → ℕ) (row row1 whole : List ℕ)
@@ -70,33 +170,22 @@ pub fill-end : (own blocked : ℕ → ℕ) (row row1 whole : List ℕ) (bits ban
 fill-end own blocked row row1 whole bits ban from column n m short up long row_is was =
     grind (arith, nat_tests, take_all)
 
+-- what holds of both lists holds of the one that a test chooses
+All-cond : (P : ℕ → Type 0) (b : Bool) (xs ys : List ℕ) → All P xs → All P ys → All P (cond b xs ys)
+All-cond P b xs ys left right = grind (arith, nat_tests)
+
 -- a fill has six bits in each column, if each own sixel has
 pub All-fill : (own blocked : ℕ → ℕ) → ((column : ℕ) → own column < 64)
     → (bits ban count : ℕ) (columns : List ℕ) → bits < 64
     → All (λ b. b < 64) (fill_after own blocked bits ban count columns)
 All-fill own blocked low bits ban count [] small = All-replicate (λ b. b < 64) count bits small
 All-fill own blocked low bits ban count (column ∷ columns) small =
-    go (bit_and (bit_or bits (own column)) (bit_or ban (blocked column)) == 0)
+    All-cond (λ b. b < 64) _ _ _
     (All-fill own blocked low (bit_or bits (own column)) (bit_or ban (blocked column)) (count + 1)
     columns (or_lt 6 bits (own column) small (low column)))
-    (All-fill own blocked low (own column) (blocked column) 1 columns (low column))
-  where
-    go : (t : Bool)
-        → All (λ b. b < 64)
-        (fill_after own blocked (bit_or bits (own column)) (bit_or ban (blocked column))
-        (count + 1) columns)
-        → All (λ b. b < 64) (fill_after own blocked (own column) (blocked column) 1 columns)
-        → All (λ b. b < 64)
-        (cond t
-        (fill_after own blocked (bit_or bits (own column)) (bit_or ban (blocked column))
-        (count + 1) columns)
-        (replicate count bits
-        ++ fill_after own blocked (own column) (blocked column) 1 columns))
-    go true longer fresh = longer
-    go false longer fresh =
-        All-append (λ b. b < 64) (replicate count bits)
-        (fill_after own blocked (own column) (blocked column) 1 columns)
-        (All-replicate (λ b. b < 64) count bits small) fresh
+    (All-append (λ b. b < 64) (replicate count bits) _
+    (All-replicate (λ b. b < 64) count bits small)
+    (All-fill own blocked low (own column) (blocked column) 1 columns (low column)))
 
 -- ---- a union
 

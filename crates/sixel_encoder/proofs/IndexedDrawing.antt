@@ -1,6 +1,5 @@
 -- The drawing of an image whose colors are chosen, and that an image has one drawing.
-use Rattle.std.proofs.Common.{◌≡◌, ℕ, ◌+◌, ◌*◌, ◌<◌, ◌≤◌, List, length}
-use Rattle.std.proofs.Common.{get_or, arith, Some, None}
+use Rattle.std.proofs.Common.{◌≡◌, ℕ, ◌+◌, ◌*◌, ◌<◌, ◌≤◌, List, length, get_or, arith, Some, None}
 use Rattle.std.proofs.lemmas.Bool.Decides.{nat_tests}
 use Rattle.std.proofs.lemmas.List.FromFn.{length-map-range_with_len, get_or-map-range_with_len}
 use Rattle.sixel_palette.specs.Palette.{IsPalette, AreIndices}
@@ -18,14 +17,6 @@ image_of image = record {
   aspect_ratio = image.aspect_ratio;
   background_mode = image.background_mode;
 }
-
-pub entry_of-opaque : (pixels indices : List ℕ) (pixel : ℕ) → 128 ≤ get_or pixels (4 * pixel + 3) 0
-    → entry_of pixels indices pixel ≡ Some (get_or indices pixel 0)
-entry_of-opaque pixels indices pixel h = grind (arith, nat_tests)
-
-pub entry_of-transparent : (pixels indices : List ℕ) (pixel : ℕ)
-    → get_or pixels (4 * pixel + 3) 0 < 128 → entry_of pixels indices pixel ≡ None
-entry_of-transparent pixels indices pixel h = grind (arith, nat_tests)
 
 pub get_or-entries : (pixels indices : List ℕ) (pixel : ℕ) → pixel < length indices
     → get_or (entries_of pixels indices) pixel None ≡ entry_of pixels indices pixel

@@ -1,6 +1,5 @@
 -- The drawing of an image in a given palette can be written, and its text is read back.
-use Rattle.std.proofs.Common.{◌≡◌, ℕ, ◌+◌, ◌*◌, ◌<◌, ◌≤◌, List, length, get_or, ap, sym, subst, ◌∙◌}
-use Rattle.std.proofs.Common.{arith}
+use Rattle.std.proofs.Common.{◌≡◌, ℕ, ◌+◌, ◌*◌, ◌<◌, ◌≤◌, List, length, get_or, ap, ◌∙◌, arith}
 use Rattle.std.specs.Prelude.{All, None, slice_index, true}
 use Rattle.std.specs.List.{list_any, range_with_len}
 use Rattle.std.proofs.lemmas.List.FromFn.{get_or-map-range_with_len, get_or-range_with_len}
@@ -11,14 +10,15 @@ use Rattle.sixel_base.specs.Payload.{Image}
 use Rattle.sixel_encoder.specs.declared.form.TextForm.{TextForm}
 use Rattle.sixel_encoder.specs.Encoding.{image_fault}
 use Rattle.sixel_encoder.specs.Form.{form_text}
-use Rattle.sixel_encoder.specs.IndexedDrawing.{IsTextOf, index_range_fault}
-use Rattle.sixel_encoder.specs.IndexedDrawing.{indexed_drawing, is_past}
+use Rattle.sixel_encoder.specs.IndexedDrawing.{IsTextOf, index_range_fault, indexed_drawing}
+use Rattle.sixel_encoder.specs.IndexedDrawing.{is_past}
 use Rattle.sixel_encoder.specs.Text.{Drawing, row_of}
-use Rattle.sixel_encoder.specs.Trip.{IsColor, IsOneString, IsReadAs, IsWritable, trip}
+use Rattle.sixel_encoder.specs.Trip.{IsColor, IsWritable}
 use Rattle.sixel_encoder.proofs.DcsText.{IsOneString-drawn, IsReadAs-drawn}
-use Rattle.sixel_encoder.proofs.FormText.{IsDrawnText-form, length-form}
+use Rattle.sixel_encoder.proofs.EncodedText.{IsDrawnText-form}
 use Rattle.sixel_encoder.proofs.ShortestRows.{shortest, spells}
 use Rattle.sixel_encoder.proofs.Sizes.{within-sound}
+use Rattle.sixel_encoder.proofs.CompactText.{length-compact}
 
 -- a drawing that can be written has a text in either form that is read back
 pub IsTextOf-written : (form : TextForm) (drawing : Drawing) (bytes : List ℕ) → IsWritable drawing
@@ -27,15 +27,10 @@ IsTextOf-written form drawing bytes is same =
     let drawn = IsDrawnText-form form drawing is in
     record {
       text = same;
-      shortest = λ band entry.
-          (spells (row_of drawing band entry), shortest (row_of drawing band entry));
-      short = omega (arith, ap length same, length-form form drawing);
-      one_string = λ limit room.
-          subst (IsOneString limit) (sym same)
-          (IsOneString-drawn limit drawing (form_text form drawing) is drawn room);
-      read_back = λ decoder reads.
-          subst (λ (t : List ℕ). IsReadAs decoder t (trip decoder.raster_crop drawing)) (sym same)
-          (IsReadAs-drawn decoder drawing (form_text form drawing) is drawn reads);
+      shortest = λ band entry. (spells (row_of drawing band entry), shortest _);
+      short = grind (arith, nat_tests, ap length same, length-compact);
+      one_string = λ limit room. rw same (IsOneString-drawn limit drawing _ is drawn room);
+      read_back = λ decoder reads. rw same (IsReadAs-drawn decoder drawing _ is drawn reads);
     }
 
 -- an opaque pixel with an index past the colors is found

@@ -1,7 +1,7 @@
 -- What is joined of a function's lists: one list more, some more, empty ones, and that it depends
 -- on no list past the end.
-use Rattle.std.proofs.Common.{◌≡◌, ℕ, zero, suc, ◌+◌, ◌<◌, ◌≤◌, List, ◌++◌, append_assoc, refl}
-use Rattle.std.proofs.Common.{ap, sym, ◌∙◌, inl, inr, arith, []}
+use Rattle.std.proofs.Common.{◌≡◌, ℕ, zero, suc, ◌+◌, ◌<◌, ◌≤◌, List, ◌++◌, append_assoc, refl, ap}
+use Rattle.std.proofs.Common.{sym, ◌∙◌, inl, inr, arith, []}
 use Rattle.std.specs.Prelude.{flat_map}
 use Rattle.std.proofs.lemmas.Bool.{cases_lt}
 use Rattle.std.proofs.lemmas.Grind.{flat_map-append}
@@ -31,8 +31,7 @@ joined-add f n zero = grind (arith, nat_tests, append-nil)
 joined-add f n (suc m) =
     let e : n + suc m ≡ suc (n + m) = omega arith in
     ap (λ x. joined f x) e
-    ∙ (ap (λ xs. xs ++ f (n + m)) (joined-add f n m)
-    ∙ append_assoc (joined f n) (joined (λ k. f (n + k)) m) (f (n + m)))
+    ∙ (grind (arith, nat_tests, append_assoc, joined-add f n m))
 
 -- empty lists add nothing
 pub joined-past : {A : Type 0} (f : ℕ → List A) (n m : ℕ) → n ≤ m → ((k : ℕ) → n ≤ k → f k ≡ [])

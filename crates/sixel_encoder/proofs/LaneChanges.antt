@@ -1,10 +1,8 @@
 -- Lanes that differ from those of the column before: the rows of their entries change there.
-use Rattle.std.specs.Prelude.{Option, Some, ◌≢◌}
-use Rattle.std.proofs.Common.{Bool, ap, arith, false, length, refl, sym, true, ℕ, ◌*◌, ◌+◌, ◌-◌}
-use Rattle.std.proofs.Common.{◌<◌, ◌∙◌, ◌≡◌, ◌≤◌}
-use Rattle.std.proofs.lemmas.Bool.{both_ways}
+use Rattle.std.specs.Prelude.{◌≢◌}
+use Rattle.std.proofs.Common.{arith, length, true, ℕ, ◌*◌, ◌+◌, ◌-◌, ◌<◌, ◌≡◌, ◌≤◌, inl, inr}
+use Rattle.std.proofs.lemmas.Bool.{cases_Bool}
 use Rattle.std.proofs.lemmas.Bool.Decides.{nat_tests}
-use Rattle.sixel_base.specs.Picture.{is_set}
 use Rattle.sixel_encoder.specs.declared.band_entries.BandEntries.{BandEntries}
 use Rattle.sixel_encoder.specs.Text.{entry_at, has_dot, is_entry, row_of, sixel_of}
 use Rattle.sixel_encoder.specs.inside.Bound.{IsChange}
@@ -14,15 +12,6 @@ use Rattle.sixel_encoder.proofs.EntryLaneMasks.{opaque-lane}
 use Rattle.sixel_encoder.proofs.EntryRows.{no_dot-own}
 use Rattle.sixel_encoder.proofs.Masks.{hits-past}
 use Rattle.sixel_encoder.proofs.SixBits.{is_set-mask}
-
--- an entry is itself
-itself : (entry : ℕ) → is_entry entry (Some entry) ≡ true
-itself entry = grind (arith, nat_tests)
-
--- a pixel of another lane has not the entry
-off : (lane next : ℕ) (place : Option ℕ) → next ≡ lane_of place → lane ≢ next
-    → is_entry lane place ≡ false
-off lane next place is other = grind (arith, nat_tests)
 
 -- what a pixel shows of the row of its entry, if the pixel in another column has another lane
 record IsOther (entries : BandEntries) (here there lane : ℕ) : Type 0 where
@@ -37,32 +26,22 @@ other-lane : (entries : BandEntries) (here there bit lane next : ℕ) → AreLan
     → next ≡ lane_of (entry_at (drawing_of entries.image.now) there (6 * entries.band + bit))
     → lane ≢ next → lane ≢ 256 → IsOther entries here there lane
 other-lane entries here there bit lane next are lh lb is at apart some =
-    let image = entries.image.now in
-    let drawing = drawing_of image in
+    let drawing = drawing_of entries.image.now in
     let band = entries.band in
     let own = (opaque-lane entries here bit lane are lh is some).0 in
-    let on : is_entry lane (entry_at drawing here (6 * band + bit)) ≡ true =
-    ap (is_entry lane) own ∙ itself lane in
+    let set = λ (column : ℕ).
+    is_set-mask (λ k. is_entry lane (entry_at drawing column (6 * band + k))) bit lb in
     record {
       known = grind (arith, nat_tests, hits-past);
-      other = λ e.
-          both_ways (is_entry lane (entry_at drawing there (6 * band + bit)))
-          (off lane next (entry_at drawing there (6 * band + bit)) at apart)
-          (sym (is_set-mask (λ k. is_entry lane (entry_at drawing there (6 * band + k))) bit lb)
-          ∙ (ap (λ m. is_set m bit) (sym e)
-          ∙ (is_set-mask (λ k. is_entry lane (entry_at drawing here (6 * band + k))) bit lb ∙ on)));
-      dotted = dot (has_dot (row_of drawing band lane)) refl own;
+      other = λ e. grind (arith, nat_tests, set here, set there);
+      dotted = elim (cases_Bool (has_dot (row_of drawing band lane))) [
+        | inl is ↦ is
+        | inr none ↦
+            absurd
+            (no_dot-own drawing band lane here (6 * band + bit) lh
+            record { since = omega arith; before = omega arith } none own)
+      ];
     }
-  where
-    dot : (b : Bool) → has_dot (row_of (drawing_of entries.image.now) entries.band lane) ≡ b
-        → entry_at (drawing_of entries.image.now) here (6 * entries.band + bit) ≡ Some lane
-        → has_dot (row_of (drawing_of entries.image.now) entries.band lane) ≡ true
-    dot true is own = is
-    dot false is own =
-        absurd
-        (no_dot-own (drawing_of entries.image.now) entries.band lane here
-        (6 * entries.band + bit) lh
-        record { since = omega arith; before = omega arith } is own)
 
 -- the entry on the left ends its run
 pub change-left : (entries : BandEntries) (column bit lane next : ℕ) → AreLanes entries

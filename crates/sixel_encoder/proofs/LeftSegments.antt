@@ -1,10 +1,9 @@
 -- The segments of a band that are left to draw, and the pixels that may not be covered.
 use Rattle.std.specs.Int.{bit_at}
-use Rattle.std.specs.Int.Bits.{bit_or}
 use Rattle.std.specs.List.{range_with_len}
-use Rattle.std.specs.Prelude.{All, None, Option, Some, nat_le, nat_lt, not, slice_index, ◌&&◌, ◌==◌}
-use Rattle.std.proofs.Common.{Bool, List, ap, arith, cond, false, inl, inr, length, refl, suc, zero}
-use Rattle.std.proofs.Common.{true, ℕ, ◌*◌, ◌+◌, ◌-◌, ◌<◌, ◌∙◌, ◌∷◌, ◌≡◌, ◌≤◌}
+use Rattle.std.specs.Prelude.{All, None, Some, nat_le, nat_lt, not, slice_index, ◌&&◌, ◌==◌}
+use Rattle.std.proofs.Common.{Bool, List, arith, false, inl, inr, length, suc, zero, true, ℕ, ◌*◌}
+use Rattle.std.proofs.Common.{◌+◌, ◌-◌, ◌<◌, ◌∙◌, ◌∷◌, ◌≡◌, ◌≤◌}
 use Rattle.std.proofs.lemmas.Bool.{cases_lt}
 use Rattle.std.proofs.lemmas.Bool.Decides.{nat_tests}
 use Rattle.std.proofs.lemmas.List.FromFn.{get_or-map-range_with_len, get_or-range_with_len}
@@ -13,9 +12,8 @@ use Rattle.std.proofs.lemmas.Nat.Bits.{bit_at-lt, bit_at-zero, bit_at_above, bit
 use Rattle.sixel_base.specs.Picture.{is_set}
 use Rattle.sixel_encoder.specs.declared.segments.Segment.{Segment}
 use Rattle.sixel_encoder.specs.Compact.{blocked_after, blocked_sixel, segment_row, union}
-use Rattle.sixel_encoder.specs.Text.{Drawing, entry_at, is_entry, mask, sixel_of}
-use Rattle.sixel_encoder.proofs.FillSteps.{All-fill}
-use Rattle.sixel_encoder.proofs.GreedyFill.{AreApart, IsFill, IsFill-fill, IsPart}
+use Rattle.sixel_encoder.specs.Text.{Drawing, entry_at, mask, sixel_of}
+use Rattle.sixel_encoder.proofs.FillSteps.{All-fill, AreApart, IsFill-fill, IsPart, IsFilled}
 use Rattle.sixel_encoder.proofs.SegmentTallies.{is_of, one, tally}
 use Rattle.sixel_encoder.proofs.SixBits.{is_set-mask, mask-small}
 
@@ -73,17 +71,6 @@ pub first-left : (drawing : Drawing) (band : ℕ) (blocked : List ℕ) (segment 
     → IsSegment drawing segment
 first-left drawing band blocked segment segments are = grind (arith, nat_tests, segment-is)
 
--- whether a pixel of its columns is the segment's
-own-is : (column entry : ℕ) (segment : Segment) → segment.first ≤ column → column < segment.end
-    → one (is_of column (Some entry) segment) ≡ one (entry == segment.entry)
-own-is column entry segment low high = grind (arith, nat_tests)
-
--- whether a pixel of another column is
-other-is : (column entry : ℕ) (segment : Segment)
-    → nat_le segment.first column && nat_lt column segment.end ≡ false
-    → one (is_of column (Some entry) segment) ≡ 0
-other-is column entry segment out = grind (arith, nat_tests)
-
 -- a pixel that is one of a segment's
 pub is_of-entry : (column entry : ℕ) (segment : Segment) → is_of column (Some entry) segment ≡ true
     → (entry ≡ segment.entry) × (segment.first ≤ column) × (column < segment.end)
@@ -108,29 +95,14 @@ blocked-at drawing band blocked segment column l = grind (arith, get_or-map-rang
 pub AreLeft-after : (drawing : Drawing) (band : ℕ) (blocked : List ℕ) (segment : Segment)
     (segments : List Segment) → AreLeft drawing band blocked (segment ∷ segments)
     → AreLeft drawing band (blocked_after drawing band blocked segment) segments
-AreLeft-after drawing band blocked segment segments are =
-    grind (arith, nat_tests, length-map-range_with_len, blocked-at, within, hidden, left)
-  where
-    within : ℕ → Bool
-    within column = nat_le segment.first column && nat_lt column segment.end
-
-    own : ℕ → ℕ
-    own = sixel_of drawing band segment.entry
-
-    hidden : (column bit : ℕ) (b : Bool) → bit_at (slice_index blocked column) bit ≡ 1
-        → bit_at (cond b (bit_or (slice_index blocked column) (own column))
-        (slice_index blocked column)) bit ≡ 1
-    hidden column bit b was = grind (arith, nat_tests, bit_at_or, bit_at-lt, own)
-
-    left : (column bit entry : ℕ) → bit < 6
-        → entry_at drawing column (6 * band + bit) ≡ Some entry
-        → (b : Bool) → within column ≡ b
-        → bit_at (slice_index blocked column) bit
-        + tally (is_of column (Some entry)) (segment ∷ segments) ≡ 1
-        → bit_at (cond b (bit_or (slice_index blocked column) (own column))
-        (slice_index blocked column)) bit + tally (is_of column (Some entry)) segments ≡ 1
-    left column bit entry lb at b e was =
-        grind (arith, nat_tests, bit_at_or, own-is, own-bit, other-is, own)
+AreLeft-after drawing band blocked segment segments are = record {
+  size = grind (arith, nat_tests, length-map-range_with_len);
+  known = grind (arith, nat_tests);
+  transparent = λ column bit lc lb none.
+      grind (arith, nat_tests, blocked-at, bit_at_or, bit_at-lt, are.transparent column bit);
+  once = λ column bit entry lc lb at.
+      grind (arith, nat_tests, blocked-at, bit_at_or, own-bit, are.once column bit entry);
+}
 
 -- ---- the row of a segment
 
@@ -140,34 +112,13 @@ own-apart : (drawing : Drawing) (band : ℕ) (blocked : List ℕ) (segment : Seg
     → segment.first ≤ column → column < segment.end
     → AreApart (sixel_of drawing band segment.entry column) (slice_index blocked column)
 own-apart drawing band blocked segment segments are column low high bit =
+    let above = bit_at_above (sixel_of drawing band segment.entry column) 6 bit (mask-small _) in
+    let few = bit_at-lt (slice_index blocked column) bit in
     elim (cases_lt bit 6) [
-      | inr past ↦
-          omega (
-            arith,
-            bit_at_above own 6 bit
-                (mask-small (λ k. is_entry segment.entry (entry_at drawing column (6 * band + k))))
-                past,
-            bit_at-lt (slice_index blocked column) bit,
-          )
-      | inl l ↦ go l (entry_at drawing column (6 * band + bit)) refl
+      | inr past ↦ omega (arith, above past, few)
+      | inl l ↦
+          grind (arith, nat_tests, are.once column bit, own-bit, no_bit-mask)
     ]
-  where
-    own : ℕ
-    own = sixel_of drawing band segment.entry column
-
-    lc : column < drawing.width
-    lc = omega (arith, (first-left drawing band blocked segment segments are).wide, high)
-
-    go : bit < 6 → (place : Option ℕ) → entry_at drawing column (6 * band + bit) ≡ place
-        → bit_at own bit + bit_at (slice_index blocked column) bit ≤ 1
-    go l None at = grind (arith, nat_tests, bit_at-lt, no_bit-mask)
-    go l (Some entry) at =
-        omega (
-          arith,
-          are.once column bit entry lc l at,
-          own-is column entry segment low high,
-          own-bit drawing band segment.entry column bit entry l at,
-        )
 
 -- a sixel has no bit that the union does not have
 union-part : (sixels : List ℕ) (from n k : ℕ) → k < n
@@ -175,10 +126,7 @@ union-part : (sixels : List ℕ) (from n k : ℕ) → k < n
 unfolding union
 union-part sixels from zero k l bit = absurd (omega arith)
 union-part sixels from (suc n) k l bit =
-    elim (cases_lt k n) [
-      | inl low ↦ grind (arith, nat_tests, bit_at_or, union-part sixels from n k low bit)
-      | inr high ↦ grind (arith, nat_tests, bit_at_or)
-    ]
+    grind (arith, nat_tests, cases_lt, bit_at_or, union-part sixels from n k)
 
 -- the sixels of a segment's row: they cover its own pixels, and none that may not be covered
 pub record IsSegmentRow (drawing : Drawing) (band : ℕ) (blocked : List ℕ) (segment : Segment)
@@ -195,61 +143,38 @@ pub IsSegmentRow-left : (drawing : Drawing) (band : ℕ) (blocked : List ℕ) (s
     → from ≤ segment.first
     → IsSegmentRow drawing band blocked segment from
     (segment_row drawing band blocked segment from)
-IsSegmentRow-left drawing band blocked segment segments from are left = record {
-  size = omega (arith, fill.size, length-range_with_len segment.first own_columns, some);
-  all = λ column low high. (at column low high).0;
-  none = λ column since high. elim (cases_lt column segment.first) [
-    | inl before ↦ λ bit.
-        let k : ℕ = column - from in
-        let here : from + k ≡ column = omega arith in
-        omega (
-          arith,
-          (fill.first k (omega arith)).none bit,
-          union-part blocked from blank k (omega arith) bit,
-          ap (λ c. bit_at (slice_index blocked c) bit) here,
-        )
-    | inr low ↦ (at column low high).1
-  ];
-}
-  where
-    blank : ℕ
-    blank = segment.first - from
-
-    own_columns : ℕ
-    own_columns = segment.end - segment.first
-
-    row : List ℕ
-    row = segment_row drawing band blocked segment from
-
-    some : segment.first < segment.end
-    some = (first-left drawing band blocked segment segments are).some
-
-    column-of : (k : ℕ) → k < own_columns
-        → slice_index (range_with_len segment.first own_columns) k ≡ segment.first + k
-    column-of k l = get_or-range_with_len segment.first own_columns k 0 l
-
-    fill : IsFill (sixel_of drawing band segment.entry) (slice_index blocked) 0
-        (union blocked from blank) blank (range_with_len segment.first own_columns) row
-    fill =
-        IsFill-fill (sixel_of drawing band segment.entry) (slice_index blocked) 0
-        (union blocked from blank) blank (range_with_len segment.first own_columns)
-        (λ k l.
-        let low : k < own_columns =
-        omega (arith, l, length-range_with_len segment.first own_columns) in
-        grind (arith, nat_tests, own-apart, column-of))
-        (λ bit. omega (arith, bit_at-zero bit, bit_at-lt (union blocked from blank) bit))
-
-    at : (column : ℕ) → segment.first ≤ column → column < segment.end
-        → IsPart (sixel_of drawing band segment.entry column) (slice_index row (column - from))
-        × AreApart (slice_index row (column - from)) (slice_index blocked column)
-    at column low high =
-        let k : ℕ = column - segment.first in
-        let l : k < own_columns = omega arith in
-        let here : slice_index (range_with_len segment.first own_columns) k ≡ column =
-        column-of k l ∙ omega arith in
-        let place : blank + k ≡ column - from = omega arith in
-        let is = fill.then k (omega (arith, l, length-range_with_len segment.first own_columns)) in
-        (rw (here, place) at is.all, rw (here, place) at is.none)
+IsSegmentRow-left drawing band blocked segment segments from are left =
+    let own = sixel_of drawing band segment.entry in
+    let is = first-left drawing band blocked segment segments are in
+    let blank = segment.first - from in
+    let wide = segment.end - segment.first in
+    let long = length-range_with_len segment.first wide in
+    let at = λ (k : ℕ). get_or-range_with_len segment.first wide k 0 in
+    let banned = union blocked from blank in
+    let fill =
+    IsFill-fill own (slice_index blocked) 0 banned blank (range_with_len segment.first wide)
+    (λ k l. grind (arith, nat_tests, own-apart, at k, long))
+    (λ bit. omega (arith, bit_at-zero bit, bit_at-lt banned bit)) in
+    let filled : (column : ℕ) → segment.first ≤ column → column < segment.end
+    → IsFilled (own column) (slice_index blocked column)
+    (slice_index (segment_row drawing band blocked segment from) (column - from)) =
+    λ column low high.
+    let k = column - segment.first in
+    let here : slice_index (range_with_len segment.first wide) k ≡ column =
+    at k (omega arith) ∙ omega arith in
+    let place : blank + k ≡ column - from = omega arith in
+    rw (here, place) at (fill.then k (omega (arith, long))) in
+    record {
+      size = omega (arith, fill.size, long, is.some);
+      all = λ column low high. (filled column low high).all;
+      none = λ column since high. elim (cases_lt column segment.first) [
+        | inl before ↦ λ bit.
+            let here : from + (column - from) ≡ column = omega arith in
+            let part = union-part blocked from blank (column - from) (omega arith) bit in
+            omega (arith, (fill.first (column - from) (omega arith)).none bit, rw here at part)
+        | inr low ↦ (filled column low high).none
+      ];
+    }
 
 -- it has six bits in each column
 pub row-small : (drawing : Drawing) (band : ℕ) (blocked : List ℕ) (segment : Segment) (from : ℕ)

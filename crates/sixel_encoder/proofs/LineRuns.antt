@@ -1,23 +1,19 @@
 -- Some columns of a line: one pixel, sixteen of one entry at once, and one part after another.
-use Rattle.std.proofs.Common.{◌≡◌, ℕ, ◌+◌, ◌-◌, ◌*◌, ◌%◌, ◌<◌, ◌≤◌, Bool, true, List}
-use Rattle.std.proofs.Common.{length, replicate, get_or, set, inl, inr, arith}
+use Rattle.std.proofs.Common.{◌≡◌, ℕ, ◌+◌, ◌-◌, ◌*◌, ◌%◌, ◌<◌, ◌≤◌, Bool, true, List, length}
+use Rattle.std.proofs.Common.{replicate, get_or, set, inl, inr, arith}
 use Rattle.std.proofs.lemmas.Bool.{cases_eq, cases_lt}
 use Rattle.std.proofs.lemmas.Bool.Decides.{nat_tests}
 use Rattle.std.proofs.lemmas.Nat.{same_from_place}
 use Rattle.std.proofs.lemmas.List.{get_or-set_same, get_or-set_other, length-set}
-use Rattle.std.proofs.lemmas.Simd.{length-chunk, get_or-chunk, get_or-zip2}
-use Rattle.std.proofs.lemmas.Simd.{get_or-replicate, get_or-put_chunk_below}
-use Rattle.std.proofs.lemmas.Simd.{get_or-put_chunk_at, get_or-put_chunk_above}
+use Rattle.std.proofs.lemmas.Simd.{length-chunk, get_or-chunk, get_or-zip2, get_or-replicate}
+use Rattle.std.proofs.lemmas.Simd.{get_or-put_chunk_below, get_or-put_chunk_at}
+use Rattle.std.proofs.lemmas.Simd.{get_or-put_chunk_above}
 use lib.Lanes.{chunk, put_chunk, zip2}
 use Rattle.sixel_encoder.specs.inside.Grid.{cell, dot_at, between, AreMarks}
 
 -- no place is between a place and itself
 pub between-none : (from amount place : ℕ) → between from from amount place ≡ 0
 between-none from amount place = grind (arith, nat_tests)
-
--- a place past the end is not between
-pub between-past : (from to amount place : ℕ) → to ≤ place → between from to amount place ≡ 0
-between-past from to amount place past = grind (arith, nat_tests)
 
 -- sixteen sixels that get the weight in lanes
 pub lanes-more : (rows : List ℕ) (from weight : ℕ) → from + 16 ≤ length rows
@@ -28,25 +24,20 @@ pub lanes-more : (rows : List ℕ) (from weight : ℕ) → from + 16 ≤ length 
 lanes-more rows from weight inside fits k =
     let add = (λ (a b : ℕ). (a + b) % 256) in
     let old = chunk from 16 rows in
-    let new = zip2 add old (replicate 16 weight) in
-    let width : length old ≡ 16 = length-chunk from 16 rows inside in
+    let width = length-chunk from 16 rows inside in
     elim (cases_lt k from) [
       | inl below ↦ grind (arith, nat_tests, get_or-put_chunk_below)
       | inr above ↦ elim (cases_lt k (from + 16)) [
         | inl under ↦
             let j = k - from in
-            let small : j < 16 = omega (arith, above, under) in
-            let place : from + j ≡ k = omega (arith, above) in
-            let own : get_or (put_chunk from rows new) k 0 ≡ get_or new j 0 =
-            grind (arith, nat_tests, get_or-put_chunk_at) in
-            let lane : get_or new j 0 ≡ (get_or old j 0 + get_or (replicate 16 weight) j 0) % 256 =
-            get_or-zip2 add old (replicate 16 weight) j 0 0 0 (omega (arith, small, width)) small in
-            let was : get_or old j 0 ≡ get_or rows k 0 =
-            rw place at (get_or-chunk from 16 rows j 0 small) in
+            let small : j < 16 = omega arith in
+            let place : from + j ≡ k = omega arith in
+            let lane =
+            get_or-zip2 add old (replicate 16 weight) j 0 0 0 (omega (arith, width)) small in
+            let was = rw place at (get_or-chunk from 16 rows j 0 small) in
             let amount = get_or-replicate 16 j weight 0 small in
-            let some : between from (from + 16) weight k ≡ weight = grind (arith, nat_tests) in
-            omega (arith, own, lane, was, amount, some, fits k above under)
-        | inr past ↦ grind (arith, nat_tests, get_or-put_chunk_above, between-past)
+            grind (arith, nat_tests, get_or-put_chunk_at, fits k)
+        | inr past ↦ grind (arith, nat_tests, get_or-put_chunk_above)
       ]
     ]
 
@@ -58,28 +49,11 @@ pub cell-run : (rows new : List ℕ) (width row column weight : ℕ)
     → cell new width e x
     ≡ cell rows width e x + between column (column + 16) (dot_at weight row x e x) x
 cell-run rows new width row column weight h lc e x lx =
-    let from = row * width + column in
     let place = e * width + x in
-    let one = h place in
-    elim (cases_eq e row) [
-      | inl same ↦ grind (arith, nat_tests)
-      | inr apart ↦
-          let none : between column (column + 16) (dot_at weight row x e x) x ≡ 0 =
-          grind (arith, nat_tests) in
-          let zero : between from (from + 16) weight place ≡ 0 =
-          elim (cases_lt place from) [
-            | inl below ↦ grind (arith, nat_tests)
-            | inr above ↦ elim (cases_lt place (from + 16)) [
-              | inl inside ↦
-                  let in_line : place ≡ row * width + (column + (place - from)) =
-                  omega (arith, above) in
-                  absurd (apart (same_from_place e x row (column + (place - from)) width lx
-                  (omega (arith, above, inside, lc)) in_line).0)
-              | inr past ↦ grind (arith, nat_tests)
-            ]
-          ] in
-          omega (arith, one, none, zero)
-    ]
+    let other =
+    same_from_place e x row (column + (place - (row * width + column))) width lx in
+    let own = h place in
+    grind (arith, nat_tests)
 
 -- they keep the marks
 pub AreMarks-run : (rows new : List ℕ) (used : List Bool) (width row column weight : ℕ)
@@ -89,13 +63,10 @@ pub AreMarks-run : (rows new : List ℕ) (used : List Bool) (width row column we
     → row < length used → column + 16 ≤ width → 0 < weight
     → AreMarks new (set used row true) width
 AreMarks-run rows new used width row column weight marks each le lc lw =
-    let count : length (set used row true) ≡ length used = length-set used row true in
+    let count = length-set used row true in
     record {
       dotted = λ e l is. elim (cases_eq e row) [
-        | inl same ↦
-            let some : between column (column + 16) (dot_at weight row column e column) column
-            ≡ weight = grind (arith, nat_tests) in
-            grind (arith, nat_tests)
+        | inl same ↦ let own = each e column (omega arith) in grind (arith, nat_tests)
         | inr apart ↦ grind (arith, nat_tests, get_or-set_other)
       ];
       marked = λ e x l lx some. grind (arith, nat_tests, get_or-set_same, get_or-set_other);

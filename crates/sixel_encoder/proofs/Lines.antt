@@ -6,7 +6,7 @@ use Rattle.std.proofs.lemmas.Bool.Decides.{nat_tests}
 use Rattle.sixel_encoder.specs.inside.Indexed.{entry_of}
 use Rattle.sixel_encoder.specs.inside.Grid.{cell, dot_at, pixel_bit}
 use Rattle.sixel_encoder.proofs.Cells.{cell-dot}
-use Rattle.sixel_encoder.proofs.IndexedDrawing.{entry_of-opaque}
+use Rattle.sixel_palette.proofs.KeptEntries.{entry_of-opaque}
 
 -- a pixel of another entry adds nothing
 pub pixel_bit-other : (pixels indices : List ℕ) (weight entry pixel : ℕ)

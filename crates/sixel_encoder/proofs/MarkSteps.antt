@@ -1,6 +1,6 @@
 -- Marks made step by step: each step may count on what the steps before it established.
 use Rattle.std.specs.Prelude.{Option}
-use Rattle.std.proofs.Common.{List, arith, refl, subst, suc, zero, ℕ, ◌++◌, ◌+◌, ◌<◌, ◌∷◌, ◌≡◌, []}
+use Rattle.std.proofs.Common.{List, arith, refl, suc, zero, ℕ, ◌++◌, ◌+◌, ◌<◌, ◌∷◌, ◌≡◌, []}
 use Rattle.sixel_base.specs.Picture.{joined}
 use Rattle.sixel_encoder.specs.Marks.{AreAllowed, Mark, Pen, covered, moved, moved_by, painted}
 use Rattle.sixel_encoder.specs.Text.{Drawing}
@@ -72,8 +72,4 @@ Leads-joined drawing P step zero keep pen place is = record { allowed = tt; stat
 Leads-joined drawing P step (suc n) keep pen place is =
     let e : n + 1 ≡ suc n = omega arith in
     let first = Leads-joined drawing P step n (λ k p d l. keep k p d (omega arith)) pen place is in
-    let pen1 : Pen = moved_by (joined step n) pen in
-    let place1 : Places = painted_all (joined step n) pen place in
-    Leads-append drawing (P n) (P (suc n)) pen place (joined step n) (step n) first
-    (subst (λ (m : ℕ). Leads drawing (P m) pen1 place1 (step n))
-    e (keep n pen1 place1 (omega arith) first.state))
+    Leads-append _ _ _ _ _ _ _ first (rw e at (keep n _ _ (omega arith) first.state))

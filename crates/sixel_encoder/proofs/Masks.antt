@@ -53,34 +53,30 @@ entry_at-below image x row is h = grind (arith, get_or_past, mul-le, mul_comm, l
 abbrev pub hits : IndexedImage → ℕ → ℕ → ℕ → ℕ → Bool
 hits image band e x bit = is_entry e (entry_at (drawing_of image) x (6 * band + bit))
 
--- a line of the image adds its pixels
-pub mask-line : (image : IndexedImage) (band bit e x old weight new : ℕ) → IsIndexed image
-    → x < image.width → 6 * band + bit < image.height → old ≡ mask (hits image band e x) bit
-    → weight ≡ 2 ^ bit
-    → new
-    ≡ old
-    + pixel_bit weight e
-    (entry_of image.pixels.now image.indices.now ((6 * band + bit) * image.width + x))
-    → new ≡ mask (hits image band e x) (bit + 1)
-mask-line image band bit e x old weight new is lx lr was w now =
-    grind (arith, nat_tests, entry_at-inside, mask-more)
-
--- a line below the image adds none
-pub mask-below : (image : IndexedImage) (band bit e x old : ℕ) → IsIndexed image
-    → image.height ≤ 6 * band + bit → old ≡ mask (hits image band e x) bit
-    → old ≡ mask (hits image band e x) (bit + 1)
-mask-below image band bit e x old is h was = grind (arith, nat_tests, entry_at-below, mask-more)
-
 mask-false : (test : ℕ → Bool) (n : ℕ) → ((k : ℕ) → test k ≡ false) → mask test n ≡ 0
 unfolding mask
 mask-false test zero none = refl
 mask-false test (suc n) none = grind (arith, nat_tests, mask-false test n none)
 
--- nor does a pixel of a band
-pub hits-past : (image : IndexedImage) (band e x bit : ℕ) → IsIndexed image → x < image.width
-    → length image.colors.now ≤ e → hits image band e x bit ≡ false
-hits-past image band e x bit is lx past =
-    grind (arith, common_steps, entry_at-inside, entry_at-below)
+module _ (image : IndexedImage) (band bit e x : ℕ) (is : IsIndexed image) where
+  -- a line of the image adds its pixels
+  pub mask-line : (old weight new : ℕ) → x < image.width → 6 * band + bit < image.height
+      → old ≡ mask (hits image band e x) bit → weight ≡ 2 ^ bit
+      → new
+      ≡ old
+      + pixel_bit weight e
+      (entry_of image.pixels.now image.indices.now ((6 * band + bit) * image.width + x))
+      → new ≡ mask (hits image band e x) (bit + 1)
+  mask-line old weight new lx lr was w now = grind (arith, nat_tests, entry_at-inside, mask-more)
+
+  -- a line below the image adds none
+  pub mask-below : (old : ℕ) → image.height ≤ 6 * band + bit → old ≡ mask (hits image band e x) bit
+      → old ≡ mask (hits image band e x) (bit + 1)
+  mask-below old h was = grind (arith, nat_tests, entry_at-below, mask-more)
+
+  -- nor does a pixel of a band
+  pub hits-past : x < image.width → length image.colors.now ≤ e → hits image band e x bit ≡ false
+  hits-past lx past = grind (arith, common_steps, entry_at-inside, entry_at-below)
 
 -- nor does its sixel have a dot
 pub sixel-past : (image : IndexedImage) (band e x : ℕ) → IsIndexed image → x < image.width

@@ -7,11 +7,11 @@ use Rattle.std.proofs.Math.Nat.{mul_comm}
 use Rattle.sixel_base.specs.CallFault.{CallFault, FailsBy, size_call_fault}
 use Rattle.sixel_base.specs.Payload.{Image}
 use Rattle.sixel_base.specs.declared.error.SixelError.{SixelError}
-use Rattle.sixel_encoder.specs.declared.mapping.Mapping.{Mapping}
+use Rattle.sixel_palette.specs.declared.mapping.Mapping.{Mapping}
 use Rattle.sixel_encoder.specs.declared.form.TextForm.{TextForm}
 use Rattle.sixel_encoder.specs.Encoding.{image_fault, shown_image}
 use Rattle.sixel_encoder.specs.IndexedDrawing.{IsPaletteText}
-use Rattle.sixel_encoder.proofs.DitheredIndices.{AreRowsOf}
+use Rattle.sixel_palette.proofs.DitheredIndices.{AreRowsOf}
 use Rattle.sixel_encoder.proofs.SameDithering.{drawing-alike}
 use Rattle.sixel_encoder.proofs.Sizes.{within-sound}
 use Rattle.std.proofs.lemmas.Bool.Decides.{nat_tests}

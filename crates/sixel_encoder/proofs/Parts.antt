@@ -19,9 +19,7 @@ entry_text-past image band entry is past =
     let drawing = drawing_of image in
     let row = row_of drawing band entry in
     let blank : has_dot row ≡ false =
-    list_any_none (λ bits. not (bits == 0)) row (All-from_get_or
-    (λ bits. not (bits == 0) ≡ false)
-    row 0 (λ x l.
+    list_any_none _ row (All-from_get_or (λ bits. not (bits == 0) ≡ false) row 0 (λ x l.
     let lx : x < image.width =
     omega (arith, length-map-range_with_len (sixel_of drawing band entry) 0 image.width) in
     is_dot-zero (get_or row x 0) (get_or-map-range_with_len (sixel_of drawing band entry) 0
@@ -34,8 +32,7 @@ pub joined-all : (image : IndexedImage) (band count : ℕ) → IsIndexed image
     → joined (entry_text (drawing_of image) band) count
     ≡ joined (entry_text (drawing_of image) band) (length image.colors.now)
 joined-all image band count is all =
-    joined-past (entry_text (drawing_of image) band) (length image.colors.now) count all
-    (λ k past. entry_text-past image band k is past)
+    joined-past _ _ _ all (λ k past. entry_text-past _ band _ is past)
 
 -- a loop that appends what it joins, a part of the lists at a time: one more part
 pub appended-part : (f : ℕ → List ℕ) (part count : ℕ) (start now new : List ℕ)

@@ -1,14 +1,15 @@
 -- One pixel more of a band, and one segment more of a pass.
 use Rattle.std.specs.Prelude.{None, Option, Some, slice_index_or, ◌/◌, ◌%◌}
-use Rattle.std.proofs.Common.{Bool, List, ap, append_assoc, arith, cond, length, refl, replicate}
-use Rattle.std.proofs.Common.{suc, sym, zero, ℕ, ◌*◌, ◌++◌, ◌+◌, ◌<◌, ◌-◌, ◌∙◌, ◌∷◌, ◌≡◌, []}
+use Rattle.std.proofs.Common.{List, ap, append_assoc, arith, length, refl, replicate}
+use Rattle.std.proofs.Common.{suc, zero, ℕ, ◌*◌, ◌++◌, ◌+◌, ◌<◌, ◌-◌, ◌∷◌, ◌≡◌, []}
 use Rattle.std.proofs.lemmas.Bool.Decides.{nat_tests}
 use Rattle.std.proofs.lemmas.List.{append-nil}
 use Rattle.sixel_encoder.specs.declared.segments.Segment.{Segment}
 use Rattle.sixel_encoder.specs.Segments.{after_pass, gap_of, in_pass, passes, segments_up_to}
 use Rattle.sixel_encoder.specs.Segments.{with_pixel, with_place}
 use Rattle.sixel_encoder.specs.Text.{Drawing, entry_at}
-use Rattle.sixel_encoder.proofs.SegmentSteps.{grown, is_near, near-own}
+use Rattle.sixel_encoder.proofs.SegmentSteps.{is_near, near-own}
+use Rattle.std.proofs.lemmas.Bool.{cases_Bool}
 
 -- ---- the segments of a band
 
@@ -44,16 +45,8 @@ pub with_pixel-twice : (gap column entry : ℕ) (segments : List Segment)
     ≡ with_pixel gap column entry segments
 with_pixel-twice gap column entry [] = grind (arith, nat_tests)
 with_pixel-twice gap column entry (segment ∷ segments) =
-    go (is_near gap column entry segment) refl (with_pixel-twice gap column entry segments)
-  where
-    go : (b : Bool) → is_near gap column entry segment ≡ b
-        → with_pixel gap column entry (with_pixel gap column entry segments)
-        ≡ with_pixel gap column entry segments
-        → with_pixel gap column entry
-        (cond b (grown column segment ∷ segments) (segment ∷ with_pixel gap column entry segments))
-        ≡ cond b (grown column segment ∷ segments)
-        (segment ∷ with_pixel gap column entry segments)
-    go b near rest = grind (arith, nat_tests, near-own)
+    let near = cases_Bool (is_near gap column entry segment) in
+    grind (arith, nat_tests, with_pixel-twice gap column entry segments, is_near, near-own)
 
 -- the segments after one pixel more of a column
 segments_up_to-bit : (drawing : Drawing) (band column bit : ℕ) → bit < 6
@@ -65,21 +58,19 @@ segments_up_to-bit drawing band column bit l =
     let next : 6 * column + (bit + 1) ≡ n + 1 = omega arith in
     grind (arith, nat_tests, segments_up_to-more)
 
--- after a pixel with an entry
-pub segment-pixel : (drawing : Drawing) (band column bit gap entry : ℕ) (items new : List Segment)
-    → bit < 6 → gap ≡ gap_of drawing → items ≡ segments_up_to drawing band (6 * column + bit)
-    → entry_at drawing column (6 * band + bit) ≡ Some entry
-    → new ≡ with_pixel gap column entry items
-    → new ≡ segments_up_to drawing band (6 * column + (bit + 1))
-segment-pixel drawing band column bit gap entry items new l wide was at is =
-    grind (arith, nat_tests, segments_up_to-bit)
+module _ (drawing : Drawing) (band column bit : ℕ) (items : List Segment) (l : bit < 6)
+    (was : items ≡ segments_up_to drawing band (6 * column + bit)) where
+  -- after a pixel with an entry
+  pub segment-pixel : (gap entry : ℕ) (new : List Segment) → gap ≡ gap_of drawing
+      → entry_at drawing column (6 * band + bit) ≡ Some entry
+      → new ≡ with_pixel gap column entry items
+      → new ≡ segments_up_to drawing band (6 * column + (bit + 1))
+  segment-pixel gap entry new wide at is = grind (arith, nat_tests, segments_up_to-bit)
 
--- after a transparent one
-pub segment-skip : (drawing : Drawing) (band column bit : ℕ) (items : List Segment)
-    → bit < 6 → items ≡ segments_up_to drawing band (6 * column + bit)
-    → entry_at drawing column (6 * band + bit) ≡ None
-    → items ≡ segments_up_to drawing band (6 * column + (bit + 1))
-segment-skip drawing band column bit items l was none = grind (arith, nat_tests, segments_up_to-bit)
+  -- after a transparent one
+  pub segment-skip : entry_at drawing column (6 * band + bit) ≡ None
+      → items ≡ segments_up_to drawing band (6 * column + (bit + 1))
+  segment-skip none = grind (arith, nat_tests, segments_up_to-bit)
 
 -- a place that is added twice
 with_place-twice : (gap column : ℕ) (place : Option ℕ) (segments : List Segment)
@@ -95,12 +86,8 @@ pub segment-uniform : (drawing : Drawing) (band column : ℕ) (items : List Segm
     → (n : ℕ) → n < 6 → items ≡ segments_up_to drawing band (6 * column + (n + 1))
 segment-uniform drawing band column items first same zero l = first
 segment-uniform drawing band column items first same (suc n) l =
-    grind (
-      arith,
-      segments_up_to-bit,
-      with_place-twice,
-      segment-uniform drawing band column items first same n (omega arith),
-    )
+    let before = segment-uniform drawing band column items first same n (omega arith) in
+    grind (arith, segments_up_to-bit, with_place-twice)
 
 -- one pass of those that are left
 pub passes-step : (n counter : ℕ) (ordered left next rest whole : List Segment) → counter < n
@@ -108,12 +95,7 @@ pub passes-step : (n counter : ℕ) (ordered left next rest whole : List Segment
     → rest ≡ after_pass 0 left → next ++ passes (n - (counter + 1)) rest ≡ whole
 passes-step n counter ordered left next rest whole l was is remain =
     let e : n - counter ≡ n - (counter + 1) + 1 = omega arith in
-    ap (λ o. o ++ passes (n - (counter + 1)) rest) is
-    ∙ (ap (λ r. (ordered ++ in_pass 0 left) ++ passes (n - (counter + 1)) r) remain
-    ∙ (append_assoc ordered (in_pass 0 left) (passes (n - (counter + 1)) (after_pass 0 left))
-    ∙ (ap (λ s. ordered ++ s)
-    (sym (ap (λ m. passes m left) e ∙ passes-more (n - (counter + 1)) left))
-    ∙ was)))
+    grind (arith, nat_tests, passes-more, append_assoc)
 
 -- no value
 abbrev nothing : Option ℕ

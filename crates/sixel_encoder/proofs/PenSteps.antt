@@ -1,8 +1,6 @@
 -- What marks do to the place, the colors and the sizes: the history is where the pen is.
-use Rattle.std.specs.Prelude.{Some, nat_le, ◌&&◌, ◌==◌, ◌||◌}
-use Rattle.std.proofs.Common.{List, ap, arith, false, get_or, length, refl, ℕ, ◌*◌, ◌<◌, ◌∙◌}
-use Rattle.std.proofs.Common.{◌∷◌, ◌≡◌, []}
-use Rattle.sixel_base.specs.Fields.{field}
+use Rattle.std.specs.Prelude.{Some}
+use Rattle.std.proofs.Common.{List, arith, false, refl, ℕ, ◌*◌, ◌<◌, ◌∷◌, ◌≡◌, []}
 use Rattle.sixel_base.specs.History.{Color, History}
 use Rattle.sixel_base.specs.Limits.{whole_limit}
 use Rattle.sixel_base.specs.Place.{across, down, span}
@@ -21,25 +19,15 @@ use Rattle.sixel_encoder.proofs.TextHistory.{AreSound-row}
 use Rattle.sixel_encoder.proofs.Tokens.{with_mark, with_marks}
 use Rattle.std.proofs.lemmas.Bool.Decides.{nat_tests}
 
--- a drawing's sizes are within the limits
-IsWithinLimits-drawing : (drawing : Drawing) → IsWritable drawing
-    → IsWithinLimits whole_limit drawing.width (6 * bands drawing.height)
-IsWithinLimits-drawing drawing is = record { wide = is.wide; high = is.high; area = is.area }
-
 -- ---- a color introducer of one number
 
 -- it selects its register
 selects : (entry : ℕ) → entry < 256 → named_by (numbers entry []) ≡ entry
-selects entry h =
-    let first : field (numbers entry []) 0 ≡ entry =
-    ap (λ ns. get_or ns 0 0) (fields-numbers entry [] (omega arith) tt) in
-    omega arith
+selects entry h = grind (arith, nat_tests, numbers, fields-numbers entry [])
 
 -- one number defines no color
 defines_none : (entry : ℕ) → entry < 256 → is_definition (numbers entry []) ≡ false
-defines_none entry h =
-    ap (λ ns. nat_le 5 (length ns) && (get_or ns 1 0 == 1 || get_or ns 1 0 == 2))
-    (fields-numbers entry [] (omega arith) tt)
+defines_none entry h = grind (arith, nat_tests, fields-numbers entry [] (omega arith) tt)
 
 -- so it keeps the registers
 keeps_registers : (entry : ℕ) (h : History) (start : List (List ℕ)) → entry < 256
@@ -63,38 +51,30 @@ pub record Follows (drawing : Drawing) (start palette : List (List ℕ)) (pen : 
 same_some : (m n : ℕ) → Some m ≡ Some n → m ≡ n
 same_some m n e = cc
 
--- a history follows the pen over a mark
-pub Follows-mark :
-    (drawing : Drawing) (start palette : List (List ℕ)) (pen : Pen) (mark : Mark) (h : History)
-    → IsWritable drawing → IsAllowed drawing pen mark → Follows drawing start palette pen h
-    → Follows drawing start palette (moved pen mark) (with_mark mark h)
-Follows-mark drawing start palette pen (Pick register) h is may follows =
-    grind (arith, nat_tests, selects, same_some, keeps_registers)
-Follows-mark drawing start palette pen (Draw row) h is may follows =
-    let went = Moved-row row h may.small follows.single in
-    let lower = may.lower in
-    record {
-      single = went.single;
-      place = omega (arith, went.place, follows.place);
-      level = went.level ∙ follows.level;
-      named = λ n e. went.named ∙ follows.named n e;
-      defined = went.kept start ∙ follows.defined;
-      shape = λ other. went.shape other ∙ follows.shape other;
-      fits =
-          Fits-run_tokens whole_limit drawing.width (6 * bands drawing.height) (row_tokens row) h
-          (IsWithinLimits-drawing drawing is) (AreSound-row row may.small) follows.single
-          (omega (arith, follows.place, ap length (spells row).joined, may.inside))
-          (omega (arith, follows.level, lower)) follows.fits;
-    }
-Follows-mark drawing start palette pen Back h is may follows = grind (arith, nat_tests)
-Follows-mark drawing start palette pen Next h is may follows = grind (arith, nat_tests)
+module _ (drawing : Drawing) (is : IsWritable drawing) where
+  -- a drawing's sizes are within the limits
+  IsWithinLimits-drawing : IsWithinLimits whole_limit drawing.width (6 * bands drawing.height)
+  IsWithinLimits-drawing = record { wide = is.wide; high = is.high; area = is.area }
 
--- and over all marks
-pub Follows-marks : (drawing : Drawing) (start palette : List (List ℕ)) (pen : Pen)
-    (marks : List Mark) (h : History) → IsWritable drawing → AreAllowed drawing pen marks
-    → Follows drawing start palette pen h
-    → Follows drawing start palette (moved_by marks pen) (with_marks marks h)
-Follows-marks drawing start palette pen [] h is may follows = follows
-Follows-marks drawing start palette pen (mark ∷ marks) h is may follows =
-    Follows-marks drawing start palette (moved pen mark) marks (with_mark mark h) is may.1
-    (Follows-mark drawing start palette pen mark h is may.0 follows)
+  -- a history follows the pen over a mark
+  pub Follows-mark : (start palette : List (List ℕ)) (pen : Pen) (mark : Mark) (h : History)
+      → IsAllowed drawing pen mark → Follows drawing start palette pen h
+      → Follows drawing start palette (moved pen mark) (with_mark mark h)
+  Follows-mark start palette pen (Pick register) h may follows =
+      grind (arith, nat_tests, selects, same_some, keeps_registers)
+  Follows-mark start palette pen (Draw row) h may follows =
+      let fits =
+      Fits-run_tokens whole_limit drawing.width (6 * bands drawing.height) (row_tokens row) h in
+      let sound = AreSound-row row in
+      grind (arith, nat_tests, Moved-row row h, spells row, IsWithinLimits-drawing)
+  Follows-mark start palette pen Back h may follows = grind (arith, nat_tests)
+  Follows-mark start palette pen Next h may follows = grind (arith, nat_tests)
+
+  -- and over all marks
+  pub Follows-marks : (start palette : List (List ℕ)) (pen : Pen) (marks : List Mark) (h : History)
+      → AreAllowed drawing pen marks → Follows drawing start palette pen h
+      → Follows drawing start palette (moved_by marks pen) (with_marks marks h)
+  Follows-marks start palette pen [] h may follows = follows
+  Follows-marks start palette pen (mark ∷ marks) h may follows =
+      Follows-marks start palette (moved pen mark) marks (with_mark mark h) may.1
+      (Follows-mark start palette pen mark h may.0 follows)

@@ -1,6 +1,6 @@
 -- Sixels that change bound the bytes of a band of the plain text from below.
 use Rattle.std.proofs.Common.{◌≡◌, ◌≢◌, ℕ, zero, suc, ◌+◌, ◌-◌, ◌<◌, ◌≤◌, List}
-use Rattle.std.proofs.Common.{length, length-append, ap, arith, inl, inr, refl, replicate}
+use Rattle.std.proofs.Common.{length, length-append, ap, arith, refl, replicate}
 use Rattle.std.specs.Prelude.{if◌then◌else◌, slice_index, ◌==◌}
 use Rattle.std.proofs.lemmas.Bool.{cases_eq}
 use Rattle.std.proofs.lemmas.Bool.Decides.{nat_tests}
@@ -43,10 +43,7 @@ total-other : (f g : ℕ → ℕ) (e n : ℕ) → e < n → ((k : ℕ) → k ≢
 unfolding total
 total-other f g e zero l same = absurd (omega arith)
 total-other f g e (suc n) l same =
-    elim (cases_eq n e) [
-      | inl at ↦ grind (arith, nat_tests, total-same)
-      | inr past ↦ omega (arith, total-other f g e n (omega arith) same, same n past)
-    ]
+    grind (arith, nat_tests, total-other f g e n, cases_eq n e, total-same)
 
 -- how long joined lists are
 length-total : (t : ℕ → List ℕ) (n : ℕ) → length (joined t n) ≡ total (λ k. length (t k)) n
@@ -65,37 +62,6 @@ left-some : (drawing : Drawing) (band column entry : ℕ) (starts : ℕ → ℕ)
     ≡ bytes_from drawing band entry column (starts entry)
 left-some drawing band column entry starts some = grind (arith, nat_tests)
 
--- ---- the bound
-
--- before the first column no byte is counted but that of the graphics new line
-pub bound-start : (drawing : Drawing) (band column : ℕ) (runs : RowRuns)
-    → ((entry : ℕ) → slice_index runs.starts entry ≡ 0) → runs.bytes ≡ 1
-    → IsBound drawing band column runs
-bound-start drawing band column runs none one = grind (arith, nat_tests)
-
--- one more column keeps it
-pub bound-step : (drawing : Drawing) (band column : ℕ) (runs : RowRuns) → 0 < column
-    → column < drawing.width → IsBound drawing band column runs
-    → IsBound drawing band (column + 1) runs
-bound-step drawing band column runs some l is =
-    let starts = slice_index runs.starts in
-    let n = length drawing.colors in
-    record {
-      order = λ entry. omega (arith, is.order entry);
-      dotted = is.dotted;
-      bytes = omega (
-        arith,
-        is.bytes,
-        total-zero n,
-        total-le (bytes_left drawing band (column + 1) starts)
-            (bytes_left drawing band column starts) (λ k. 0) n
-            (λ k lk. elim (cases_eq (starts k) 0) [
-              | inl none ↦ omega (arith, left-none drawing band (column + 1) k starts none)
-              | inr other ↦ grind (arith, nat_tests, bytes_from-step, left-some)
-            ]),
-      );
-    }
-
 -- the bytes that a run adds when it ends: up to three, and four if its row had no other
 abbrev pub added : ℕ → ℕ → ℕ
 added start three = if start == 0 then three + 4 else three
@@ -107,13 +73,12 @@ pub added-some : (start three : ℕ) → 0 < start → added start three ≡ thr
 added-some start three some = grind (arith, nat_tests)
 
 -- a run that ends keeps it
-pub bound-end : (drawing : Drawing) (band column entry three : ℕ) (old new : RowRuns)
-    → 0 < column → IsChange drawing band entry column → IsBound drawing band column old
+pub bound-end : (drawing : Drawing) (band column entry three : ℕ) (old new : RowRuns) → 0 < column
+    → IsChange drawing band entry column → IsBound drawing band column old
     → ((k : ℕ) → k ≢ entry → slice_index new.starts k ≡ slice_index old.starts k)
     → slice_index new.starts entry ≡ column
     → new.bytes ≡ old.bytes + added (slice_index old.starts entry) three
-    → three ≤ column - slice_index old.starts entry → three ≤ 3
-    → IsBound drawing band column new
+    → three ≤ column - slice_index old.starts entry → three ≤ 3 → IsBound drawing band column new
 bound-end drawing band column entry three old new some change is others here counted few most =
     let was = slice_index old.starts in
     let now = slice_index new.starts in
@@ -129,14 +94,32 @@ bound-end drawing band column entry three old new some change is others here cou
     let low = run_low (column - was entry) three few most in
     grind (arith, bytes_from-start)
 
--- after the last column a band has the bytes that are counted
-pub bound-whole : (drawing : Drawing) (band column : ℕ) (runs : RowRuns)
-    → length drawing.colors ≤ 256
-    → ((entry : ℕ) → 0 < slice_index runs.starts entry
-    → (drawing.width ≤ column) × (slice_index runs.starts entry < column))
-    → IsBound drawing band column runs → runs.bytes ≤ length (band_text drawing band)
-bound-whole drawing band column runs few past is =
-    grind (arith, length-append, bytes_from-last, length-total, total-le, decimal_nonempty)
+module _ (drawing : Drawing) (band column : ℕ) (runs : RowRuns) where
+  -- ---- the bound
+
+  -- before the first column no byte is counted but that of the graphics new line
+  pub bound-start : ((entry : ℕ) → slice_index runs.starts entry ≡ 0) → runs.bytes ≡ 1
+      → IsBound drawing band column runs
+  bound-start none one = grind (arith, nat_tests)
+
+  -- one more column keeps it
+  pub bound-step : 0 < column → column < drawing.width → IsBound drawing band column runs
+      → IsBound drawing band (column + 1) runs
+  bound-step some l is =
+      let starts = slice_index runs.starts in
+      let n = length drawing.colors in
+      let le =
+      total-le (bytes_left drawing band (column + 1) starts) (bytes_left drawing band column starts)
+      (λ k. 0) n (λ k lk. grind (arith, nat_tests, bytes_from-step, left-some, left-none)) in
+      grind (arith, nat_tests, total-zero n)
+
+  -- after the last column a band has the bytes that are counted
+  pub bound-whole : length drawing.colors ≤ 256
+      → ((entry : ℕ) → 0 < slice_index runs.starts entry
+      → (drawing.width ≤ column) × (slice_index runs.starts entry < column))
+      → IsBound drawing band column runs → runs.bytes ≤ length (band_text drawing band)
+  bound-whole few past is =
+      grind (arith, length-append, bytes_from-last, length-total, total-le, decimal_nonempty)
 
 -- a list of zeros has zero anywhere
 pub zero-replicated : (n k : ℕ) → slice_index (replicate n 0) k ≡ 0

@@ -1,12 +1,12 @@
 -- The plain definitions and marks draw the drawing: entry by entry, and band by band.
 use Rattle.std.specs.Prelude.{None, Option, Some, slice_index_or, ◌==◌}
-use Rattle.std.proofs.Common.{Bool, List, ap, arith, cond, false, inl, inr, length, refl, []}
-use Rattle.std.proofs.Common.{suc, sym, true, zero, ℕ, ◌*◌, ◌++◌, ◌+◌, ◌<◌, ◌∙◌, ◌∷◌, ◌≡◌, ◌≢◌, ◌≤◌}
-use Rattle.std.proofs.lemmas.Bool.{cases_eq}
+use Rattle.std.proofs.Common.{List, arith, cond, length, refl, []}
+use Rattle.std.proofs.Common.{suc, true, zero, ℕ, ◌*◌, ◌++◌, ◌+◌, ◌<◌, ◌∷◌, ◌≡◌, ◌≤◌}
+use Rattle.std.proofs.lemmas.Bool.{cases_Bool, cases_eq}
 use Rattle.std.proofs.lemmas.Bool.Decides.{nat_tests}
 use Rattle.std.proofs.lemmas.List.{get_or_past}
 use Rattle.sixel_base.specs.Picture.{joined}
-use Rattle.sixel_encoder.specs.Marks.{AreDefinitions, Back, Definition, Draw, Draws, Mark, Next}
+use Rattle.sixel_encoder.specs.Marks.{AreDefinitions, Back, Definition, Draw, Draws}
 use Rattle.sixel_encoder.specs.Marks.{Pen, Pick, first_pen, register_entry}
 use Rattle.sixel_encoder.specs.Text.{Drawing, bands, entry_at, has_dot, row_of}
 use Rattle.sixel_encoder.specs.Trip.{IsWritable}
@@ -39,43 +39,31 @@ record IsDrawnTo (drawing : Drawing) (band entry : ℕ) (pen : Pen) (place : Pla
   drawn : (column line other : ℕ) → column < drawing.width → IsInBand band line
       → entry_at drawing column line ≡ Some other → other < entry → place column line ≡ Some other
 
--- the row of an entry leads to the next entry
-Leads-row : (drawing : Drawing) (band entry : ℕ) (pen : Pen) (place : Places) → entry < 256
-    → band < bands drawing.height → has_dot (row_of drawing band entry) ≡ true
-    → IsDrawnTo drawing band entry pen place
-    → Leads drawing (IsDrawnTo drawing band (entry + 1)) pen place
-    (Pick entry ∷ Draw (row_of drawing band entry) ∷ Back ∷ [])
-Leads-row drawing band entry pen place small lower dot at =
-    grind (arith, nat_tests, row_of-small, length-row_of, lit-own, own-lit, unused-dots)
+module _ (drawing : Drawing) (band entry : ℕ) (pen : Pen) (place : Places) (small : entry < 256)
+    (lower : band < bands drawing.height) (at : IsDrawnTo drawing band entry pen place) where
+  -- the row of an entry leads to the next entry
+  Leads-row : has_dot (row_of drawing band entry) ≡ true
+      → Leads drawing (IsDrawnTo drawing band (entry + 1)) pen place
+      (Pick entry ∷ Draw (row_of drawing band entry) ∷ Back ∷ [])
+  Leads-row dot =
+      grind (arith, nat_tests, row_of-small, length-row_of, lit-own, own-lit, unused-dots)
 
--- so does an entry, with a row or without
-Leads-entry : (drawing : Drawing) (band entry : ℕ) (pen : Pen) (place : Places) → entry < 256
-    → band < bands drawing.height → IsDrawnTo drawing band entry pen place
-    → Leads drawing (IsDrawnTo drawing band (entry + 1)) pen place (plain_entry drawing band entry)
-Leads-entry drawing band entry pen place small lower at =
-    go (has_dot (row_of drawing band entry)) refl
-  where
-    go : (b : Bool) → has_dot (row_of drawing band entry) ≡ b
-        → Leads drawing (IsDrawnTo drawing band (entry + 1)) pen place
-        (cond b (Pick entry ∷ Draw (row_of drawing band entry) ∷ Back ∷ []) [])
-    go true dot = Leads-row drawing band entry pen place small lower dot at
-    go false none = grind (arith, nat_tests, no_dot-own)
+  -- so does an entry, with a row or without
+  Leads-entry :
+      Leads drawing (IsDrawnTo drawing band (entry + 1)) pen place (plain_entry drawing band entry)
+  Leads-entry =
+      let which = cases_Bool (has_dot (row_of drawing band entry)) in
+      grind (arith, nat_tests, Leads-row, no_dot-own)
 
 -- a band leads to the next band
 Leads-band : (drawing : Drawing) (band : ℕ) (pen : Pen) (place : Places) → IsWritable drawing
     → band < bands drawing.height → IsDrawnTo drawing band 0 pen place
     → Leads drawing (IsDrawnTo drawing (band + 1) 0) pen place (plain_band drawing band)
 Leads-band drawing band pen place is lower at =
-    let rows : List Mark = joined (plain_entry drawing band) (length drawing.colors) in
     let first =
     Leads-joined drawing (IsDrawnTo drawing band) (plain_entry drawing band) (length drawing.colors)
     (λ k p d l is_at. Leads-entry drawing band k p d (omega arith) lower is_at) pen place at in
-    let state = first.state in
-    Leads-append drawing (IsDrawnTo drawing band (length drawing.colors))
-    (IsDrawnTo drawing (band + 1) 0) pen place rows (Next ∷ []) first record {
-      allowed = (omega (arith, state.level, lower), tt);
-      state = grind (arith, nat_tests, known_entry);
-    }
+    Leads-append _ _ _ _ _ _ _ first (grind (arith, nat_tests, known_entry))
 
 -- the entry of a register after definitions, and then more
 pub register_entry-append : (a b : List Definition) (before : Option ℕ) (register : ℕ)
@@ -92,21 +80,9 @@ register_entry-plain : (n entry : ℕ) → entry < n
 unfolding joined
 register_entry-plain zero entry l = absurd (omega arith)
 register_entry-plain (suc n) entry l =
-    register_entry-append (joined plain_definition n) (plain_definition n) None entry
-    ∙ elim (cases_eq entry n) [
-      | inl same ↦ hit same
-      | inr apart ↦ grind (arith, nat_tests, register_entry-plain n entry (omega arith), other)
-    ]
-  where
-    hit : entry ≡ n
-        → register_entry (plain_definition n)
-        (register_entry (joined plain_definition n) None entry) entry ≡ Some entry
-    hit same =
-        let test : n == entry ≡ true = grind (arith, nat_tests) in rw test (ap Some (sym same))
-
-    other : entry ≢ n → (before : Option ℕ)
-        → register_entry (plain_definition n) before entry ≡ before
-    other apart before = let test : n == entry ≡ false = grind (arith, nat_tests) in rw test refl
+    let rest = register_entry-plain n entry in
+    let step = register_entry-append (joined plain_definition n) (plain_definition n) None entry in
+    grind (arith, nat_tests, cases_eq entry n)
 
 -- definitions, and then more
 pub AreDefinitions-append : (drawing : Drawing) (a b : List Definition) → AreDefinitions drawing a
@@ -134,28 +110,10 @@ pub Draws-plain : (drawing : Drawing) → IsWritable drawing
 Draws-plain drawing is =
     let leads : Leads drawing (IsDrawnTo drawing (bands drawing.height) 0) first_pen nothing_drawn
     (plain_marks drawing) =
-    Leads-joined drawing
-    (λ band. IsDrawnTo drawing band 0)
-    (plain_band drawing) (bands drawing.height)
-    (λ k p d l at. Leads-band drawing k p d is l at) first_pen nothing_drawn
-    record {
-      left = refl;
-      level = refl;
-      transparent = λ column line lc none. refl;
-      above = λ column line other lc over e. absurd (omega arith);
-      drawn = λ column line other lc in_it e l. absurd (omega arith);
-    } in
-    record {
-      defined = AreDefinitions-plain drawing (length drawing.colors) is.few (omega arith);
-      allowed = leads.allowed;
-      transparent = λ column line lc e.
-          painted-place (plain_marks drawing) first_pen nothing_drawn column line
-          ∙ leads.state.transparent column line lc e;
-      opaque = λ column line entry lc ll e. (
-        entry,
-        painted-place (plain_marks drawing) first_pen nothing_drawn column line
-            ∙ leads.state.above column line entry lc (omega arith) e,
-        register_entry-plain (length drawing.colors) entry
-            (known_entry drawing column line entry is e),
-      );
-    }
+    Leads-joined drawing (λ band. IsDrawnTo drawing band 0) (plain_band drawing)
+    (bands drawing.height) (λ k p d l at. Leads-band drawing k p d is l at) first_pen
+    nothing_drawn (grind (arith, nat_tests)) in
+    let drawn = painted-place (plain_marks drawing) first_pen nothing_drawn in
+    let entry = register_entry-plain (length drawing.colors) in
+    let defined = AreDefinitions-plain drawing (length drawing.colors) is.few (omega arith) in
+    grind (arith, nat_tests, known_entry)

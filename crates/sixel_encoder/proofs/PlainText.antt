@@ -37,14 +37,11 @@ text_of-parts drawing = grind (arith, nat_tests, payload-joined)
 -- the plain text is that of its marks
 pub IsDrawnText-plain : (drawing : Drawing) → IsWritable drawing
     → IsDrawnText drawing (text_of drawing)
-IsDrawnText-plain drawing is = (
-  plain_definitions drawing,
-  plain_marks drawing,
-  Draws-plain drawing is,
-  text_of-parts drawing
-      ∙ ap (λ payload. parameters_text drawing ++ (payload ++ 27 ∷ codes "\\"))
-      (sym (payload-plain drawing)),
-)
+IsDrawnText-plain drawing is =
+    let parts = text_of-parts drawing in
+    let same = payload-plain drawing in
+    let draws = Draws-plain drawing is in
+    (plain_definitions drawing, plain_marks drawing, draws, grind (arith, nat_tests))
 
 -- ---- the payload
 
@@ -56,42 +53,33 @@ carries-plain drawing is =
     (payload-plain drawing) (carries-payload drawing (plain_definitions drawing)
     (plain_marks drawing) is (Draws-plain drawing is))
 
--- all of the payload is its own, up to the terminator
-pub payload-own : (drawing : Drawing) (rest : List ℕ) → IsWritable drawing
-    → before_terminator (payload_text drawing ++ 27 ∷ rest) ≡ payload_text drawing
-payload-own drawing rest is = grind (arith, nat_tests, before_terminator-carrying, carries-plain)
+module _ (drawing : Drawing) (rest : List ℕ) (is : IsWritable drawing) where
+  -- all of the payload is its own, up to the terminator
+  pub payload-own : before_terminator (payload_text drawing ++ 27 ∷ rest) ≡ payload_text drawing
+  payload-own = grind (arith, nat_tests, before_terminator-carrying, carries-plain)
 
--- so it is its own front
-pub payload-front : (drawing : Drawing) (rest : List ℕ) → IsWritable drawing
-    → front (payload_text drawing ++ 27 ∷ rest) ≡ payload_text drawing
-payload-front drawing rest is = grind (arith, nat_tests, front-carrying, carries-plain)
+  -- so it is its own front
+  pub payload-front : front (payload_text drawing ++ 27 ∷ rest) ≡ payload_text drawing
+  payload-front = grind (arith, nat_tests, front-carrying, carries-plain)
 
--- it ends at the terminator
-pub payload-ended : (drawing : Drawing) (rest : List ℕ) → IsWritable drawing
-    → first_terminator (payload_text drawing ++ 27 ∷ rest) ≡ Some 27
-payload-ended drawing rest is = grind (arith, nat_tests, first_terminator-carrying, carries-plain)
+  -- it ends at the terminator
+  pub payload-ended : first_terminator (payload_text drawing ++ 27 ∷ rest) ≡ Some 27
+  payload-ended = grind (arith, nat_tests, first_terminator-carrying, carries-plain)
 
--- the payload is read as the trip
-pub plain-trip : (decoder : DecoderState) (drawing : Drawing) (rest : List ℕ) → IsWritable drawing
-    → CanShow decoder drawing.width drawing.height
-    →
-    payload_image (origin_of decoder (drawing_settings drawing)) (payload_text drawing ++ 27 ∷ rest)
-    ≡ trip decoder.raster_crop drawing
-plain-trip decoder drawing rest is can =
-    ap
-    (λ payload. payload_image (origin_of decoder (drawing_settings drawing)) (payload ++ 27 ∷ rest))
-    (sym (payload-plain drawing))
-    ∙ payload-trip decoder drawing (plain_definitions drawing) (plain_marks drawing) rest is
-    (Draws-plain drawing is) can
+  -- the payload is read as the trip
+  pub plain-trip : (decoder : DecoderState) → CanShow decoder drawing.width drawing.height
+      → payload_image (origin_of decoder (drawing_settings drawing))
+      (payload_text drawing ++ 27 ∷ rest) ≡ trip decoder.raster_crop drawing
+  plain-trip decoder can =
+      grind (arith, nat_tests, payload-plain drawing, payload-trip, Draws-plain)
 
--- and has no fault within a limit that has room for it in whole bands
-pub plain-sound : (limit : Limit) (drawing : Drawing) (rest : List ℕ) → IsWritable drawing
-    → drawing.width * banded drawing.height ≤ limit.pixels
-    → payload_fault limit (payload_text drawing ++ 27 ∷ rest) ≡ None
-plain-sound limit drawing rest is room =
-    ap (λ payload. payload_fault limit (payload ++ 27 ∷ rest)) (sym (payload-plain drawing))
-    ∙ payload-sound limit drawing (plain_definitions drawing) (plain_marks drawing) rest is
-    (Draws-plain drawing is) room
+  -- and has no fault within a limit that has room for it in whole bands
+  pub plain-sound : (limit : Limit) → drawing.width * banded drawing.height ≤ limit.pixels
+      → payload_fault limit (payload_text drawing ++ 27 ∷ rest) ≡ None
+  plain-sound limit room =
+      ap (λ payload. payload_fault limit (payload ++ 27 ∷ rest)) (sym (payload-plain drawing))
+      ∙ payload-sound drawing (plain_definitions drawing) (plain_marks drawing) limit rest is
+      (Draws-plain drawing is) room
 
 -- ---- the whole text
 

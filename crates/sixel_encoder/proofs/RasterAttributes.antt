@@ -20,8 +20,7 @@ raster-fields : (drawing : Drawing) → IsWritable drawing
     → fields (numbers (pad_of drawing.aspect_ratio) (sizes drawing))
     ≡ pad_of drawing.aspect_ratio ∷ sizes drawing
 raster-fields drawing is =
-    fields-numbers (pad_of drawing.aspect_ratio) (sizes drawing)
-    (omega (arith, pad-small drawing.aspect_ratio)) (AreFields-sizes drawing is)
+    fields-numbers _ _ (omega (arith, pad-small drawing.aspect_ratio)) (AreFields-sizes _ is)
 
 -- the fourth is the height
 pub raster-field3 : (drawing : Drawing) → IsWritable drawing

@@ -11,17 +11,17 @@ use Rattle.sixel_palette.specs.GainCut.{bin_step}
 use Rattle.sixel_palette.specs.declared.palette.refined.RefinedPalette.{RefinedPalette}
 use Rattle.sixel_palette.proofs.PaletteOne.{refined_same}
 use Rattle.sixel_palette.proofs.PaletteTops.{tops_alike}
-use Rattle.sixel_encoder.specs.declared.mapping.Mapping.{Mapping}
+use Rattle.sixel_palette.specs.declared.mapping.Mapping.{Mapping}
 use Rattle.sixel_encoder.specs.declared.form.TextForm.{TextForm}
-use Rattle.sixel_encoder.specs.Dithering.{AreDithered}
+use Rattle.sixel_palette.specs.Dithering.{AreDithered}
 use Rattle.sixel_encoder.specs.Encoding.{image_fault, shown_image}
-use Rattle.sixel_encoder.specs.IndexedDrawing.{IsPaletteText, indexed_drawing}
 use Rattle.sixel_encoder.specs.RefinedText.{IsRefinedText, ShowsEntries}
 use Rattle.sixel_encoder.proofs.PaletteText.{hidden-returned, rows-sound}
 use Rattle.sixel_encoder.proofs.SameDithering.{AreDithered-alike, drawing-alike, pixels-same}
-use Rattle.sixel_encoder.proofs.SameVisits.{AreAlike, AreAlike-images}
+use Rattle.sixel_palette.proofs.SameVisits.{AreAlike}
 use Rattle.sixel_encoder.proofs.SameDrawing.{IsShown-other}
 use Rattle.std.proofs.lemmas.Bool.Decides.{nat_tests}
+use Rattle.sixel_encoder.proofs.SameDrawing.{AreAlike-images}
 
 -- ---- the palette
 
@@ -85,16 +85,12 @@ IsRefinedText-other image other max_colors mapping form text sound e is =
     let indices = is.text.indices in
     let wide : image.width ≡ other.width = ap (λ s. s.width) e in
     let dithered : AreDithered mapping other.width other.pixels colors indices =
-    subst (λ (w : ℕ). AreDithered mapping w other.pixels colors indices) wide
-    (AreDithered-alike mapping image.width image.pixels other.pixels colors indices alike rows
-    is.text.dithered) in
-    let drawing : indexed_drawing image colors indices ≡ indexed_drawing other colors indices =
-    drawing-alike mapping image other colors indices indices e rows is.text.dithered dithered in
-    let own : IsPaletteText other colors mapping form text = grind (arith, nat_tests) in
+    rw wide at (AreDithered-alike mapping _ _ _ _ _ alike rows is.text.dithered) in
+    let drawing = drawing-alike mapping colors _ _ image other e rows is.text.dithered dithered in
     record {
       palette = is.palette;
       refined = IsRefined-other image other max_colors is.palette e is.refined;
-      text = own;
+      text = grind (arith, nat_tests);
       exact = subst ShowsEntries drawing is.exact;
     }
 
@@ -108,15 +104,10 @@ pub hidden-refined : {S : Type 0} (bytes : S → List ℕ) (result : Result S Si
     → shown_image image ≡ shown_image other → IsRefinedText other max_colors mapping form others
     → IfOk result (λ text. bytes text ≡ others)
 hidden-refined bytes (Ok text) image other most mapping form others rest fails small is e too =
+    let same = pixels-same image.pixels other.pixels (AreAlike-images image other e) in
     let colors =
-    (refined_same image.pixels other.pixels most is.palette too.palette small
-    (λ c shown. IsShown-other image other e c shown)
-    (λ c shown. IsShown-other other image (sym e) c shown)
-    (pixels-same image.pixels other.pixels (AreAlike-images image other e)) is.refined
-    too.refined).1 in
+    (refined_same _ _ most is.palette too.palette small (IsShown-other image other e)
+    (IsShown-other other image (sym e)) same is.refined too.refined).1 in
     hidden-returned bytes (Ok text) image other is.palette.colors.items mapping form others rest
-    fails is.text e
-    (subst (λ (c : List (List ℕ)). IsPaletteText other c mapping form others) (sym colors)
-    too.text)
-hidden-refined bytes (Err f) image other most mapping form others rest fails small is e too =
-    tt
+    fails is.text e (rw colors too.text)
+hidden-refined bytes (Err f) image other most mapping form others rest fails small is e too = tt

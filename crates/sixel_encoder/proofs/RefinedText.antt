@@ -6,8 +6,8 @@ use Rattle.sixel_base.specs.declared.error.SixelError.{SixelError}
 use Rattle.sixel_palette.specs.Refined.{IsRefined, IsRegisterColor}
 use Rattle.sixel_palette.specs.declared.palette.refined.RefinedPalette.{RefinedPalette}
 use Rattle.sixel_encoder.specs.declared.form.TextForm.{TextForm}
-use Rattle.sixel_encoder.specs.declared.mapping.Mapping.{Mapping}
-use Rattle.sixel_encoder.specs.Dithering.{AreDithered}
+use Rattle.sixel_palette.specs.declared.mapping.Mapping.{Mapping}
+use Rattle.sixel_palette.specs.Dithering.{AreDithered}
 use Rattle.sixel_encoder.specs.IndexedDrawing.{IsTextOf, indexed_drawing}
 use Rattle.sixel_encoder.specs.RefinedText.{IsRefinedText, ShowsEntries}
 use Rattle.sixel_encoder.specs.Trip.{rounded}

@@ -1,8 +1,7 @@
 -- The round trip: what the payload of marks that draw a drawing means is the drawing's trip,
 -- without a fault.
-use Rattle.std.specs.Prelude.{None, Option, slice_index_or}
-use Rattle.std.proofs.Common.{List, ap, arith, length, refl, ℕ, ◌*◌, ◌++◌}
-use Rattle.std.proofs.Common.{false, ◌<◌, ◌∙◌, ◌∷◌, ◌≡◌, ◌≤◌, []}
+use Rattle.std.specs.Prelude.{None, slice_index_or}
+use Rattle.std.proofs.Common.{List, arith, length, ℕ, ◌*◌, ◌++◌, false, ◌<◌, ◌∷◌, ◌≡◌, ◌≤◌, []}
 use Rattle.std.proofs.lemmas.List.{get_or_past}
 use Rattle.std.proofs.lemmas.List.FromFn.{get_or-map-range_with_len, length-map-range_with_len}
 use Rattle.std.proofs.lemmas.Nat.{mul-le}
@@ -50,61 +49,10 @@ entry_at-below : (drawing : Drawing) (column line : ℕ) → IsWritable drawing 
     → entry_at drawing column line ≡ None
 entry_at-below drawing column line is below = grind (arith, nat_tests, get_or_past, mul-le)
 
--- after the last mark
-Follows-tokens :
-    (drawing : Drawing) (definitions : List Definition) (marks : List Mark) (start : List (List ℕ))
-    → IsWritable drawing → Draws drawing definitions marks
-    → Follows drawing start (registers start (with_palette drawing definitions))
-    (moved_by marks first_pen) (tokens drawing definitions marks)
-Follows-tokens drawing definitions marks start is draws =
-    Follows-marks drawing start (registers start (with_palette drawing definitions)) first_pen marks
-    (with_palette drawing definitions) is draws.allowed
-    (Follows-palette start drawing definitions is)
-
--- each pixel is that of the trip
-pixel-trip : (drawing : Drawing) (definitions : List Definition) (marks : List Mark)
-    (origin : Origin) (column line : ℕ) → IsWritable drawing → Draws drawing definitions marks
-    → IsOrigin drawing origin → column < drawing.width
-    → pixel origin (tokens drawing definitions marks) column line
-    ≡ trip_pixel drawing (entry_at drawing column line)
-pixel-trip drawing definitions marks origin column line is draws from lc =
-    go (entry_at drawing column line) refl
-  where
-    palette : List (List ℕ)
-    palette = registers origin.registers (with_palette drawing definitions)
-
-    last : pixel origin (tokens drawing definitions marks) column line
-        ≡ color_in palette (background origin) (painted marks first_pen None column line)
-    last =
-        pixel-marks drawing origin palette (background origin) first_pen marks None
-        (with_palette drawing definitions) column line is draws.allowed
-        (Follows-palette origin.registers drawing definitions is)
-        (pixel-palette drawing definitions origin column line)
-
-    nothing : entry_at drawing column line ≡ None
-        → pixel origin (tokens drawing definitions marks) column line ≡ trip_pixel drawing None
-    nothing e = grind (arith, nat_tests, palette, last)
-
-    go : (place : Option ℕ) → entry_at drawing column line ≡ place
-        → pixel origin (tokens drawing definitions marks) column line
-        ≡ trip_pixel drawing (entry_at drawing column line)
-    go place e = grind (arith, nat_tests, register-palette, entry_at-below, palette, last, nothing)
-
 -- images with equal parts are equal
 pub image-same : (a b : Image) → a.pixels ≡ b.pixels → a.width ≡ b.width → a.height ≡ b.height
     → a.aspect_ratio ≡ b.aspect_ratio → a.background_mode ≡ b.background_mode → a ≡ b
 image-same a b pixels wide high shape mode = grind (arith, nat_tests)
-
--- the image of the tokens is the trip
-image-tokens :
-    (drawing : Drawing) (definitions : List Definition) (marks : List Mark) (origin : Origin)
-    → IsWritable drawing → Draws drawing definitions marks → IsOrigin drawing origin
-    → drawing.width ≤ origin.pixel_limit.columns
-    → 6 * bands drawing.height ≤ origin.pixel_limit.rows
-    → image_of origin (tokens drawing definitions marks) ≡ trip origin.raster_crop drawing
-image-tokens drawing definitions marks origin is draws from narrow low =
-    let follows = Follows-tokens drawing definitions marks origin.registers is draws in
-    grind (arith, cropped_height-tokens, picture-same, pixel-trip)
 
 -- ---- a new decoder with the text's settings
 
@@ -124,26 +72,50 @@ IsOrigin-new : (decoder : DecoderState) (drawing : Drawing)
     → IsOrigin drawing (origin_of decoder (drawing_settings drawing))
 IsOrigin-new decoder drawing new painted = grind (arith, length-default_registers, first_register)
 
--- the payload is read as the trip
-pub payload-trip : (decoder : DecoderState) (drawing : Drawing) (definitions : List Definition)
-    (marks : List Mark) (rest : List ℕ) → IsWritable drawing → Draws drawing definitions marks
-    → CanShow decoder drawing.width drawing.height
-    → payload_image (origin_of decoder (drawing_settings drawing))
-    (marks_payload drawing definitions marks ++ 27 ∷ rest) ≡ trip decoder.raster_crop drawing
-payload-trip decoder drawing definitions marks rest is draws can =
-    let origin : Origin = origin_of decoder (drawing_settings drawing) in
-    ap (image_of origin)
-    (effective-off decoder.pixel_limit
-    (history_of (front (marks_payload drawing definitions marks ++ 27 ∷ rest))) can.strict
-    ∙ payload-read drawing definitions marks rest is draws)
-    ∙ image-tokens drawing definitions marks origin is draws
-    (IsOrigin-new decoder drawing can.registers can.painted) can.columns can.rows
+module _ (drawing : Drawing) (definitions : List Definition) (marks : List Mark) where
+  -- after the last mark
+  Follows-tokens : (start : List (List ℕ)) → IsWritable drawing → Draws drawing definitions marks
+      → Follows drawing start (registers start (with_palette drawing definitions))
+      (moved_by marks first_pen) (tokens drawing definitions marks)
+  Follows-tokens start is draws =
+      Follows-marks _ is _ _ _ _ _ draws.allowed (Follows-palette _ start definitions is)
 
--- and has no fault within a limit that has room for it in whole bands
-pub payload-sound : (limit : Limit) (drawing : Drawing) (definitions : List Definition)
-    (marks : List Mark) (rest : List ℕ) → IsWritable drawing → Draws drawing definitions marks
-    → drawing.width * banded drawing.height ≤ limit.pixels
-    → payload_fault limit (marks_payload drawing definitions marks ++ 27 ∷ rest) ≡ None
-payload-sound limit drawing definitions marks rest is draws room =
-    let fits = (Follows-tokens drawing definitions marks [] is draws).fits in
-    grind (arith, nat_tests, payload-read, fault-sound, first_fault-other, mul-le)
+  -- each pixel is that of the trip
+  pixel-trip : (origin : Origin) (column line : ℕ) → IsWritable drawing
+      → Draws drawing definitions marks → IsOrigin drawing origin → column < drawing.width
+      → pixel origin (tokens drawing definitions marks) column line
+      ≡ trip_pixel drawing (entry_at drawing column line)
+  pixel-trip origin column line is draws from lc =
+      let last : pixel origin (tokens drawing definitions marks) column line
+      ≡ color_in (registers origin.registers (with_palette drawing definitions)) (background origin)
+      (painted marks first_pen None column line) =
+      grind (arith, nat_tests, Follows-palette, pixel-palette, pixel-marks) in
+      grind (arith, nat_tests, register-palette, entry_at-below)
+
+  -- the image of the tokens is the trip
+  image-tokens : (origin : Origin) → IsWritable drawing → Draws drawing definitions marks
+      → IsOrigin drawing origin → drawing.width ≤ origin.pixel_limit.columns
+      → 6 * bands drawing.height ≤ origin.pixel_limit.rows
+      → image_of origin (tokens drawing definitions marks) ≡ trip origin.raster_crop drawing
+  image-tokens origin is draws from narrow low =
+      let follows = Follows-tokens origin.registers is draws in
+      grind (arith, cropped_height-tokens, picture-same, pixel-trip)
+
+  -- the payload is read as the trip
+  pub payload-trip : (decoder : DecoderState) (rest : List ℕ) → IsWritable drawing
+      → Draws drawing definitions marks → CanShow decoder drawing.width drawing.height
+      → payload_image (origin_of decoder (drawing_settings drawing))
+      (marks_payload drawing definitions marks ++ 27 ∷ rest) ≡ trip decoder.raster_crop drawing
+  payload-trip decoder rest is draws can =
+      let text = marks_payload drawing definitions marks ++ 27 ∷ rest in
+      let whole = effective-off decoder.pixel_limit (history_of (front text)) can.strict in
+      rw (whole, payload-read drawing definitions marks is draws rest) (image-tokens _ is draws
+      (IsOrigin-new decoder drawing can.registers can.painted) can.columns can.rows)
+
+  -- and has no fault within a limit that has room for it in whole bands
+  pub payload-sound : (limit : Limit) (rest : List ℕ) → IsWritable drawing
+      → Draws drawing definitions marks → drawing.width * banded drawing.height ≤ limit.pixels
+      → payload_fault limit (marks_payload drawing definitions marks ++ 27 ∷ rest) ≡ None
+  payload-sound limit rest is draws room =
+      let fits = (Follows-tokens [] is draws).fits in
+      grind (arith, nat_tests, payload-read, fault-sound, first_fault-other, mul-le)

@@ -20,9 +20,7 @@ length-part rows a k h = length-take-le k (drop a rows) (omega (arith, length-dr
 pub part-row : (rows : List ℕ) (width entry k : ℕ) → k ≡ width → entry * width + width ≤ length rows
     → take k (drop (entry * width) rows) ≡ grid_row rows width entry
 part-row rows width entry k e h =
-    fill_by_all (cell rows width entry) (take k (drop (entry * width) rows)) width 0
-    (length-part rows (entry * width) k (omega arith) ∙ e)
-    (λ j l.
+    fill_by_all _ _ _ _ (length-part rows (entry * width) k (omega arith) ∙ e) (λ j l.
     get_or-take k (drop (entry * width) rows) j 0 (omega arith)
     ∙ get_or-drop (entry * width) rows j 0)
 
@@ -36,9 +34,8 @@ pub grid_row-same : (rows others : List ℕ) (width entry : ℕ)
     → ((x : ℕ) → x < width → cell rows width entry x ≡ cell others width entry x)
     → grid_row rows width entry ≡ grid_row others width entry
 grid_row-same rows others width entry h =
-    fill_by_all (cell others width entry) (grid_row rows width entry) width 0
-    (length-map-range_with_len (cell rows width entry) 0 width)
-    (λ x l. get_or-map-range_with_len (cell rows width entry) 0 width x x 0 l (omega arith) ∙ h x l)
+    fill_by_all _ _ _ _ (length-map-range_with_len (cell rows width entry) 0 width)
+    (λ x l. get_or-map-range_with_len (cell rows width entry) _ _ _ _ 0 l (omega arith) ∙ h x l)
 
 pub put-before : (xs ys : List ℕ) (a k n : ℕ) → a ≤ length xs → n < a
     → get_or (put_mid a k xs ys) n 0 ≡ get_or xs n 0
@@ -60,11 +57,6 @@ pub cell-put_other : (rows ys : List ℕ) (width entry k e x : ℕ) → k ≡ wi
     → cell (put_mid (entry * width) k rows ys) width e x ≡ cell rows width e x
 cell-put_other rows ys width entry k e x ek el h apart lx =
     elim (cases_lt e entry) [
-      | inl lt ↦ put-before rows ys (entry * width) k (e * width + x) (omega arith)
-          (omega (arith, mul-le (e + 1) width entry width (omega arith) (omega arith)))
-      | inr ge ↦
-          let gt : entry + 1 ≤ e =
-          elim (cases_lt entry e) [ inl l ↦ omega arith | inr l ↦ absurd (apart (omega arith)) ] in
-          put-after rows ys (entry * width) k (e * width + x) (omega arith) el
-          (omega (arith, mul-le (entry + 1) width e width gt (omega arith)))
+      | inl lt ↦ grind (arith, nat_tests, put-before, mul-le (e + 1) width entry width)
+      | inr ge ↦ grind (arith, nat_tests, put-after, mul-le (entry + 1) width e width)
     ]

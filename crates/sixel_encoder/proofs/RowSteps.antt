@@ -69,9 +69,7 @@ Moved-run_tokens : (tokens : List RunToken) (h : History) → AreSound tokens �
 Moved-run_tokens [] h are one = Moved-none h one
 Moved-run_tokens (token ∷ tokens) h are one =
     let first = Moved-run_token token h are.0 one in
-    Moved-more (sixels token) (flat_map sixels tokens) h (with_run_token token h)
-    (with_run_tokens tokens (with_run_token token h)) first
-    (Moved-run_tokens tokens (with_run_token token h) are.1 first.single)
+    Moved-more _ _ h _ _ first (Moved-run_tokens tokens _ are.1 first.single)
 
 -- a row of six bits per sixel, written in run-length tokens, is drawn
 pub Moved-row : (row : List ℕ) (h : History) → All (λ bits. bits < 64) row → span h ≡ 1

@@ -1,7 +1,6 @@
 -- How many bytes a run of equal sixels takes, and that cutting it in two saves none.
-use Rattle.std.proofs.Common.{◌≡◌, ℕ, ◌+◌, ◌*◌, ◌/◌, ◌%◌, ◌^◌, ◌<◌, ◌≤◌, nat_lt}
-use Rattle.std.proofs.Common.{List, ◌∷◌, ◌++◌, length, replicate, refl, ap, ◌∙◌}
-use Rattle.std.proofs.Common.{arith, length-append, zero, suc, inl, inr, []}
+use Rattle.std.proofs.Common.{◌≡◌, ℕ, ◌+◌, ◌*◌, ◌/◌, ◌%◌, ◌^◌, ◌<◌, ◌≤◌, nat_lt, List, ◌∷◌, ◌++◌}
+use Rattle.std.proofs.Common.{length, replicate, refl, ap, ◌∙◌, arith, length-append, zero, suc, []}
 use Rattle.std.specs.Prelude.{if◌then◌else◌, decimal}
 use Rattle.std.proofs.lemmas.Bool.{cases_lt}
 use Rattle.std.proofs.lemmas.Bool.Decides.{nat_tests}
@@ -64,12 +63,8 @@ add-below m n le small = grind (arith, nat_tests, bounds, tier)
 -- two rests that make no whole run cost at least the rest that they make
 rest_cost-add : (m n : ℕ) → m + n < repeat_limit → rest_cost (m + n) ≤ rest_cost m + rest_cost n
 rest_cost-add m n small =
-    elim (cases_lt m n) [
-      | inl lt ↦
-          let s : m + n ≡ n + m = omega arith in
-          omega (arith, ap rest_cost s, add-below n m (omega arith) (omega arith))
-      | inr le ↦ add-below m n le small
-    ]
+    let turned : m + n ≡ n + m = omega arith in
+    grind (arith, nat_tests, cases_lt m n, add-below)
 
 -- two rests that make a whole run cost at least that run and what is left
 rest_cost-over : (m n k : ℕ) → m < repeat_limit → n < repeat_limit → m + n ≡ repeat_limit + k
@@ -83,13 +78,9 @@ cut-at : (p q r s : ℕ) → r < repeat_limit → s < repeat_limit
     → run_cost (repeat_limit * p + r + (repeat_limit * q + s))
     ≤ (7 * p + rest_cost r) + (7 * q + rest_cost s)
 cut-at p q r s hr hs =
-    elim (cases_lt (r + s) repeat_limit) [
-      | inl lt ↦
-          let e : repeat_limit * p + r + (repeat_limit * q + s)
-          ≡ repeat_limit * (p + q) + (r + s) = omega arith in
-          omega (arith, ap run_cost e, run_cost-is (p + q) (r + s) lt, rest_cost-add r s lt)
-      | inr ge ↦ grind (arith, nat_tests, run_cost-is, rest_cost-over)
-    ]
+    let over = cases_lt (r + s) repeat_limit in
+    let run = run_cost-is (p + q) (r + s) in
+    grind (arith, nat_tests, rest_cost-add r s, run_cost-is, rest_cost-over)
 
 -- cutting a run in two saves no byte
 pub run_cut : (m n : ℕ) → run_cost (m + n) ≤ run_cost m + run_cost n

@@ -23,7 +23,7 @@ use Rattle.sixel_palette.proofs.PaletteOrder.{entry-apart, members_from_order}
 use Rattle.sixel_palette.proofs.PaletteSize.{near_from_contains, size-le}
 use Rattle.sixel_palette.proofs.PaletteChoices.{three_from_shown}
 use Rattle.sixel_encoder.specs.Text.{Drawing, entry_at, bands}
-use Rattle.sixel_encoder.specs.Trip.{IsWritable, CanRead, rounded, blank, trip_pixel, trip_height}
+use Rattle.sixel_encoder.specs.Trip.{IsWritable, CanRead, rounded, trip_pixel, trip_height}
 use Rattle.sixel_encoder.specs.Trip.{trip, IsTrip, IsReadAs, IsOneString, is_used, bands_up_to}
 use Rattle.sixel_encoder.specs.Encoding.{image_fault, IsDrawing, IsText}
 use Rattle.sixel_encoder.proofs.RoundTrip.{picture-same, image-same}
@@ -53,17 +53,14 @@ complete_from_order M three entries n order size room c m =
     far_from_others M least size.0 (entries ++ c ∷ []) apart
     (All-push M entries c (members_from_order M entries order) m)
     (omega (arith, length_push entries c, size.2)) in
-    Contains-nearest entries c
-    (λ k d h. three _ (members_from_order M entries order k d h))
-    (three c m)
-    (near_from_contains size.0 far.0 least (size.1.complete far.0 far.1) far.2)
+    Contains-nearest entries c (λ k d h. three _ (members_from_order M entries order k d h))
+    (three c m) (near_from_contains size.0 far.0 least (size.1.complete far.0 far.1) far.2)
 
 -- the nearest entry to a color among the entries is the color
 nearest-held : (entries : List (List ℕ)) (c : List ℕ) (i : ℕ) → All (λ p. length p ≡ 3) entries
     → length c ≡ 3 → Contains entries c → IsNearest entries c i → slice_index_or entries i [] ≡ c
 nearest-held entries c i three long held near =
-    let place : slice_index_or entries held.0 [] ≡ c =
-    get_or_default entries held.0 [] c held.1 ∙ held.2 in
+    let place = get_or_default entries held.0 [] c held.1 in
     grind (arith, nat_tests, distance_self, same_from_distance)
 
 -- ---- an image and its trip, each drawn with as many colors
@@ -75,125 +72,81 @@ record Again (crop : Bool) (max_colors : ℕ) (image : Image) (first second : Dr
   mode : first.background_mode ≡ Transparent
   drawn : IsDrawing (trip crop first) max_colors second
 
--- the trip shows no more colors than the first palette has
-size-shown : (crop : Bool) (max_colors n : ℕ) (image : Image) (first second : Drawing)
-    → Again crop max_colors image first second → HasSize (IsShown (trip crop first).pixels) n
-    → n ≤ length first.colors
-size-shown crop max_colors n image first second again size =
-    omega (
-      arith,
-      size.2,
-      length-map first.colors (map rounded),
+module _ (crop : Bool) (max_colors : ℕ) (image : Image) (first second : Drawing) where
+  -- the trip shows no more colors than the first palette has
+  size-shown : (n : ℕ) → Again crop max_colors image first second
+      → HasSize (IsShown (trip crop first).pixels) n → n ≤ length first.colors
+  size-shown n again size =
+      let fewer =
       size-le (IsShown (trip crop first).pixels) (three_from_shown (trip crop first).pixels) size.0
-          (map (map rounded) first.colors) size.1
-          (λ c m. shown-among crop first c again.is again.mode m),
-    )
+      (map (map rounded) first.colors) size.1 (λ c m. shown-among _ _ _ again.is again.mode m) in
+      omega (arith, size.2, length-map first.colors (map rounded), fewer)
 
--- so the second palette holds them all
-held : (crop : Bool) (max_colors : ℕ) (image : Image) (first second : Drawing) (c : List ℕ)
-    → Again crop max_colors image first second → IsShown (trip crop first).pixels c
-    → Contains second.colors c
-held crop max_colors image first second c again m =
-    let size = again.drawn.palette.size in
-    let before = again.from.palette.size in
-    complete_from_order (IsShown (trip crop first).pixels)
-    (three_from_shown (trip crop first).pixels) second.colors size.0 again.drawn.palette.order
-    size.1
-    (omega
-    (arith, size.2, before.2, size-shown crop max_colors size.0 image first second again size.1)) c
-    m
-
--- the entries have three channels each
-all_three : (crop : Bool) (max_colors : ℕ) (image : Image) (first second : Drawing)
-    → Again crop max_colors image first second → All (λ p. length p ≡ 3) second.colors
-all_three crop max_colors image first second again = λ k d l.
-    three_from_shown (trip crop first).pixels _
-    (members_from_order (IsShown (trip crop first).pixels) second.colors again.drawn.palette.order k
-    d l)
-
--- a pixel with an entry has one again, of its rounded color
-again-some :
-    (crop : Bool) (max_colors : ℕ) (image : Image) (first second : Drawing) (place entry : ℕ)
-    → Again crop max_colors image first second → place < first.width * trip_height crop first
-    → entry_in first place ≡ Some entry
-    → (i : ℕ) × (entry_in second place ≡ Some i) × (i < length second.colors)
-    × (slice_index_or second.colors i [] ≡ rounded_entry first entry)
-again-some crop max_colors image first second place entry again l e =
-    let alpha = alpha-some crop first place entry again.is l e in
-    let opaque : IsOpaque (trip crop first).pixels place = omega arith in
-    let color = color-some crop first place entry again.is l e in
-    let all = length-trip crop first again.is in
-    let c : List ℕ = color_at (trip crop first).pixels place in
-    let shown : IsShown (trip crop first).pixels c = (place, omega arith, opaque, refl) in
-    let found = again.drawn.shown place (omega arith) opaque in (
-      found.0,
-      found.1,
-      found.2.entry,
-      nearest-held second.colors c found.0 (all_three crop max_colors image first second again) refl
-          (held crop max_colors image first second c again shown) found.2 ∙ color,
-    )
-
--- a pixel with none has none again
-again-none : (crop : Bool) (max_colors : ℕ) (image : Image) (first second : Drawing) (place : ℕ)
-    → Again crop max_colors image first second → place < first.width * trip_height crop first
-    → entry_in first place ≡ None → entry_in second place ≡ None
-again-none crop max_colors image first second place again l e =
-    grind (arith, nat_tests, alpha-none, length-trip)
+  -- so the second palette holds them all
+  held : (c : List ℕ) → Again crop max_colors image first second
+      → IsShown (trip crop first).pixels c → Contains second.colors c
+  held c again m =
+      let size = again.drawn.palette.size in
+      let few = size-shown size.0 again size.1 in
+      complete_from_order _ (three_from_shown (trip crop first).pixels) _ size.0
+      again.drawn.palette.order size.1 (omega (arith, size.2, again.from.palette.size.2, few)) c m
 
 -- a color that was rounded stays
 rounded-all : (c : List ℕ) → map rounded (map rounded c) ≡ map rounded c
 rounded-all [] = refl
 rounded-all (n ∷ c) = grind (arith, nat_tests, rounded-rounded, rounded-all c)
 
--- each pixel is the same again
-pixel-again : (crop : Bool) (max_colors : ℕ) (image : Image) (first second : Drawing) (place : ℕ)
-    → Again crop max_colors image first second → place < first.width * trip_height crop first
-    → trip_pixel second (entry_in second place) ≡ trip_pixel first (entry_in first place)
-pixel-again crop max_colors image first second place again l = go (entry_in first place) refl
-  where
-    go : (v : Option ℕ) → entry_in first place ≡ v
-        → trip_pixel second (entry_in second place) ≡ trip_pixel first (entry_in first place)
-    go None e =
-        ap (trip_pixel second) (again-none crop max_colors image first second place again l e)
-        ∙ (ap blank again.drawn.background_mode ∙ ap (trip_pixel first) (sym e))
-    go (Some entry) e =
-        let found = again-some crop max_colors image first second place entry again l e in
-        grind (arith, nat_tests, rounded-all)
+module _ (crop : Bool) (max_colors : ℕ) (image : Image) (first second : Drawing)
+    (again : Again crop max_colors image first second) where
+  -- the entries have three channels each
+  all_three : All (λ p. length p ≡ 3) second.colors
+  all_three = λ k d l.
+      three_from_shown _ _ (members_from_order _ _ again.drawn.palette.order k d l)
 
--- ---- the height
+  -- a pixel with an entry has one again, of its rounded color
+  again-some : (place entry : ℕ) → place < first.width * trip_height crop first
+      → entry_in first place ≡ Some entry
+      → (i : ℕ) × (entry_in second place ≡ Some i) × (i < length second.colors)
+      × (slice_index_or second.colors i [] ≡ rounded_entry first entry)
+  again-some place entry l e =
+      let alpha = alpha-some crop first place again.is l entry e in
+      let opaque : IsOpaque (trip crop first).pixels place = omega arith in
+      let color = color-some crop first place again.is l entry e in
+      let all = length-trip crop first again.is in
+      let c : List ℕ = color_at (trip crop first).pixels place in
+      let found = again.drawn.shown place (omega arith) opaque in
+      let kept =
+      held crop max_colors image first second c again (place, omega arith, opaque, refl) in
+      (found.0, found.1, found.2.entry, nearest-held _ c _ all_three refl kept found.2 ∙ color)
 
--- a band with a place that has an entry again was used
-used-from_again :
-    (crop : Bool) (max_colors : ℕ) (image : Image) (first second : Drawing) (band i entry : ℕ)
-    → Again crop max_colors image first second → i < 6 * first.width
-    → 6 * band * first.width + i < first.width * trip_height crop first
-    → entry_in second (6 * band * first.width + i) ≡ Some entry → is_used first band ≡ true
-used-from_again crop max_colors image first second band i entry again low inside e =
-    go (entry_in first (6 * band * first.width + i)) refl
-  where
-    go : (v : Option ℕ) → entry_in first (6 * band * first.width + i) ≡ v
-        → is_used first band ≡ true
-    go None f =
-        let none =
-        again-none crop max_colors image first second (6 * band * first.width + i) again inside f in
-        absurd cc
-    go (Some old) f =
-        window-any first.entries (6 * band * first.width) (6 * first.width) i old low
-        (known_in first (6 * band * first.width + i) old again.is f).0 f
+  -- a pixel with none has none again
+  again-none : (place : ℕ) → place < first.width * trip_height crop first
+      → entry_in first place ≡ None → entry_in second place ≡ None
+  again-none place l e = grind (arith, nat_tests, alpha-none, length-trip)
 
--- a band that is used again was used
-used-again : (crop : Bool) (max_colors : ℕ) (image : Image) (first second : Drawing) (band : ℕ)
-    → Again crop max_colors image first second → is_used second band ≡ true
-    → is_used first band ≡ true
-used-again crop max_colors image first second band again used =
-    let wide : second.width ≡ first.width = again.drawn.width in
-    let found = window-some second.entries (6 * band * second.width) (6 * second.width) used in
-    let same : 6 * band * second.width + found.0 ≡ 6 * band * first.width + found.0 =
-    ap (λ w. 6 * band * w + found.0) wide in
-    used-from_again crop max_colors image first second band found.0 found.3.0 again
-    (omega (arith, found.1, wide))
-    (omega (arith, found.2, again.drawn.size, same, length-trip crop first again.is))
-    (ap (entry_in second) (sym same) ∙ found.3.1)
+  -- each pixel is the same again
+  pixel-again : (place : ℕ) → place < first.width * trip_height crop first
+      → trip_pixel second (entry_in second place) ≡ trip_pixel first (entry_in first place)
+  pixel-again place l = grind (arith, nat_tests, again-none, again-some, rounded-all)
+
+  -- ---- the height
+
+  -- a band with a place that has an entry again was used
+  used-from_again : (band i entry : ℕ) → i < 6 * first.width
+      → 6 * band * first.width + i < first.width * trip_height crop first
+      → entry_in second (6 * band * first.width + i) ≡ Some entry → is_used first band ≡ true
+  used-from_again band i entry low inside e = go (entry_in first (6 * band * first.width + i)) refl
+    where
+      go : (v : Option ℕ) → entry_in first (6 * band * first.width + i) ≡ v
+          → is_used first band ≡ true
+      go None f = let none = again-none (6 * band * first.width + i) inside f in absurd cc
+      go (Some old) f = window-any _ _ _ _ _ low (known_in _ _ _ again.is f).0 f
+
+  -- a band that is used again was used
+  used-again : (band : ℕ) → is_used second band ≡ true → is_used first band ≡ true
+  used-again band used =
+      let found = window-some second.entries (6 * band * second.width) (6 * second.width) in
+      grind (arith, nat_tests, length-trip, used-from_again, entry_in)
 
 -- fewer used bands end no later
 bands_up_to-less : (test other : ℕ → Bool) (n : ℕ) → ((k : ℕ) → test k ≡ true → other k ≡ true)
@@ -213,7 +166,7 @@ height-again false max_colors image first second again =
     let same = ap (bands_up_to (is_used second)) count in
     let less =
     bands_up_to-less (is_used second) (is_used first) (bands first.height)
-    (λ k yes_k. used-again false max_colors image first second k again yes_k) in
+    (λ k yes_k. used-again false max_colors image first second again k yes_k) in
     omega arith
 
 -- ---- the image
@@ -224,14 +177,11 @@ pixels-again : (crop : Bool) (max_colors : ℕ) (image : Image) (first second : 
     → (trip crop second).pixels ≡ (trip crop first).pixels
 pixels-again crop max_colors image first second again =
     let p : ℕ → ℕ → List ℕ = λ column row. trip_pixel second (entry_at second column row) in
-    let q : ℕ → ℕ → List ℕ = λ column row. trip_pixel first (entry_at first column row) in
     ap (λ w. picture p w (trip_height crop second)) again.drawn.width
-    ∙ (ap (picture p first.width) (height-again crop max_colors image first second again)
-    ∙ picture-same p q first.width (trip_height crop first)
-    (λ column line lc ll.
+    ∙ (ap (picture p first.width) (height-again _ _ _ _ _ again)
+    ∙ picture-same _ _ _ _ (λ column line lc ll.
     ap (λ w. trip_pixel second (entry_in second (line * w + column))) again.drawn.width
-    ∙ pixel-again crop max_colors image first second (line * first.width + column) again
-    (mul-add-lt line first.width column (trip_height crop first) ll lc)))
+    ∙ pixel-again _ max_colors image _ second again _ (mul-add-lt _ _ _ _ ll lc)))
 
 -- a second trip changes nothing
 pub trip-again : (crop : Bool) (image : Image) (max_colors : ℕ) (drawing : Drawing)
@@ -246,27 +196,8 @@ trip-again crop image max_colors drawing was mode drawn =
       mode = sym (ap (λ (i : Image). i.background_mode) same) ∙ mode;
       drawn = subst (λ (i : Image). IsDrawing i max_colors drawing) same drawn;
     } in
-    image-same (trip crop drawing) (trip crop first)
-    (pixels-again crop max_colors was.0 first drawing again) again.drawn.width
-    (height-again crop max_colors was.0 first drawing again) again.drawn.aspect_ratio
-    again.drawn.background_mode
-    ∙ sym same
-
--- ---- the text of an image
-
--- it is read back as the trip of the image's drawing
-pub image-read_back : (decoder : DecoderState) (image : Image) (max_colors : ℕ) (text : List ℕ)
-    → image_fault image ≡ None → All (λ byte. byte < 256) image.pixels
-    → CanRead decoder image.width image.height → IsText image max_colors text
-    → (drawing : Drawing) × IsDrawing image max_colors drawing
-    × IsReadAs decoder text (trip decoder.raster_crop drawing)
-image-read_back decoder image max_colors text sound bytes reads is = (
-  is.0,
-  is.1,
-  subst (λ (t : List ℕ). IsReadAs decoder t (trip decoder.raster_crop is.0)) (sym is.2)
-      (text-trip decoder is.0 (IsWritable-drawn image max_colors is.0 is.1 sound bytes)
-      (CanRead-drawn decoder image max_colors is.0 is.1 reads)),
-)
+    image-same _ _ (pixels-again _ _ _ _ _ again) again.drawn.width (height-again _ _ _ _ _ again)
+    again.drawn.aspect_ratio again.drawn.background_mode ∙ sym same
 
 -- it is one control string
 pub image-one_string : (limit : Limit) (image : Image) (max_colors : ℕ) (text : List ℕ)
@@ -274,21 +205,27 @@ pub image-one_string : (limit : Limit) (image : Image) (max_colors : ℕ) (text 
     → image.width * banded image.height ≤ limit.pixels → IsText image max_colors text
     → IsOneString limit text
 image-one_string limit image max_colors text sound bytes room is =
-    subst (IsOneString limit) (sym is.2) (IsOneString-text limit is.0
-    (IsWritable-drawn image max_colors is.0 is.1 sound bytes)
-    (omega (arith, room, area-drawn image max_colors is.0 is.1)))
+    let writable = IsWritable-drawn image max_colors is.0 is.1 in
+    grind (arith, nat_tests, IsOneString-text limit is.0, area-drawn image max_colors is.0 is.1)
 
--- a transparent trip is read back as it is
-pub text-again : (decoder : DecoderState) (image : Image) (max_colors : ℕ) (text : List ℕ)
-    → IsTrip decoder.raster_crop image max_colors → image.background_mode ≡ Transparent
-    → CanRead decoder image.width image.height → IsText image max_colors text
-    → IsReadAs decoder text image
-text-again decoder image max_colors text was mode reads is =
-    let crop : Bool = decoder.raster_crop in
-    let first = IsWritable-drawn was.0 max_colors was.1 was.4 was.2 was.3 in
-    let sound : image_fault image ≡ None =
-    ap image_fault was.5 ∙ image_fault-trip crop was.1 first in
-    let bytes : All (λ byte. byte < 256) image.pixels = grind (arith, nat_tests, bytes-trip) in
-    let read = image-read_back decoder image max_colors text sound bytes reads is in
-    subst (λ (i : Image). IsReadAs decoder text i)
-    (trip-again crop image max_colors read.0 was mode read.1) read.2
+module _ (decoder : DecoderState) (image : Image) (max_colors : ℕ) (text : List ℕ)
+    (reads : CanRead decoder image.width image.height) (is : IsText image max_colors text) where
+  -- ---- the text of an image
+
+  -- it is read back as the trip of the image's drawing
+  pub image-read_back : image_fault image ≡ None → All (λ byte. byte < 256) image.pixels
+      → (drawing : Drawing) × IsDrawing image max_colors drawing
+      × IsReadAs decoder text (trip decoder.raster_crop drawing)
+  image-read_back sound bytes =
+      let can = CanRead-drawn image max_colors is.0 is.1 decoder in
+      grind (arith, nat_tests, IsWritable-drawn image max_colors is.0 is.1, text-trip decoder is.0)
+
+  -- a transparent trip is read back as it is
+  pub text-again : IsTrip decoder.raster_crop image max_colors → image.background_mode ≡ Transparent
+      → IsReadAs decoder text image
+  text-again was mode =
+      let first = IsWritable-drawn was.0 max_colors was.1 was.4 was.2 was.3 in
+      let sound : image_fault image ≡ None = grind (arith, nat_tests, image_fault-trip) in
+      let bytes : All (λ byte. byte < 256) image.pixels = grind (arith, nat_tests, bytes-trip) in
+      let read = image-read_back sound bytes in
+      rw (trip-again _ _ _ _ was mode read.1) at read.2

@@ -1,7 +1,7 @@
 -- The segments that a compact text draws have each pixel of the drawing once.
 use Rattle.std.specs.Int.{bit_at}
 use Rattle.std.specs.Prelude.{None, Option, Some, is_some, slice_index, slice_index_or, ◌%◌, ◌/◌}
-use Rattle.std.proofs.Common.{Bool, List, ap, arith, false, inl, inr, length, not, refl, subst}
+use Rattle.std.proofs.Common.{Bool, List, arith, false, inl, inr, length, not, refl}
 use Rattle.std.proofs.Common.{suc, true, zero, ℕ, ◌*◌, ◌+◌, ◌<◌, ◌∷◌, ◌≡◌, ◌≤◌, []}
 use Rattle.std.proofs.lemmas.Bool.{cases_eq}
 use Rattle.std.proofs.lemmas.Bool.Decides.{nat_tests}
@@ -9,7 +9,7 @@ use Rattle.std.proofs.lemmas.List.FromFn.{get_or-map-range_with_len, length-map-
 use Rattle.sixel_encoder.specs.declared.segments.Segment.{Segment}
 use Rattle.sixel_encoder.specs.Compact.{band_register, register_after, transparent_row}
 use Rattle.sixel_encoder.specs.Compact.{transparent_sixel}
-use Rattle.sixel_encoder.specs.Segments.{band_segments, drawn_segments, gap_of}
+use Rattle.sixel_encoder.specs.Segments.{drawn_segments, gap_of}
 use Rattle.sixel_encoder.specs.Segments.{segments_up_to, with_pixel, with_place}
 use Rattle.sixel_encoder.specs.Text.{Drawing, entry_at}
 use Rattle.sixel_encoder.specs.Trip.{is_used}
@@ -33,13 +33,9 @@ record AreOf (drawing : Drawing) (band n : ℕ) (segments : List Segment) : Type
 -- one more pixel
 AreOf-place : (drawing : Drawing) (band n : ℕ) (place : Option ℕ) (segments : List Segment)
     → entry_at drawing (n / 6) (6 * band + n % 6) ≡ place
-    → ((e : ℕ) → place ≡ Some e → e < length drawing.colors)
-    → AreOf drawing band n segments
+    → ((e : ℕ) → place ≡ Some e → e < length drawing.colors) → AreOf drawing band n segments
     → AreOf drawing band (suc n) (with_place (gap_of drawing) (n / 6) place segments)
-AreOf-place drawing band n None segments is known was = record {
-  cut = grind (arith, nat_tests, AreCut-wider);
-  whole = λ k e l at. grind (arith, nat_tests);
-}
+AreOf-place drawing band n None segments is known was = grind (arith, nat_tests, AreCut-wider)
 AreOf-place drawing band n (Some entry) segments is known was =
     let gap : ℕ = gap_of drawing in
     let bound : (n + 5) / 6 ≤ n / 6 + 1 = omega arith in
@@ -47,17 +43,10 @@ AreOf-place drawing band n (Some entry) segments is known was =
     let entries : ℕ = length drawing.colors in
     let grown : List Segment = with_pixel gap (n / 6) entry segments in
     record {
-      cut =
-          subst (λ (b : ℕ). AreCut gap entries b grown) next
-          (AreCut-pixel gap entries ((n + 5) / 6) (n / 6) entry segments bound
-          (known entry refl) was.cut);
+      cut = grind (arith, nat_tests, entry, AreCut, grown, AreCut-pixel, bound, known);
       whole = λ k e l at. elim (cases_eq k n) [
         | inl same ↦ grind (arith, nat_tests, own-pixel, some-same)
-        | inr apart ↦
-            let more =
-            tally-pixel gap entries ((n + 5) / 6) (n / 6) entry (k / 6) e segments bound
-            was.cut in
-            omega (arith, more, was.whole k e (omega arith) at)
+        | inr apart ↦ grind (arith, nat_tests, tally-pixel, was.whole k e)
       ];
     }
   where
@@ -70,25 +59,6 @@ AreKnown drawing =
     (place entry : ℕ) → slice_index_or drawing.entries place None ≡ Some entry
     → entry < length drawing.colors
 
--- all of them
-AreOf-band : (drawing : Drawing) (band n : ℕ) → AreKnown drawing
-    → AreOf drawing band n (segments_up_to drawing band n)
-unfolding segments_up_to
-AreOf-band drawing band zero known = grind (arith, nat_tests)
-AreOf-band drawing band (suc n) known =
-    AreOf-place drawing band n (entry_at drawing (n / 6) (6 * band + n % 6))
-    (segments_up_to drawing band n) refl
-    (λ e at. known ((6 * band + n % 6) * drawing.width + n / 6) e at)
-    (AreOf-band drawing band n known)
-
--- a band that is not used has no segment
-unused-segments : (drawing : Drawing) (band n : ℕ) → is_used drawing band ≡ false
-    → n ≤ 6 * drawing.width → segments_up_to drawing band n ≡ []
-unfolding segments_up_to
-unused-segments drawing band zero unused l = refl
-unused-segments drawing band (suc n) unused l =
-    grind (arith, nat_tests, unused-places, unused-segments drawing band n unused (omega arith))
-
 -- ---- the segments in the order in which they are drawn
 
 -- the segments that are cut are the drawing's
@@ -97,16 +67,28 @@ known-cut : (drawing : Drawing) (gap bound : ℕ) (segments : List Segment)
     → tally (λ s. not (is_segment drawing s)) segments ≡ 0
 known-cut drawing gap bound [] l are = refl
 known-cut drawing gap bound (segment ∷ segments) l are =
-    grind (arith, nat_tests, known-cut drawing gap bound segments l are.4, here)
-  where
-    here : segment.entry < length drawing.colors → segment.first < segment.end
-        → segment.end ≤ drawing.width → one (not (is_segment drawing segment)) ≡ 0
-    here entry some within = grind (arith, nat_tests)
+    grind (arith, nat_tests, known-cut drawing gap bound segments, one, is_segment)
 
--- a band that is drawn is used
-pub used-drawn : (drawing : Drawing) (band : ℕ) → 0 < length (drawn_segments drawing band)
-    → is_used drawing band ≡ true
-used-drawn drawing band some = grind (arith, nat_tests, passes-none, unused-segments)
+module _ (drawing : Drawing) (band : ℕ) where
+  -- all of them
+  AreOf-band : (n : ℕ) → AreKnown drawing → AreOf drawing band n (segments_up_to drawing band n)
+  unfolding segments_up_to
+  AreOf-band zero known = grind (arith, nat_tests)
+  AreOf-band (suc n) known =
+      AreOf-place _ _ _ _ _ refl (λ e at. known ((6 * band + n % 6) * drawing.width + n / 6) e at)
+      (AreOf-band n known)
+
+  -- a band that is not used has no segment
+  unused-segments : (n : ℕ) → is_used drawing band ≡ false → n ≤ 6 * drawing.width
+      → segments_up_to drawing band n ≡ []
+  unfolding segments_up_to
+  unused-segments zero unused l = refl
+  unused-segments (suc n) unused l =
+      grind (arith, nat_tests, unused-places, unused-segments n unused (omega arith))
+
+  -- a band that is drawn is used
+  pub used-drawn : 0 < length (drawn_segments drawing band) → is_used drawing band ≡ true
+  used-drawn some = grind (arith, nat_tests, passes-none, unused-segments)
 
 -- the bit of a transparent pixel when a band begins
 transparent-bit : (drawing : Drawing) (band column bit : ℕ) → column < drawing.width → bit < 6
@@ -124,34 +106,23 @@ opaque-bit drawing band column bit entry lc lb e = grind (arith, nat_tests, not,
 -- when a band begins all its segments are left
 pub AreLeft-drawn : (drawing : Drawing) (band : ℕ) → AreKnown drawing
     → AreLeft drawing band (transparent_row drawing band) (drawn_segments drawing band)
-AreLeft-drawn drawing band known = record {
-  size = length-map-range_with_len (transparent_sixel drawing band) 0 drawing.width;
-  known = grind (arith, nat_tests, tally-drawn, not, known-cut, gap, bound, of);
-  transparent = λ column bit lc lb e.
-      transparent-bit drawing band column bit lc lb true (ap (λ p. not (is_some p)) e);
-  once = λ column bit entry lc lb e.
-      let k : ℕ = 6 * column + bit in
-      let at : k / 6 ≡ column = omega arith in
-      grind (arith, nat_tests, tally-drawn, few-cut, opaque-bit, gap, bound, of);
-}
-  where
-    gap : ℕ
-    gap = gap_of drawing
-
-    bound : ℕ
-    bound = (6 * drawing.width + 5) / 6
-
-    of : AreOf drawing band (6 * drawing.width) (band_segments drawing band)
-    of = AreOf-band drawing band (6 * drawing.width) known
+AreLeft-drawn drawing band known =
+    let of = AreOf-band drawing band (6 * drawing.width) known in
+    record {
+      size = length-map-range_with_len (transparent_sixel drawing band) 0 drawing.width;
+      known = grind (arith, nat_tests, tally-drawn, not, known-cut);
+      transparent = λ column bit lc lb e. grind (arith, nat_tests, bit, transparent-bit);
+      once = λ column bit entry lc lb e.
+          let at : (6 * column + bit) / 6 ≡ column = omega arith in
+          grind (arith, nat_tests, tally-drawn, few-cut, opaque-bit);
+    }
 
 -- each segment that is drawn is one of the drawing's
 pub IsSegment-drawn : (drawing : Drawing) (band k : ℕ) → AreKnown drawing
     → k < length (drawn_segments drawing band)
     → IsSegment drawing (nth (drawn_segments drawing band) k)
 IsSegment-drawn drawing band k known l =
-    segment-is drawing (nth (drawn_segments drawing band) k)
-    (each-tally (is_segment drawing) (drawn_segments drawing band)
-    (AreLeft-drawn drawing band known).known k l)
+    segment-is _ _ (each-tally _ _ (AreLeft-drawn _ band known).known _ l)
 
 -- ---- the register that is selected
 
@@ -162,7 +133,6 @@ register_after-none drawing = refl
 
 -- after one band more
 pub register_after-more : (drawing : Drawing) (band : ℕ)
-    → register_after drawing (band + 1)
-    ≡ band_register drawing band (register_after drawing band)
+    → register_after drawing (band + 1) ≡ band_register drawing band (register_after drawing band)
 unfolding register_after
 register_after-more drawing band = grind (arith, nat_tests)

@@ -1,7 +1,7 @@
 -- One pixel more in the segments of a band, and the last segment of each entry.
 use Rattle.std.specs.Prelude.{None, Option, Some, nat_lt, slice_index_or, ◌&&◌, ◌==◌}
-use Rattle.std.proofs.Common.{Bool, List, arith, false, inl, inr, length, refl, set, sym}
-use Rattle.std.proofs.Common.{true, ℕ, ◌++◌, ◌+◌, ◌<◌, ◌∙◌, ◌∷◌, ◌≡◌, ◌≢◌, ◌≤◌, length-append, []}
+use Rattle.std.proofs.Common.{Bool, List, arith, false, inl, inr, length, refl, set}
+use Rattle.std.proofs.Common.{true, ℕ, ◌++◌, ◌+◌, ◌<◌, ◌∷◌, ◌≡◌, ◌≢◌, ◌≤◌, length-append, []}
 use Rattle.std.proofs.lemmas.Bool.{cases_eq}
 use Rattle.std.proofs.lemmas.Bool.Decides.{nat_tests}
 use Rattle.std.proofs.lemmas.Grind.{get_or-set_at}
@@ -13,17 +13,11 @@ use Rattle.sixel_encoder.specs.inside.Compact.{nth, AreLast}
 
 -- whether a pixel of an entry in this column joins a segment
 abbrev pub is_near : ℕ → ℕ → ℕ → Segment → Bool
-is_near gap column entry segment =
-    segment.entry == entry && nat_lt column (segment.end + gap)
+is_near gap column entry segment = segment.entry == entry && nat_lt column (segment.end + gap)
 
 -- a segment up to this column
 abbrev pub grown : ℕ → Segment → Segment
-grown column segment =
-    record { entry = segment.entry; first = segment.first; end = column + 1 }
-
--- a segment of one pixel
-abbrev pub new_segment : ℕ → ℕ → Segment
-new_segment column entry = record { entry = entry; first = column; end = column + 1 }
+grown column segment = record { entry = segment.entry; first = segment.first; end = column + 1 }
 
 -- one of the entry that is not near ended a gap before
 pub far-own : (gap column entry : ℕ) (segment : Segment) → segment.entry ≡ entry
@@ -40,95 +34,65 @@ pub some-same : (a b : ℕ) → Some a ≡ Some b → a ≡ b
 some-same a b h = cc
 
 -- no segment but an entry's last one is near
-pub others-far :
-    (segments : List Segment) (last : List (Option ℕ)) (gap column entry k j : ℕ)
+pub others-far : (segments : List Segment) (last : List (Option ℕ)) (gap column entry k j : ℕ)
     → AreLast segments last gap column → slice_index_or last entry None ≡ Some k
     → j < length segments → j ≢ k → is_near gap column entry (nth segments j) ≡ false
 others-far segments last gap column entry k j are is l apart = grind (arith, nat_tests, some-same)
-
--- an entry without a last segment has none that is near
-pub none-near : (segments : List Segment) (last : List (Option ℕ)) (gap column entry j : ℕ)
-    → AreLast segments last gap column → slice_index_or last entry None ≡ None
-    → j < length segments → is_near gap column entry (nth segments j) ≡ false
-none-near segments last gap column entry j are is l = grind (arith, nat_tests)
-
--- an entry's last segment that has ended a gap before leaves none near
-pub last-far : (segments : List Segment) (last : List (Option ℕ)) (gap column entry k j : ℕ)
-    → AreLast segments last gap column → slice_index_or last entry None ≡ Some k
-    → (nth segments k).end + gap ≤ column → j < length segments
-    → is_near gap column entry (nth segments j) ≡ false
-last-far segments last gap column entry k j are is far l = grind (arith, nat_tests, others-far)
-
--- ---- the last segments
-
--- a later column
-pub AreLast-later : (segments : List Segment) (last : List (Option ℕ)) (gap column later : ℕ)
-    → column ≤ later → AreLast segments last gap column → AreLast segments last gap later
-AreLast-later segments last gap column later l are = grind (arith, nat_tests)
 
 -- no segment at all
 pub AreLast-none : (last : List (Option ℕ)) (gap column : ℕ)
     → ((entry : ℕ) → slice_index_or last entry None ≡ None) → AreLast [] last gap column
 AreLast-none last gap column none = grind (arith, nat_tests)
 
--- an entry's last segment grows
-pub AreLast-near : (segments : List Segment) (last : List (Option ℕ)) (gap column entry k : ℕ)
-    (near : Segment) → AreLast segments last gap column
-    → slice_index_or last entry None ≡ Some k → nth segments k ≡ near
-    → AreLast (set segments k (grown column near)) last gap column
-AreLast-near segments last gap column entry k near are is at = record {
-  known = λ e j h.
-      let was = are.known e j h in grind (arith, nat_tests, length-set, here, there);
-  closed = λ j l. grind (arith, nat_tests, length-set, here, there);
-  ended = λ j l. grind (arith, nat_tests, length-set, here, there);
-}
-  where
-    none : Segment
-    none = record { entry = 0; first = 0; end = 0 }
+module _ (segments : List Segment) (last : List (Option ℕ)) (gap column : ℕ)
+    (are : AreLast segments last gap column) where
+  -- an entry without a last segment has none that is near
+  pub none-near : (entry j : ℕ) → slice_index_or last entry None ≡ None → j < length segments
+      → is_near gap column entry (nth segments j) ≡ false
+  none-near entry j is l = grind (arith, nat_tests)
 
-    here : (j : ℕ) → j ≡ k → nth (set segments k (grown column near)) j ≡ grown column near
-    here j same = grind (arith, nat_tests, get_or-set_at, none)
+  -- an entry's last segment that has ended a gap before leaves none near
+  pub last-far : (entry k j : ℕ) → slice_index_or last entry None ≡ Some k
+      → (nth segments k).end + gap ≤ column → j < length segments
+      → is_near gap column entry (nth segments j) ≡ false
+  last-far entry k j is far l = grind (arith, nat_tests, others-far)
 
-    there : (j : ℕ) → j ≢ k → nth (set segments k (grown column near)) j ≡ nth segments j
-    there j apart = get_or-set_other segments k j (grown column near) none apart
+  -- ---- the last segments
+
+  -- a later column
+  pub AreLast-later : (later : ℕ) → column ≤ later → AreLast segments last gap later
+  AreLast-later later l = grind (arith, nat_tests)
+
+  -- an entry's last segment grows
+  pub AreLast-near : (entry k : ℕ) (near : Segment) → slice_index_or last entry None ≡ Some k
+      → nth segments k ≡ near → AreLast (set segments k (grown column near)) last gap column
+  AreLast-near entry k near is at =
+      record {
+        known = λ e j h.
+            let was = are.known e j h in
+            grind (arith, nat_tests, length-set, get_or-set_at, get_or-set_other);
+        closed = λ j l. grind (arith, nat_tests, length-set, get_or-set_at, get_or-set_other);
+        ended = λ j l. grind (arith, nat_tests, length-set, get_or-set_at, get_or-set_other);
+      }
 
 -- an entry begins a segment
 pub AreLast-new : (segments : List Segment) (last : List (Option ℕ)) (gap column entry : ℕ)
-    (new : Segment) → new.entry ≡ entry → new.end ≤ column + 1
-    → AreLast segments last gap column → entry < length last
+    (new : Segment) → new.entry ≡ entry → new.end ≤ column + 1 → AreLast segments last gap column
+    → entry < length last
     → ((j : ℕ) → j < length segments → is_near gap column entry (nth segments j) ≡ false)
-    → AreLast (segments ++ new ∷ []) (set last entry (Some (length segments)))
-    gap column
-AreLast-new segments last gap column entry new own short are inside none = record {
-  known = λ e j h. elim (cases_eq e entry) [
-    | inl same ↦ grind (arith, nat_tests, some-same, longer, size, end, marked)
-    | inr apart ↦
-        let was = are.known e j (sym (kept e apart) ∙ h) in grind (arith, nat_tests, size, front)
-  ];
-  closed = λ j l. grind (arith, nat_tests, far-own, longer, marks, size, end, front, marked, kept);
-  ended = λ j l. grind (arith, nat_tests, longer, size, end, front);
-}
-  where
-    longer : List Segment
-    longer = segments ++ new ∷ []
-
-    marks : List (Option ℕ)
-    marks = set last entry (Some (length segments))
-
-    nothing : Segment
-    nothing = record { entry = 0; first = 0; end = 0 }
-
-    size : length longer ≡ length segments + 1
-    size = omega (arith, length-append segments (new ∷ []))
-
-    end : nth longer (length segments) ≡ new
-    end = get_or_push segments (new) nothing (length segments) refl
-
-    front : (j : ℕ) → j < length segments → nth longer j ≡ nth segments j
-    front j l = get_or_append_left segments (new ∷ []) nothing j l
-
-    marked : (e : ℕ) → e ≡ entry → slice_index_or marks e None ≡ Some (length segments)
-    marked e same = get_or-set_at last entry e (Some (length segments)) None same inside
-
-    kept : (e : ℕ) → e ≢ entry → slice_index_or marks e None ≡ slice_index_or last e None
-    kept e apart = get_or-set_other last entry e (Some (length segments)) None apart
+    → AreLast (segments ++ new ∷ []) (set last entry (Some (length segments))) gap column
+AreLast-new segments last gap column entry new own short are inside none =
+    let blank : Segment = record { entry = 0; first = 0; end = 0 } in
+    let size = length-append segments (new ∷ []) in
+    let end = get_or_push segments new blank (length segments) refl in
+    record {
+      known = λ e j h. elim (cases_eq e entry) [
+        | inl same ↦ grind (arith, nat_tests, some-same, get_or-set_at)
+        | inr apart ↦ grind (arith, nat_tests, get_or_append_left, get_or-set_other, are.known e j)
+      ];
+      closed = λ j l. elim (cases_eq j (length segments)) [
+        | inl same ↦ grind (arith, nat_tests, get_or-set_at)
+        | inr apart ↦ grind (arith, nat_tests, far-own, get_or_append_left, get_or-set_other)
+      ];
+      ended = λ j l. grind (arith, nat_tests, get_or_append_left);
+    }

@@ -1,6 +1,6 @@
 -- How many segments pass a test, pass by pass.
 use Rattle.std.specs.Prelude.{Option, nat_le, nat_lt, ◌&&◌}
-use Rattle.std.proofs.Common.{Bool, List, arith, cond, false, length, not, refl}
+use Rattle.std.proofs.Common.{Bool, List, arith, cond, length, not, refl}
 use Rattle.std.proofs.Common.{suc, true, zero, ℕ, ◌++◌, ◌+◌, ◌<◌, ◌∷◌, ◌≡◌, []}
 use Rattle.sixel_encoder.specs.declared.segments.Segment.{Segment}
 use Rattle.sixel_encoder.specs.inside.Compact.{nth}
@@ -36,20 +36,7 @@ pub tally-pass : (test : Segment → Bool) (column : ℕ) (segments : List Segme
     ≡ tally test segments
 tally-pass test column [] = refl
 tally-pass test column (segment ∷ segments) =
-    go (nat_le column segment.first) (tally-pass test segment.end segments)
-    (tally-pass test column segments)
-  where
-    go : (b : Bool)
-        → tally test (in_pass segment.end segments) + tally test (after_pass segment.end segments)
-        ≡ tally test segments
-        → tally test (in_pass column segments) + tally test (after_pass column segments)
-        ≡ tally test segments
-        → tally test
-        (cond b (segment ∷ in_pass segment.end segments) (in_pass column segments))
-        + tally test
-        (cond b (after_pass segment.end segments) (segment ∷ after_pass column segments))
-        ≡ one (test segment) + tally test segments
-    go b taken left = grind (arith, nat_tests)
+    grind (arith, nat_tests, tally-pass test segment.end segments, tally-pass test column segments)
 
 -- all passes have the segments
 pub tally-passes : (test : Segment → Bool) (n : ℕ) (segments : List Segment)
@@ -69,10 +56,6 @@ pub each-tally : (test : Segment → Bool) (segments : List Segment)
     → tally (λ s. not (test s)) segments ≡ 0 → (k : ℕ) → k < length segments
     → test (nth segments k) ≡ true
 each-tally test [] none k l = absurd (omega arith)
-each-tally test (segment ∷ segments) none zero l = go (test segment) none
-  where
-    go : (b : Bool) → one (not b) + tally (λ s. not (test s)) segments ≡ 0 → b ≡ true
-    go true e = refl
-    go false e = absurd (omega (arith, e))
+each-tally test (segment ∷ segments) none zero l = grind (arith, nat_tests, one, none, tally)
 each-tally test (segment ∷ segments) none (suc k) l =
     each-tally test segments (omega (arith, none)) k (omega (arith, l))

@@ -1,13 +1,13 @@
 -- No list of tokens that spells a row takes fewer bytes than the row's own tokens.
 use Rattle.std.proofs.Common.{◌≡◌, ◌≢◌, ℕ, zero, suc, ◌+◌, ◌*◌, ◌<◌, ◌≤◌, List}
-use Rattle.std.proofs.Common.{◌∷◌, ◌++◌, length, replicate, refl, ap, sym, ◌∙◌, arith, inl, inr}
+use Rattle.std.proofs.Common.{◌∷◌, ◌++◌, length, replicate, refl, ap, sym, ◌∙◌, arith}
 use Rattle.std.proofs.Common.{length-append, append_assoc, ◌/◌, ◌%◌, []}
 use Rattle.std.specs.Prelude.{flat_map, All}
 use Rattle.std.proofs.lemmas.Bool.{cases_eq}
 use Rattle.std.proofs.lemmas.Bool.Decides.{nat_tests}
 use Rattle.std.proofs.lemmas.List.{append-nil, replicate-append-replicate, replicate_more}
 use Rattle.std.proofs.lemmas.List.Concat.{flat_map-append}
-use Rattle.std.proofs.lemmas.List.Elements.{All-head, All-tail, All-append, All-same}
+use Rattle.std.proofs.lemmas.List.Elements.{All-head, All-tail, All-append}
 use Rattle.sixel_base.specs.Limits.{repeat_limit}
 use Rattle.sixel_encoder.specs.RunTokens.{RunToken, One, Many, sixels, spelling, written}
 use Rattle.sixel_encoder.specs.RunTokens.{cost, IsRunToken, Spells, IsShortest, rest_tokens}
@@ -47,10 +47,7 @@ left_cut m n b (c ∷ row) = grind (arith, left-same, left-other, run_cut, left_
 -- with no sixel before it a row takes the same bytes, whatever that sixel is
 left_any : (b c : ℕ) (row : List ℕ) → left 0 b row ≡ left 0 c row
 left_any b c [] = omega (arith, left-nil 0 b, left-nil 0 c)
-left_any b c (x ∷ row) = first b ∙ sym (first c)
-  where
-    first : (d : ℕ) → left 0 d (x ∷ row) ≡ left 1 x row
-    first d = grind (arith, nat_tests, left-same, left-other)
+left_any b c (x ∷ row) = grind (arith, nat_tests, left-same, left-other)
 
 -- equal sixels add to the run
 left_run : (k n b : ℕ) (row : List ℕ) → left n b (replicate k b ++ row) ≡ left (n + k) b row
@@ -58,16 +55,7 @@ left_run zero n b row = ap (λ x. left x b row) (omega arith)
 left_run (suc k) n b row = grind (arith, nat_tests, left-same, left_run k (n + 1) b row)
 
 left_many : (n b : ℕ) (row : List ℕ) → left 0 0 (replicate n b ++ row) ≤ run_cost n + left 0 0 row
-left_many n b row =
-    let zeros : 0 + n ≡ n + 0 = omega arith in
-    omega (
-      arith,
-      left_any 0 b (replicate n b ++ row),
-      left_run n 0 b row,
-      ap (λ x. left x b row) zeros,
-      left_cut n 0 b row,
-      left_any b 0 row,
-    )
+left_many n b row = grind (arith, nat_tests, left_any, left_run n 0 b row, left_cut n 0 b row)
 
 -- the first token of a spelling takes no fewer bytes than it saves
 left_token : (token : RunToken) (row : List ℕ) → IsRunToken token
@@ -80,12 +68,9 @@ left_tokens : (tokens : List RunToken) → All IsRunToken tokens
     → left 0 0 (flat_map sixels tokens) ≤ cost tokens
 left_tokens [] all = omega (arith, left-nil 0 0, run_cost0)
 left_tokens (token ∷ tokens) all =
-    omega (
-      arith,
-      left_token token (flat_map sixels tokens) (All-head IsRunToken token tokens all),
-      left_tokens tokens (All-tail IsRunToken token tokens all),
-      length-append (spelling token) (written tokens),
-    )
+    let first = left_token token (flat_map sixels tokens) (All-head IsRunToken token tokens all) in
+    let rest = left_tokens tokens (All-tail IsRunToken token tokens all) in
+    omega (arith, first, rest, length-append (spelling token) (written tokens))
 
 -- the tokens of a row are a shortest spelling of it
 pub shortest : (row : List ℕ) → IsShortest (row_tokens row) row
@@ -113,10 +98,7 @@ sixels-cut : (n k b : ℕ) → 0 < k
     → flat_map sixels (replicate (n / k) (Many k b) ++ rest_tokens (n % k) b) ≡ replicate n b
 sixels-cut n k b h =
     let whole : (n / k) * k + n % k ≡ n = grind (arith, nat_tests) in
-    flat_map-append sixels (replicate (n / k) (Many k b)) (rest_tokens (n % k) b)
-    ∙ (ap (λ r. r ++ flat_map sixels (rest_tokens (n % k) b)) (sixels-replicate (n / k) k b)
-    ∙ (ap (λ r. replicate ((n / k) * k) b ++ r) (sixels-rest (n % k) b)
-    ∙ (replicate-append-replicate ((n / k) * k) (n % k) b ∙ ap (λ x. replicate x b) whole)))
+    grind (arith, flat_map-append, sixels-replicate, sixels-rest, replicate-append-replicate)
 
 sixels-run : (n b : ℕ) → flat_map sixels (run_tokens n b) ≡ replicate n b
 sixels-run n b = sixels-cut n repeat_limit b (omega arith)
@@ -125,19 +107,12 @@ sixels-after : (n b : ℕ) (row : List ℕ)
     → flat_map sixels (tokens_after n b row) ≡ replicate n b ++ row
 sixels-after n b [] = sixels-run n b ∙ sym (append-nil (replicate n b))
 sixels-after n b (c ∷ row) =
-    elim (cases_eq c b) [
-      | inl e ↦
-          ap (λ p. flat_map sixels p) (tokens_after-same n b c row e)
-          ∙ (sixels-after (n + 1) b row
-          ∙ (ap (λ r. r ++ row) (sym (replicate_more n b))
-          ∙ (append_assoc (replicate n b) (b ∷ []) row
-          ∙ ap (λ x. replicate n b ++ (x ∷ row)) (sym e))))
-      | inr e ↦
-          ap (λ p. flat_map sixels p) (tokens_after-other n b c row e)
-          ∙ (flat_map-append sixels (run_tokens n b) (tokens_after 1 c row)
-          ∙ (ap (λ r. r ++ flat_map sixels (tokens_after 1 c row)) (sixels-run n b)
-          ∙ ap (λ r. replicate n b ++ r) (sixels-after 1 c row)))
-    ]
+    let same = sixels-after (n + 1) b row in
+    let other = sixels-after 1 c row in
+    let more = replicate_more n b in
+    let joined = append_assoc (replicate n b) (b ∷ []) row in
+    let parts = flat_map-append sixels (run_tokens n b) (tokens_after 1 c row) in
+    grind (arith, nat_tests, cases_eq c b, tokens_after-same, tokens_after-other, sixels-run)
 
 All-run : (n b : ℕ) → All IsRunToken (run_tokens n b)
 All-run n b = grind (arith, common_steps, nat_tests)
@@ -145,12 +120,9 @@ All-run n b = grind (arith, common_steps, nat_tests)
 All-after : (n b : ℕ) (row : List ℕ) → All IsRunToken (tokens_after n b row)
 All-after n b [] = All-run n b
 All-after n b (c ∷ row) =
-    elim (cases_eq c b) [
-      | inl e ↦ All-same IsRunToken _ _ (tokens_after-same n b c row e) (All-after (n + 1) b row)
-      | inr e ↦ All-same IsRunToken _ _ (tokens_after-other n b c row e)
-          (All-append IsRunToken (run_tokens n b) (tokens_after 1 c row) (All-run n b)
-          (All-after 1 c row))
-    ]
+    let same = All-after (n + 1) b row in
+    let other = All-append IsRunToken _ _ (All-run n b) (All-after 1 c row) in
+    grind (arith, nat_tests, cases_eq c b, tokens_after-same, tokens_after-other)
 
 -- the tokens of a row spell it
 pub spells : (row : List ℕ) → Spells (row_tokens row) row

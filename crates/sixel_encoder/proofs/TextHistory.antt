@@ -1,15 +1,15 @@
 -- The tokens of a text of marks are its history, and the text's front is the whole of it.
 use Rattle.std.specs.List.{list_all}
 use Rattle.std.specs.Prelude.{All, IsTrue, Some, flat_map, slice_index_or}
-use Rattle.std.proofs.Common.{List, ap, arith, false, length-append, refl, replicate, []}
-use Rattle.std.proofs.Common.{subst, suc, sym, true, zero, ℕ, ◌++◌, ◌+◌, ◌<◌, ◌∙◌, ◌∷◌, ◌≡◌, ◌≤◌}
+use Rattle.std.proofs.Common.{List, arith, length-append, refl, replicate, []}
+use Rattle.std.proofs.Common.{suc, sym, true, zero, ℕ, ◌++◌, ◌+◌, ◌<◌, ◌∷◌, ◌≡◌, ◌≤◌}
 use Rattle.std.proofs.lemmas.Bool.Decides.{nat_tests}
 use Rattle.std.proofs.lemmas.Grind.{common_steps}
 use Rattle.std.proofs.lemmas.List.{get_or-append-add}
 use Rattle.std.proofs.lemmas.List.Elements.{All-head, All-same, All-tail}
 use Rattle.sixel_base.specs.Limits.{repeat_limit}
 use Rattle.sixel_base.specs.Bytes.{before_terminator, carrying, count, first_terminator, front}
-use Rattle.sixel_base.specs.Bytes.{is_digit, is_ignored, is_parameter, is_terminator}
+use Rattle.sixel_base.specs.Bytes.{is_digit, is_parameter}
 use Rattle.sixel_base.specs.Dcs.{after_terminator}
 use Rattle.sixel_base.specs.History.{AreTokens, Color, History, IsHistory, IsToken, Newline, Raster}
 use Rattle.sixel_base.specs.History.{Repeat, Return, Sixel, Skip, Token, history_of, spelling}
@@ -68,9 +68,7 @@ AreSound-spelled (token ∷ tokens) are all = (
 
 -- the run-length tokens of a row of six bits each
 pub AreSound-row : (row : List ℕ) → All (λ b. b < 64) row → AreSound (row_tokens row)
-AreSound-row row all =
-    AreSound-spelled (row_tokens row) (spells row).each
-    (All-same (λ b. b < 64) (flat_map sixels (row_tokens row)) row (spells row).joined all)
+AreSound-row row all = grind (arith, nat_tests, spells row, AreSound-spelled, All-same)
 
 -- ---- each token may stand where it stands
 
@@ -128,32 +126,17 @@ pad-small ratio = grind (arith, nat_tests)
 pub AreFields-sizes : (drawing : Drawing) → IsWritable drawing → AreFields (sizes drawing)
 AreFields-sizes drawing is = (omega arith, (omega (arith, is.wide), (omega (arith, is.high), tt)))
 
--- all tokens of the text
-AreTokens-tokens : (drawing : Drawing) (definitions : List Definition) (marks : List Mark)
-    → IsWritable drawing → Draws drawing definitions marks
-    → AreTokens (tokens drawing definitions marks)
-AreTokens-tokens drawing definitions marks is draws =
-    AreTokens-marks drawing first_pen marks (with_palette drawing definitions) draws.allowed
-    (AreTokens-definitions drawing definitions (raster_of drawing ∷ []) is draws.defined
-    (token-more (raster_of drawing) [] (all_parameters-numbers (pad_of drawing.aspect_ratio)
-    (sizes drawing) (omega (arith, pad-small drawing.aspect_ratio)) (AreFields-sizes drawing is))
-    refl tt))
-
 -- ---- and all of their bytes carry meaning
 
 -- parameters carry meaning
 carries-parameters : (t : List ℕ) → IsTrue (list_all is_parameter t) → IsTrue (list_all carries t)
 carries-parameters [] all = refl
-carries-parameters (b ∷ t) all =
-    let rest : IsTrue (list_all is_parameter t) = grind (arith, common_steps) in
-    grind (arith, common_steps, carries-parameters t rest)
+carries-parameters (b ∷ t) all = grind (arith, common_steps, carries-parameters t)
 
 -- so do digits
 carries-digits : (t : List ℕ) → IsTrue (list_all is_digit t) → IsTrue (list_all carries t)
 carries-digits [] all = refl
-carries-digits (b ∷ t) all =
-    let rest : IsTrue (list_all is_digit t) = grind (arith, common_steps) in
-    grind (arith, common_steps, carries-digits t rest)
+carries-digits (b ∷ t) all = grind (arith, common_steps, carries-digits t)
 
 -- so does a list of one byte that does
 carries-byte : (b : ℕ) → carries b ≡ true → IsTrue (list_all carries (b ∷ []))
@@ -193,62 +176,56 @@ pub before_terminator-carrying : (bytes rest : List ℕ) → IsTrue (list_all ca
     → before_terminator (bytes ++ 27 ∷ rest) ≡ bytes
 before_terminator-carrying [] rest all = refl
 before_terminator-carrying (b ∷ bytes) rest all =
-    let first : is_terminator b ≡ false = grind (arith, common_steps) in
-    let others : IsTrue (list_all carries bytes) = grind (arith, common_steps) in
-    rw first (ap (λ bs. b ∷ bs) (before_terminator-carrying bytes rest others))
+    grind (arith, common_steps, before_terminator-carrying bytes rest)
 
 -- and none of it is ignored
 carrying-all : (bytes : List ℕ) → IsTrue (list_all carries bytes) → carrying bytes ≡ bytes
 carrying-all [] all = refl
-carrying-all (b ∷ bytes) all =
-    let first : is_ignored b ≡ false = grind (arith, common_steps) in
-    let others : IsTrue (list_all carries bytes) = grind (arith, common_steps) in
-    rw first (ap (λ bs. b ∷ bs) (carrying-all bytes others))
+carrying-all (b ∷ bytes) all = grind (arith, common_steps, carrying-all bytes)
 
 -- the terminator after it is the first
 pub first_terminator-carrying : (bytes rest : List ℕ) → IsTrue (list_all carries bytes)
     → first_terminator (bytes ++ 27 ∷ rest) ≡ Some 27
 first_terminator-carrying [] rest all = refl
 first_terminator-carrying (b ∷ bytes) rest all =
-    let first : is_terminator b ≡ false = grind (arith, common_steps) in
-    let others : IsTrue (list_all carries bytes) = grind (arith, common_steps) in
-    rw first (first_terminator-carrying bytes rest others)
+    grind (arith, common_steps, first_terminator-carrying bytes rest)
 
 -- what follows that terminator
 pub after_terminator-carrying : (bytes rest : List ℕ) → IsTrue (list_all carries bytes)
     → after_terminator (bytes ++ 27 ∷ rest) ≡ rest
 after_terminator-carrying [] rest all = refl
 after_terminator-carrying (b ∷ bytes) rest all =
-    let first : is_terminator b ≡ false = grind (arith, common_steps) in
-    let others : IsTrue (list_all carries bytes) = grind (arith, common_steps) in
-    rw first (after_terminator-carrying bytes rest others)
-
--- ---- the payload
-
--- all bytes of the payload carry meaning
-pub carries-payload : (drawing : Drawing) (definitions : List Definition) (marks : List Mark)
-    → IsWritable drawing → Draws drawing definitions marks
-    → IsTrue (list_all carries (marks_payload drawing definitions marks))
-carries-payload drawing definitions marks is draws =
-    subst (λ (bytes : List ℕ). IsTrue (list_all carries bytes))
-    (spellings-tokens drawing definitions marks)
-    (carries-spellings (tokens drawing definitions marks)
-    (AreTokens-tokens drawing definitions marks is draws))
+    grind (arith, common_steps, after_terminator-carrying bytes rest)
 
 -- bytes that carry meaning are their own front, up to the terminator
 pub front-carrying : (bytes rest : List ℕ) → IsTrue (list_all carries bytes)
     → front (bytes ++ 27 ∷ rest) ≡ bytes
 front-carrying bytes rest all = grind (arith, nat_tests, before_terminator-carrying, carrying-all)
 
--- the history of the payload is its tokens
-pub payload-read :
-    (drawing : Drawing) (definitions : List Definition) (marks : List Mark) (rest : List ℕ)
-    → IsWritable drawing → Draws drawing definitions marks
-    → history_of (front (marks_payload drawing definitions marks ++ 27 ∷ rest))
-    ≡ tokens drawing definitions marks
-payload-read drawing definitions marks rest is draws =
-    let payload : List ℕ = marks_payload drawing definitions marks in
-    let whole : IsHistory payload (tokens drawing definitions marks) =
-    grind (arith, nat_tests, spellings-tokens, AreTokens-tokens) in
-    ap history_of (front-carrying payload rest (carries-payload drawing definitions marks is draws))
-    ∙ sym (history_unique payload (tokens drawing definitions marks) whole)
+module _ (drawing : Drawing) (definitions : List Definition) (marks : List Mark)
+    (is : IsWritable drawing) (draws : Draws drawing definitions marks) where
+  -- all tokens of the text
+  AreTokens-tokens : AreTokens (tokens drawing definitions marks)
+  AreTokens-tokens =
+      AreTokens-marks drawing first_pen marks (with_palette drawing definitions) draws.allowed
+      (AreTokens-definitions drawing definitions (raster_of drawing ∷ []) is draws.defined
+      (token-more (raster_of drawing) [] (all_parameters-numbers (pad_of drawing.aspect_ratio)
+      (sizes drawing) (omega (arith, pad-small drawing.aspect_ratio)) (AreFields-sizes drawing is))
+      refl tt))
+
+  -- ---- the payload
+
+  -- all bytes of the payload carry meaning
+  pub carries-payload : IsTrue (list_all carries (marks_payload drawing definitions marks))
+  carries-payload =
+      rw spellings-tokens at (carries-spellings (tokens drawing definitions marks) AreTokens-tokens)
+
+  -- the history of the payload is its tokens
+  pub payload-read : (rest : List ℕ)
+      → history_of (front (marks_payload drawing definitions marks ++ 27 ∷ rest))
+      ≡ tokens drawing definitions marks
+  payload-read rest =
+      let payload : List ℕ = marks_payload drawing definitions marks in
+      let whole : IsHistory payload (tokens drawing definitions marks) =
+      grind (arith, nat_tests, spellings-tokens, AreTokens-tokens) in
+      rw (front-carrying payload rest carries-payload) (sym (history_unique payload _ whole))

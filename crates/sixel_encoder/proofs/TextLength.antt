@@ -3,7 +3,7 @@ use Rattle.std.proofs.Common.{List, arith, length, length-append, ℕ, ◌++◌,
 use Rattle.std.proofs.Common.{refl, ◌-◌, ◌∷◌, ◌≡◌, ◌≤◌}
 use Rattle.std.specs.Prelude.{codes}
 use Rattle.sixel_base.specs.Picture.{joined}
-use Rattle.sixel_encoder.specs.Text.{Drawing, band_text, bands, bands_text, palette_text}
+use Rattle.sixel_encoder.specs.Text.{Drawing, band_text, bands, palette_text}
 use Rattle.sixel_encoder.specs.Text.{parameters_text, raster_text, text_of}
 use Rattle.sixel_encoder.proofs.JoinedLists.{joined-add, joined-more}
 use Rattle.std.proofs.lemmas.Bool.Decides.{nat_tests}
@@ -25,10 +25,8 @@ pub length-stopped : (drawing : Drawing) (band limit : ℕ) (begun text : List �
     → text ≡ begun ++ joined (band_text drawing) band → band ≤ bands drawing.height
     → limit ≤ length text → limit ≤ length (text_of drawing)
 length-stopped drawing band limit begun text is more low long =
-    length-parts (parameters_text drawing ++ raster_text drawing ++ palette_text drawing)
-    (joined (band_text drawing) band) (bands_text drawing) (27 ∷ codes "\\") limit
-    (length-joined (band_text drawing) band (bands drawing.height) low)
-    (rw is at (rw more at long))
+    let whole = length-joined (band_text drawing) band (bands drawing.height) in
+    grind (arith, nat_tests, length-parts)
 
 -- all bands and the end make the whole text
 pub text-joined : (drawing : Drawing) (band : ℕ) (begun text whole : List ℕ)
@@ -41,16 +39,10 @@ text-joined drawing band begun text whole is more all end = grind (arith, nat_te
 pub length-bands : (drawing : Drawing) (band : ℕ) → band ≤ bands drawing.height
     → length (joined (band_text drawing) band) ≤ length (text_of drawing)
 length-bands drawing band low =
-    length-stopped drawing band (length (joined (band_text drawing) band))
-    (parameters_text drawing ++ raster_text drawing ++ palette_text drawing)
-    ((parameters_text drawing ++ raster_text drawing ++ palette_text drawing)
-    ++ joined (band_text drawing) band)
-    refl refl low
-    (omega (
-      arith,
-      length-append (parameters_text drawing ++ raster_text drawing ++ palette_text drawing)
-          (joined (band_text drawing) band),
-    ))
+    let front = parameters_text drawing ++ raster_text drawing ++ palette_text drawing in
+    let size = length-append front (joined (band_text drawing) band) in
+    length-stopped drawing band _ front (front ++ joined (band_text drawing) band) refl refl low
+    (omega (arith, size))
 
 -- one more band adds at least what it has at least
 pub length-band : (drawing : Drawing) (band old least new : ℕ)

@@ -34,124 +34,102 @@ defines entry color small is =
 abbrev rounded_color : Drawing → ℕ → List ℕ
 rounded_color drawing entry = map rounded (slice_index_or drawing.colors entry [])
 
--- a definition gives its register the rounded color of its entry
-registers-definition :
-    (start : List (List ℕ)) (drawing : Drawing) (definition : Definition) (h : History)
-    → IsWritable drawing → IsDefinition drawing definition
-    → registers start (with_definition drawing definition h)
-    ≡ slice_set (registers start h) definition.register (rounded_color drawing definition.entry)
-registers-definition start drawing definition h is known =
-    grind (arith, nat_tests, defines, common_steps)
-
 -- a register that was defined has the color of its entry
 abbrev HasColor : Drawing → List (List ℕ) → Option ℕ → ℕ → Type 0
 HasColor drawing palette None register = Unit {0}
 HasColor drawing palette (Some entry) register =
     slice_index_or palette register [] ≡ rounded_color drawing entry
 
--- so it has after one definition more
-HasColor-definition : (start : List (List ℕ)) (drawing : Drawing) (definition : Definition)
-    (h : History) (before : Option ℕ) (register : ℕ) → IsWritable drawing
-    → IsDefinition drawing definition → length (registers start h) ≡ 256
-    → HasColor drawing (registers start h) before register
-    → HasColor drawing (registers start (with_definition drawing definition h))
-    (cond (definition.register == register) (Some definition.entry) before) register
-HasColor-definition start drawing definition h before register is known size was =
-    grind (arith, nat_tests, get_or-set_same, get_or-set_other, registers-definition)
+module _ (start : List (List ℕ)) (drawing : Drawing) (definition : Definition) (h : History)
+    (is : IsWritable drawing) (known : IsDefinition drawing definition) where
+  -- a definition gives its register the rounded color of its entry
+  registers-definition :
+      registers start (with_definition drawing definition h)
+      ≡ slice_set (registers start h) definition.register (rounded_color drawing definition.entry)
+  registers-definition = grind (arith, nat_tests, defines, common_steps)
 
--- a definition keeps the number of registers
-length-definition :
-    (start : List (List ℕ)) (drawing : Drawing) (definition : Definition) (h : History)
-    → IsWritable drawing → IsDefinition drawing definition
-    → length (registers start (with_definition drawing definition h)) ≡ length (registers start h)
-length-definition start drawing definition h is known =
-    grind (arith, nat_tests, length-set, registers-definition)
+  -- so it has after one definition more
+  HasColor-definition : (before : Option ℕ) (register : ℕ) → length (registers start h) ≡ 256
+      → HasColor drawing (registers start h) before register
+      → HasColor drawing (registers start (with_definition drawing definition h))
+      (cond (definition.register == register) (Some definition.entry) before) register
+  HasColor-definition before register size was =
+      grind (arith, nat_tests, get_or-set_same, get_or-set_other, registers-definition)
 
--- after definitions a register has the color of its entry
-HasColor-definitions : (start : List (List ℕ)) (drawing : Drawing) (definitions : List Definition)
-    (h : History) (before : Option ℕ) (register : ℕ) → IsWritable drawing
-    → AreDefinitions drawing definitions → length (registers start h) ≡ 256
-    → HasColor drawing (registers start h) before register
-    → HasColor drawing (registers start (with_definitions drawing definitions h))
-    (register_entry definitions before register) register
-HasColor-definitions start drawing [] h before register is known size was = was
-HasColor-definitions start drawing (definition ∷ definitions) h before register is known size was =
-    HasColor-definitions start drawing definitions (with_definition drawing definition h)
-    (cond (definition.register == register) (Some definition.entry) before) register is known.1
-    (length-definition start drawing definition h is known.0 ∙ size)
-    (HasColor-definition start drawing definition h before register is known.0 size was)
+module _ (start : List (List ℕ)) (drawing : Drawing) (is : IsWritable drawing) where
+  -- a definition keeps the number of registers
+  length-definition : (definition : Definition) (h : History) → IsDefinition drawing definition
+      → length (registers start (with_definition drawing definition h)) ≡ length (registers start h)
+  length-definition definition h known = grind (arith, nat_tests, length-set, registers-definition)
+
+  -- after definitions a register has the color of its entry
+  HasColor-definitions : (definitions : List Definition) (h : History) (before : Option ℕ)
+      (register : ℕ) → AreDefinitions drawing definitions → length (registers start h) ≡ 256
+      → HasColor drawing (registers start h) before register
+      → HasColor drawing (registers start (with_definitions drawing definitions h))
+      (register_entry definitions before register) register
+  HasColor-definitions [] h before register known size was = was
+  HasColor-definitions (definition ∷ definitions) h before register known size was =
+      HasColor-definitions definitions _ _ register known.1
+      (length-definition definition h known.0 ∙ size)
+      (HasColor-definition start drawing definition h is known.0 before register size was)
 
 -- the register of an entry has the entry's color
-pub register-palette :
-    (start : List (List ℕ)) (drawing : Drawing) (definitions : List Definition) (register entry : ℕ)
-    → IsWritable drawing → AreDefinitions drawing definitions → length start ≡ 256
-    → register_entry definitions None register ≡ Some entry
+pub register-palette : (start : List (List ℕ)) (drawing : Drawing) (definitions : List Definition)
+    (register entry : ℕ) → IsWritable drawing → AreDefinitions drawing definitions
+    → length start ≡ 256 → register_entry definitions None register ≡ Some entry
     → slice_index_or (registers start (with_palette drawing definitions)) register []
     ≡ rounded_color drawing entry
 register-palette start drawing definitions register entry is known size e =
-    go (register_entry definitions None register) e
-    (HasColor-definitions start drawing definitions (raster_of drawing ∷ []) None register is known
-    size tt)
-  where
-    go : (place : Option ℕ) → place ≡ Some entry
-        → HasColor drawing (registers start (with_palette drawing definitions)) place register
-        → slice_index_or (registers start (with_palette drawing definitions)) register []
-        ≡ rounded_color drawing entry
-    go place e holds = grind (arith, nat_tests)
+    let h : History = raster_of drawing ∷ [] in
+    rw e at (HasColor-definitions start drawing is definitions h None register known size tt)
 
--- what no definition changes is as the raster attributes left it
-undefined :
-    {X : Type 0} (drawing : Drawing) (definitions : List Definition) (f : History → X) (h : History)
-    → ((definition : Definition) (g : History) → f (with_definition drawing definition g) ≡ f g)
-    → f (with_definitions drawing definitions h) ≡ f h
-undefined drawing [] f h kept = refl
-undefined drawing (definition ∷ definitions) f h kept =
-    undefined drawing definitions f (with_definition drawing definition h) kept ∙ kept definition h
+module _ (drawing : Drawing) where
+  -- what no definition changes is as the raster attributes left it
+  undefined : {X : Type 0} (definitions : List Definition) (f : History → X) (h : History)
+      → ((definition : Definition) (g : History) → f (with_definition drawing definition g) ≡ f g)
+      → f (with_definitions drawing definitions h) ≡ f h
+  undefined [] f h kept = refl
+  undefined (definition ∷ definitions) f h kept =
+      undefined definitions f (with_definition drawing definition h) kept ∙ kept definition h
 
--- definitions change no size
-Fits-definitions : (drawing : Drawing) (definitions : List Definition) (h : History)
-    → Fits whole_limit drawing.width (6 * bands drawing.height) h
-    → Fits whole_limit drawing.width (6 * bands drawing.height)
-    (with_definitions drawing definitions h)
-Fits-definitions drawing [] h fits = fits
-Fits-definitions drawing (definition ∷ definitions) h fits =
-    Fits-definitions drawing definitions (with_definition drawing definition h)
-    (Fits-color whole_limit drawing.width (6 * bands drawing.height)
-    (numbers definition.register (percentages (slice_index_or drawing.colors definition.entry [])))
-    h fits)
+  -- definitions change no size
+  Fits-definitions : (definitions : List Definition) (h : History)
+      → Fits whole_limit drawing.width (6 * bands drawing.height) h
+      → Fits whole_limit drawing.width (6 * bands drawing.height)
+      (with_definitions drawing definitions h)
+  Fits-definitions [] h fits = fits
+  Fits-definitions (definition ∷ definitions) h fits =
+      Fits-definitions definitions _ (Fits-color _ _ _ (numbers definition.register
+      (percentages (slice_index_or drawing.colors definition.entry []))) _ fits)
 
--- after the definitions the pen is at the top left
-pub Follows-palette : (start : List (List ℕ)) (drawing : Drawing) (definitions : List Definition)
-    → IsWritable drawing
-    → Follows drawing start (registers start (with_palette drawing definitions)) first_pen
-    (with_palette drawing definitions)
-Follows-palette start drawing definitions is = record {
-  single = undefined drawing definitions span (raster_of drawing ∷ []) (λ d g. refl);
-  place = undefined drawing definitions across (raster_of drawing ∷ []) (λ d g. refl);
-  level = undefined drawing definitions down (raster_of drawing ∷ []) (λ d g. refl);
-  named = λ register e. absurd cc;
-  defined = refl;
-  shape = λ other.
-      undefined drawing definitions (ratio other) (raster_of drawing ∷ []) (λ d g. refl)
-      ∙ raster-shape drawing other is;
-  fits = Fits-definitions drawing definitions (raster_of drawing ∷ []) (Fits-raster drawing is);
-}
+  -- after the definitions the pen is at the top left
+  pub Follows-palette : (start : List (List ℕ)) (definitions : List Definition) → IsWritable drawing
+      → Follows drawing start (registers start (with_palette drawing definitions)) first_pen
+      (with_palette drawing definitions)
+  Follows-palette start definitions is = record {
+    single = undefined definitions span (raster_of drawing ∷ []) (λ d g. refl);
+    place = undefined definitions across (raster_of drawing ∷ []) (λ d g. refl);
+    level = undefined definitions down (raster_of drawing ∷ []) (λ d g. refl);
+    named = λ register e. absurd cc;
+    defined = refl;
+    shape = λ other.
+        undefined definitions (ratio other) (raster_of drawing ∷ []) (λ d g. refl)
+        ∙ raster-shape drawing other is;
+    fits = Fits-definitions definitions (raster_of drawing ∷ []) (Fits-raster drawing is);
+  }
 
--- nothing is drawn yet
-pub pixel-palette :
-    (drawing : Drawing) (definitions : List Definition) (origin : Origin) (column line : ℕ)
-    → pixel origin (with_palette drawing definitions) column line ≡ background origin
-pixel-palette drawing definitions origin column line =
-    undefined drawing definitions
-    (λ h. pixel origin h column line)
-    (raster_of drawing ∷ []) (λ d g. refl)
+  -- nothing is drawn yet
+  pub pixel-palette : (definitions : List Definition) (origin : Origin) (column line : ℕ)
+      → pixel origin (with_palette drawing definitions) column line ≡ background origin
+  pixel-palette definitions origin column line =
+      undefined definitions (λ h. pixel origin h column line) (raster_of drawing ∷ []) (λ d g. refl)
 
 -- the picture is as high as the drawing
 pub height-palette : (drawing : Drawing) (definitions : List Definition) → IsWritable drawing
     → height (with_palette drawing definitions) ≡ drawing.height
 height-palette drawing definitions is =
-    undefined drawing definitions height (raster_of drawing ∷ []) (λ d g. refl)
-    ∙ raster-height drawing is
+    grind (arith, nat_tests, undefined drawing definitions height, raster_of, raster-height drawing)
 
 -- a height that is not zero is the last that was named
 height-named : (n : ℕ) → cond (nat_lt 0 n) n 0 ≡ n

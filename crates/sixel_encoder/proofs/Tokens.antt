@@ -1,7 +1,6 @@
 -- The tokens of definitions and marks, newest first, and that they spell the text.
 use Rattle.std.specs.Prelude.{decimal, slice_index, slice_index_or}
-use Rattle.std.proofs.Common.{List, ap, append_assoc, arith, false, sym, ℕ, ◌++◌}
-use Rattle.std.proofs.Common.{◌∙◌, ◌∷◌, ◌≡◌, []}
+use Rattle.std.proofs.Common.{List, append_assoc, arith, false, sym, ℕ, ◌++◌, ◌∷◌, ◌≡◌, []}
 use Rattle.std.proofs.lemmas.Bool.Decides.{nat_tests}
 use Rattle.std.proofs.lemmas.Fmt.{decimal_digit}
 use Rattle.std.proofs.lemmas.List.{append-nil}
@@ -11,7 +10,7 @@ use Rattle.sixel_base.specs.History.{Return, Sixel, Token, goes_on, spellings, s
 use Rattle.sixel_base.specs.Settings.{pad_of}
 use Rattle.sixel_palette.specs.Refined.{percentage}
 use Rattle.sixel_encoder.specs.Marks.{Back, Definition, Draw, Mark, Next, Pick, definitions_text}
-use Rattle.sixel_encoder.specs.Marks.{mark_text, marks_payload, marks_text, register_definition}
+use Rattle.sixel_encoder.specs.Marks.{mark_text, marks_payload, marks_text}
 use Rattle.sixel_encoder.specs.RunTokens.{Many, One, RunToken, row_tokens}
 use Rattle.sixel_encoder.specs.RunTokens.{written, spelling as run_token_spelling}
 use Rattle.sixel_encoder.specs.Text.{Drawing, color_definition}
@@ -97,9 +96,7 @@ spellings-run_tokens : (tokens : List RunToken) (h : History)
     → spellings (with_run_tokens tokens h) ≡ spellings h ++ written tokens
 spellings-run_tokens [] h = sym (append-nil (spellings h))
 spellings-run_tokens (token ∷ tokens) h =
-    spellings-run_tokens tokens (with_run_token token h)
-    ∙ (ap (λ s. s ++ written tokens) (spellings-run_token token h)
-    ∙ append_assoc (spellings h) (run_token_spelling token) (written tokens))
+    rw (spellings-run_tokens tokens (with_run_token token h), spellings-run_token, append_assoc)
 
 -- a mark appends its text
 spellings-mark : (mark : Mark) (h : History)
@@ -111,9 +108,7 @@ spellings-marks : (marks : List Mark) (h : History)
     → spellings (with_marks marks h) ≡ spellings h ++ marks_text marks
 spellings-marks [] h = sym (append-nil (spellings h))
 spellings-marks (mark ∷ marks) h =
-    spellings-marks marks (with_mark mark h)
-    ∙ (ap (λ s. s ++ marks_text marks) (spellings-mark mark h)
-    ∙ append_assoc (spellings h) (mark_text mark) (marks_text marks))
+    rw (spellings-marks marks (with_mark mark h), spellings-mark, append_assoc)
 
 -- a definition's bytes in one order of joining
 definition-joined : (e r g b : List ℕ)
@@ -132,12 +127,8 @@ spellings-definitions : (drawing : Drawing) (definitions : List Definition) (h :
     ≡ spellings h ++ definitions_text drawing definitions
 spellings-definitions drawing [] h = sym (append-nil (spellings h))
 spellings-definitions drawing (definition ∷ definitions) h =
-    spellings-definitions drawing definitions (with_definition drawing definition h)
-    ∙ (ap
-    (λ s. (spellings h ++ s) ++ definitions_text drawing definitions)
-    (spelling-definition definition.register (slice_index_or drawing.colors definition.entry []))
-    ∙ append_assoc (spellings h) (register_definition drawing definition)
-    (definitions_text drawing definitions))
+    let rest = spellings-definitions drawing definitions (with_definition drawing definition h) in
+    grind (arith, nat_tests, spelling-definition, append_assoc)
 
 -- the bytes of the raster attributes in one order of joining
 raster-joined : (p w h : List ℕ)

@@ -37,14 +37,6 @@ length-trip_pixel : (drawing : Drawing) (column line : ℕ) → IsWritable drawi
 length-trip_pixel drawing column line is =
     grind (arith, nat_tests, length-append, length-rounded_entry, known_in)
 
--- a byte of the trip, at a place
-pub byte-trip : (crop : Bool) (drawing : Drawing) (place i : ℕ) → IsWritable drawing
-    → place < drawing.width * trip_height crop drawing → i < 4
-    → slice_index (trip crop drawing).pixels (4 * place + i)
-    ≡ get_or (trip_pixel drawing (entry_in drawing place)) i 0
-byte-trip crop drawing place i is l li =
-    grind (arith, nat_tests, slice_index-picture, div-add-mod', length-trip_pixel)
-
 -- how many bytes it has
 pub length-trip : (crop : Bool) (drawing : Drawing) → IsWritable drawing
     → length (trip crop drawing).pixels ≡ 4 * (drawing.width * trip_height crop drawing)
@@ -52,28 +44,32 @@ length-trip crop drawing is = grind (arith, nat_tests, length-picture, length-tr
 
 -- a list of three with a byte behind
 read-three : (c : List ℕ) → length c ≡ 3
-    →
-    (get_or (c ++ 255 ∷ []) 0 0 ∷ get_or (c ++ 255 ∷ []) 1 0 ∷ get_or (c ++ 255 ∷ []) 2 0 ∷ [] ≡ c)
-    × (get_or (c ++ 255 ∷ []) 3 0 ≡ 255)
+    → (get_or (c ++ 255 ∷ []) 0 0 ∷ get_or (c ++ 255 ∷ []) 1 0 ∷ get_or (c ++ 255 ∷ []) 2 0 ∷ []
+    ≡ c) × (get_or (c ++ 255 ∷ []) 3 0 ≡ 255)
 read-three c three = grind (arith, common_steps, nat_tests)
 
--- the alpha of a pixel with an entry
-pub alpha-some : (crop : Bool) (drawing : Drawing) (place entry : ℕ) → IsWritable drawing
-    → place < drawing.width * trip_height crop drawing → entry_in drawing place ≡ Some entry
-    → slice_index (trip crop drawing).pixels (4 * place + 3) ≡ 255
-alpha-some crop drawing place entry is l e =
-    grind (arith, common_steps, nat_tests, byte-trip, read-three, length-rounded_entry, known_in)
+module _ (crop : Bool) (drawing : Drawing) (place : ℕ) (is : IsWritable drawing)
+    (l : place < drawing.width * trip_height crop drawing) where
+  -- a byte of the trip, at a place
+  pub byte-trip : (i : ℕ) → i < 4
+      → slice_index (trip crop drawing).pixels (4 * place + i)
+      ≡ get_or (trip_pixel drawing (entry_in drawing place)) i 0
+  byte-trip i li = grind (arith, nat_tests, slice_index-picture, div-add-mod', length-trip_pixel)
 
--- and its color
-pub color-some : (crop : Bool) (drawing : Drawing) (place entry : ℕ) → IsWritable drawing
-    → place < drawing.width * trip_height crop drawing → entry_in drawing place ≡ Some entry
-    → color_at (trip crop drawing).pixels place ≡ rounded_entry drawing entry
-color-some crop drawing place entry is l e =
-    let pixels : List ℕ = (trip crop drawing).pixels in
-    let byte : (i : ℕ) → i < 4
-    → slice_index pixels (4 * place + i) ≡ get_or (rounded_entry drawing entry ++ 255 ∷ []) i 0 =
-    λ i li. grind (arith, nat_tests, byte-trip) in
-    grind (arith, nat_tests, read-three, length-rounded_entry, known_in)
+  -- the alpha of a pixel with an entry
+  pub alpha-some : (entry : ℕ) → entry_in drawing place ≡ Some entry
+      → slice_index (trip crop drawing).pixels (4 * place + 3) ≡ 255
+  alpha-some entry e =
+      grind (arith, common_steps, nat_tests, byte-trip, read-three, length-rounded_entry, known_in)
+
+  -- and its color
+  pub color-some : (entry : ℕ) → entry_in drawing place ≡ Some entry
+      → color_at (trip crop drawing).pixels place ≡ rounded_entry drawing entry
+  color-some entry e =
+      let byte : (i : ℕ) → i < 4 → slice_index (trip crop drawing).pixels (4 * place + i)
+      ≡ get_or (rounded_entry drawing entry ++ 255 ∷ []) i 0 =
+      λ i li. grind (arith, nat_tests, byte-trip) in
+      grind (arith, nat_tests, read-three, length-rounded_entry, known_in)
 
 -- a transparent pixel with no entry is hidden
 pub alpha-none : (crop : Bool) (drawing : Drawing) (place : ℕ) → IsWritable drawing
@@ -88,21 +84,18 @@ pub shown-entry : (crop : Bool) (drawing : Drawing) (c : List ℕ) → IsWritabl
 shown-entry crop drawing c is mode shown = go (entry_in drawing shown.0) refl
   where
     inside : shown.0 < drawing.width * trip_height crop drawing
-    inside = let all = length-trip crop drawing is in let l = shown.1 in omega arith
+    inside = omega (arith, length-trip crop drawing is, shown.1)
 
     go : (v : Option ℕ) → entry_in drawing shown.0 ≡ v
         → (entry : ℕ) × (entry < length drawing.colors) × (rounded_entry drawing entry ≡ c)
     go None e = grind (arith, nat_tests, alpha-none, inside)
-    go (Some entry) e = (
-      entry,
-      (known_in drawing shown.0 entry is e).1,
-      sym (color-some crop drawing shown.0 entry is inside e) ∙ shown.3,
-    )
+    go (Some entry) e =
+        let same = sym (color-some crop drawing shown.0 is inside entry e) ∙ shown.3 in
+        (entry, (known_in drawing shown.0 entry is e).1, same)
 
 -- so every such color is among the drawing's colors, rounded
 pub shown-among : (crop : Bool) (drawing : Drawing) (c : List ℕ) → IsWritable drawing
     → drawing.background_mode ≡ Transparent → IsShown (trip crop drawing).pixels c
     → Contains (map (map rounded) drawing.colors) c
 shown-among crop drawing c is mode shown =
-    let found = shown-entry crop drawing c is mode shown in
-    grind (arith, nat_tests, length-map, get_or-map)
+    grind (arith, nat_tests, shown-entry crop drawing c, length-map, get_or-map)

@@ -2,7 +2,7 @@
 use Rattle.std.specs.List.{list_any}
 use Rattle.std.specs.Prelude.{None, Option, Some, is_some, ◌/◌}
 use Rattle.std.proofs.Common.{Bool, List, ap, arith, drop, false, get_or, length, refl, suc}
-use Rattle.std.proofs.Common.{sym, take, true, zero, ℕ, ◌%◌, ◌*◌, ◌+◌, ◌-◌, ◌<◌, ◌∙◌, ◌≡◌, ◌≤◌}
+use Rattle.std.proofs.Common.{take, true, zero, ℕ, ◌%◌, ◌*◌, ◌+◌, ◌-◌, ◌<◌, ◌∙◌, ◌≡◌, ◌≤◌}
 use Rattle.std.proofs.lemmas.List.{get_or-drop, get_or-take, get_or_default, get_or_past}
 use Rattle.std.proofs.lemmas.List.{length-drop, length-take}
 use Rattle.std.proofs.lemmas.List.Folds.{Any-from_list_any, list_any_at, list_any_none}
@@ -51,9 +51,8 @@ place-in_band band bit width column = omega arith
 pub unused-places : (drawing : Drawing) (band bit column : ℕ) → is_used drawing band ≡ false
     → bit < 6 → column < drawing.width → entry_at drawing column (6 * band + bit) ≡ None
 unused-places drawing band bit column none lb lc =
-    ap (λ place. get_or drawing.entries place None) (place-in_band band bit drawing.width column)
-    ∙ window-none drawing.entries (6 * band * drawing.width) (6 * drawing.width)
-    (bit * drawing.width + column) none (omega (arith, mul-add-lt bit drawing.width column 6 lb lc))
+    let place = place-in_band band bit drawing.width column in
+    grind (arith, nat_tests, window-none, mul-add-lt bit drawing.width column 6)
 
 -- six answers of no make 0
 pub mask-nothing : (test : ℕ → Bool) (n : ℕ) → ((k : ℕ) → k < n → test k ≡ false) → mask test n ≡ 0
@@ -66,14 +65,8 @@ mask-nothing test (suc n) none =
 pub unused-dots : (drawing : Drawing) (band entry : ℕ) → is_used drawing band ≡ false
     → has_dot (row_of drawing band entry) ≡ false
 unused-dots drawing band entry none =
-    grind (
-      arith,
-      list_any_none,
-      length-row_of,
-      get_or-map-range_with_len,
-      mask-nothing,
-      unused-places,
-    )
+    let long = length-row_of drawing band entry in
+    grind (arith, list_any_none, get_or-map-range_with_len, mask-nothing, unused-places)
 
 -- a pixel within the area is within the height
 row-below : (row width column height : ℕ) → row * width + column < width * height → row < height
@@ -84,24 +77,17 @@ pub used-pixel : (drawing : Drawing) (band : ℕ) → IsWritable drawing → is_
     → (column : ℕ) × (line : ℕ) × (entry : ℕ) × (column < drawing.width) × (line < drawing.height)
     × (line / 6 ≡ band) × (entry_at drawing column line ≡ Some entry)
 used-pixel drawing band is used =
-    let found = window-some drawing.entries (6 * band * drawing.width) (6 * drawing.width) used in
-    let i : ℕ = found.0 in
-    let inside : 6 * band * drawing.width + i < length drawing.entries = found.2 in
-    let at : get_or drawing.entries (6 * band * drawing.width + i) None ≡ Some found.3.0 =
-    found.3.1 in
-    let w : 0 < drawing.width = omega (arith, is.some_width) in
-    let bit : i / drawing.width < 6 = div_below i drawing.width 6 w found.1 in
-    let place : (6 * band + i / drawing.width) * drawing.width + i % drawing.width
-    ≡ 6 * band * drawing.width + i = grind (arith, nat_tests) in (
-      i % drawing.width,
-      6 * band + i / drawing.width,
-      found.3.0,
-      mod_below i drawing.width w,
-      row-below (6 * band + i / drawing.width) drawing.width (i % drawing.width) drawing.height
-          (omega (arith, place, inside, is.pixels)),
-      omega arith,
-      ap (λ n. get_or drawing.entries n None) place ∙ at,
-    )
+    let (i, low, inside, known) =
+    window-some drawing.entries (6 * band * drawing.width) (6 * drawing.width) used in
+    let w = drawing.width in
+    let some : 0 < w = omega (arith, is.some_width) in
+    let bit = div_below i w 6 some low in
+    let place : (6 * band + i / w) * w + i % w ≡ 6 * band * w + i = grind (arith, nat_tests) in
+    let below =
+    row-below (6 * band + i / w) w (i % w) drawing.height
+    (omega (arith, place, inside, is.pixels)) in
+    let at = ap (λ n. get_or drawing.entries n None) place ∙ known.1 in
+    (i % w, 6 * band + i / w, known.0, mod_below i w some, below, omega arith, at)
 
 -- a band with a pixel that has an entry is used
 pub used-here : (drawing : Drawing) (column line entry : ℕ) → IsWritable drawing
@@ -110,10 +96,7 @@ pub used-here : (drawing : Drawing) (column line entry : ℕ) → IsWritable dra
 used-here drawing column line entry is lc ll e =
     let bit : ℕ = line - 6 * (line / 6) in
     let here : 6 * (line / 6) + bit ≡ line = omega arith in
-    let place : 6 * (line / 6) * drawing.width + (bit * drawing.width + column)
-    ≡ line * drawing.width + column =
-    sym (place-in_band (line / 6) bit drawing.width column)
-    ∙ ap (λ n. n * drawing.width + column) here in
+    let place = place-in_band (line / 6) bit drawing.width column in
     grind (arith, nat_tests, mul-add-lt, window-any)
 
 -- no value at any place of a part of the list

@@ -8,8 +8,5 @@ pub mod Segments
 pub mod RegisterOrder
 pub mod Compact
 pub mod Form
-pub mod Gray
-pub mod Dithering
-pub mod GrayDiffusion
 pub mod IndexedDrawing
 pub mod RefinedText

@@ -3,7 +3,7 @@ use Rattle.std.specs.Prelude.{◌≡◌, ℕ, ◌<◌, ◌++◌, ◌∷◌, [], 
 use Rattle.sixel_base.specs.Payload.{Image}
 use Rattle.sixel_palette.specs.Refined.{IsRefined}
 use Rattle.sixel_palette.specs.declared.palette.refined.RefinedPalette.{RefinedPalette}
-use Rattle.sixel_encoder.specs.declared.mapping.Mapping.{Mapping}
+use Rattle.sixel_palette.specs.declared.mapping.Mapping.{Mapping}
 use Rattle.sixel_encoder.specs.declared.form.TextForm.{TextForm}
 use Rattle.sixel_encoder.specs.IndexedDrawing.{IsPaletteText, indexed_drawing}
 use Rattle.sixel_encoder.specs.Text.{Drawing}

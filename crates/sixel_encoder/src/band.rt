@@ -16,6 +16,7 @@ use crate::register_order::{RUN_LANES, are_opaque};
 use crate::run_tokens::push_row;
 use crate::runs::equal_from;
 use crate::text::IndexedImage;
+use sixel_palette::palette::colors::is_opaque;
 use std::alloc::{AllocError, Global};
 use std::simd::prelude::*;
 
@@ -361,14 +362,4 @@ fn has_row(entry: usize, first: usize, count: usize) -> bool
     ensures outside { result ≡ false → (k : ℕ) → k < count → entry ≢ first + k }
 {
     first <= entry && entry < first + count
-}
-
-/// Returns whether a pixel is opaque: an alpha of at least 128.
-#[inline(always)]
-pub fn is_opaque(pixels: &[u8], pixel: usize) -> bool
-    requires { 4 * pixel + 3 < length pixels.now }
-    ensures opaque { result ≡ true → 128 ≤ slice_index pixels.now (4 * pixel + 3) }
-    ensures transparent { result ≡ false → slice_index pixels.now (4 * pixel + 3) < 128 }
-{
-    pixels[4 * pixel + 3] >= 128
 }

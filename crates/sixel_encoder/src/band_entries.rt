@@ -7,8 +7,8 @@ ghost use Rattle.sixel_encoder.specs.Text.{entry_at, mask, sixel_of};
 ghost use Rattle.sixel_encoder.specs.inside.Compact.{AreLanes, AreSpare, lane_of};
 ghost use Rattle.sixel_encoder.specs.inside.Indexed.{IsIndexed, drawing_of};
 
-use crate::band::is_opaque;
 use crate::text::IndexedImage;
+use sixel_palette::palette::colors::is_opaque;
 use std::alloc::{AllocError, Global};
 use std::simd::prelude::*;
 

@@ -10,15 +10,15 @@ ghost use Rattle.sixel_encoder.specs.IndexedDrawing.{IsPaletteText, IsTextOf, in
 ghost use Rattle.sixel_encoder.specs.IndexedDrawing.{palette_fault, index_count_fault};
 ghost use Rattle.sixel_encoder.specs.IndexedDrawing.{index_range_fault, indexed_fault};
 
-use crate::band::is_opaque;
 use crate::form::{TextForm, encode_in_form};
-use crate::indices::dithered_indices;
-use crate::indices::mapped::MappedImage;
-use crate::mapping::Mapping;
 use crate::source::Source;
 use crate::text::IndexedImage;
 use sixel_base::size::{validate_buffer, validate_color_count, validate_encode_dimensions};
 use sixel_base::{Result, SixelError};
+use sixel_palette::dithering::dithered_indices;
+use sixel_palette::dithering::mapped::MappedImage;
+use sixel_palette::mapping::Mapping;
+use sixel_palette::palette::colors::is_opaque;
 use sixel_palette::palette::nearest_indices::color_bytes;
 use std::alloc::Global;
 

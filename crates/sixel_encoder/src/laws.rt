@@ -16,7 +16,7 @@ ghost use Rattle.sixel_base.specs.Dcs.{Reading, stage};
 ghost use Rattle.sixel_base.specs.Limits.{Limit};
 ghost use Rattle.sixel_base.specs.OneShot.{Payload, found};
 ghost use Rattle.sixel_encoder.specs.Compact.{compact_text};
-ghost use Rattle.sixel_encoder.specs.declared.mapping.Mapping.{Mapping};
+ghost use Rattle.sixel_palette.specs.declared.mapping.Mapping.{Mapping};
 ghost use Rattle.sixel_encoder.specs.declared.form.TextForm.{TextForm};
 ghost use Rattle.sixel_encoder.specs.Marks.{IsDrawnText};
 ghost use Rattle.sixel_encoder.specs.RefinedText.{IsRefinedText};

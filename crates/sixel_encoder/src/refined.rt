@@ -8,11 +8,11 @@ ghost use Rattle.sixel_encoder.specs.RefinedText.{IsRefinedText};
 
 use crate::form::TextForm;
 use crate::given_palette::{encode_drawing, validate_source};
-use crate::indices::indices_from;
-use crate::indices::mapped::MappedImage;
-use crate::mapping::Mapping;
 use crate::source::Source;
 use sixel_base::Result;
+use sixel_palette::dithering::indices_from;
+use sixel_palette::dithering::mapped::MappedImage;
+use sixel_palette::mapping::Mapping;
 use sixel_palette::palette::{RefinedPalette, refine_palette};
 use std::alloc::Global;
 

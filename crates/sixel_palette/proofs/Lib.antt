@@ -1,8 +1,7 @@
 pub mod PaletteApart
 pub mod PaletteBins
 pub mod PaletteBits
-pub mod PaletteBoxes
-pub mod PaletteCells
+pub mod PaletteBuckets
 pub mod PaletteChoices
 pub mod PaletteColors
 pub mod PaletteCounts
@@ -33,3 +32,13 @@ pub mod PaletteSize
 pub mod PaletteStores
 pub mod PaletteSums
 pub mod PaletteTops
+pub mod DiffusionLanes
+pub mod DiffusionLaws
+pub mod DiffusionVisit
+pub mod DitheredIndices
+pub mod GraySource
+pub mod KeptEntries
+pub mod PaletteError
+pub mod Serpentine
+pub mod SameVisits
+pub mod SixteenEntries

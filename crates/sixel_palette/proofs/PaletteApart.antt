@@ -3,7 +3,7 @@ use Rattle.std.proofs.Common.{◌≡◌, ℕ, suc, ◌+◌, ◌*◌, ◌<◌, �
 use Rattle.std.proofs.Common.{◌∷◌, length, get_or, take, refl, arith}
 use Rattle.std.specs.List.{All, AllPairs, Contains, filter}
 use Rattle.std.proofs.lemmas.Bool.{cases_Bool, leb-false, leb-true}
-use Rattle.std.proofs.lemmas.List.{get_or-take, get_or_default, length-take, take_more}
+use Rattle.std.proofs.lemmas.List.{get_or-take, get_or_default, length-take, take_all, take_more}
 use Rattle.std.proofs.lemmas.List.Quantifiers.{all_pairs_push}
 use Rattle.std.proofs.lemmas.List.Elements.{All-contains_itself, All-nil, All-cons}
 use Rattle.std.proofs.lemmas.List.Elements.{All-filter, filter_passes}
@@ -87,3 +87,5 @@ pub bound_from_apart : (colors : List (List ℕ)) (least : ℕ) → AreApart col
 bound_from_apart colors least apart n l = λ others m.
     far_from_others (Contains colors) least others colors apart (All-contains_itself colors)
     (omega arith)
+
+pub ruleset apart_pairs = (nat_tests, take_all, apart_more, bound_from_apart)

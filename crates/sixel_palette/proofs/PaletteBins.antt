@@ -2,27 +2,25 @@
 use Rattle.std.proofs.Common.{◌≡◌, ℕ, zero, suc, ◌+◌, ◌*◌, ◌<◌, ◌≤◌, Bool, true, false, List, []}
 use Rattle.std.proofs.Common.{◌∷◌, ◌++◌, length, get_or, set, map, cond, refl, ap, sym, ◌∙◌, arith}
 use Rattle.std.specs.List.{All, sum_by}
-use Rattle.std.specs.Prelude.{◌/◌, ◌⊎◌, ◌≢◌}
+use Rattle.std.specs.Prelude.{◌/◌, ◌≢◌}
 use Rattle.std.proofs.lemmas.Bool.Decides.{nat_tests}
 use Rattle.std.proofs.lemmas.List.{get_or-set_same, get_or-set_other, get_or_append_left, get_or_at}
 use Rattle.std.proofs.lemmas.List.{length_push, get_or-map, length-map}
 use Rattle.std.specs.List.Sorted.{IsStrictlyIncreasing}
 use Rattle.std.proofs.lemmas.List.Kept.{AllPairs-from_increasing}
-use Rattle.std.proofs.lemmas.List.Sums.{sum_by-set, sum_by-cons}
+use Rattle.std.proofs.lemmas.List.Sums.{get_or-le-sum_by, sum_by-cons, sum_by-set}
+use Rattle.std.proofs.lemmas.List.Sums.{sum_by-take-le, sum_by_more_le}
 use Rattle.sixel_palette.specs.declared.palette.bins.Bin.{Bin}
 use Rattle.sixel_palette.specs.declared.palette.color_sums.ColorSums.{ColorSums}
 use Rattle.sixel_palette.specs.ColorSums.{Pixels, share, sums_of}
 use Rattle.sixel_palette.specs.GainCut.{corner}
 use Rattle.sixel_palette.specs.Lloyd.{is_corner}
 use Rattle.sixel_palette.specs.Refined.{sum_to}
-use Rattle.sixel_palette.specs.inside.PaletteBins.{IsTable, cell, corners_of}
+use Rattle.sixel_palette.specs.inside.PaletteBins.{IsTable, slot, corners_of}
 use Rattle.sixel_palette.specs.inside.PaletteCodes.{color_of}
 use Rattle.sixel_palette.specs.inside.PaletteSums.{AreBinsOf, IsWholeBin, binned_sums, channels}
 use Rattle.sixel_palette.specs.inside.PaletteSums.{first_counted, total}
-use Rattle.sixel_palette.proofs.PaletteCounts.{sum_to-more}
-
-either : (b : Bool) → (b ≡ true) ⊎ (b ≡ false)
-either b = grind (arith, nat_tests)
+use Rattle.sixel_palette.proofs.PaletteSums.{sum_by_zero, sum_to-more}
 
 -- ---- equal corners
 
@@ -53,8 +51,8 @@ sums_more bins place old new more c within own same corner plus contains k =
 -- so no corner is that of a color that the table does not find
 pub not_found : (corners : List (List ℕ)) (positions : List ℕ) (c : List ℕ)
     → IsTable corners positions (get_or c 0 0) → get_or c 2 0 < 64
-    → (get_or positions (cell c) 0 < length corners
-    → is_corner (get_or corners (get_or positions (cell c) 0) []) c ≡ false)
+    → (get_or positions (slot c) 0 < length corners
+    → is_corner (get_or corners (get_or positions (slot c) 0) []) c ≡ false)
     → (k : ℕ) → k < length corners → is_corner (get_or corners k []) c ≡ false
 not_found corners positions c h small miss k l = grind (arith, nat_tests)
 
@@ -67,30 +65,24 @@ pub table_more : (corners : List (List ℕ)) (positions : List ℕ) (c : List �
     → IsTable corners positions (get_or c 0 0) → IsTable corners positions red
     → get_or c 0 0 ≤ red → get_or c 1 0 < 64 → get_or c 2 0 < 64
     → ((k : ℕ) → k < length corners → is_corner (get_or corners k []) c ≡ false)
-    → cell c < length positions
-    → IsTable (corners ++ c ∷ []) (set positions (cell c) (length corners)) red
+    → slot c < length positions
+    → IsTable (corners ++ c ∷ []) (set positions (slot c) (length corners)) red
 table_more corners positions c red own h at_most green blue none within =
     grind (arith, length_push, get_or_append_left, get_or_at, get_or-set_same, get_or-set_other)
 
 -- ---- the pixels of one bin
 
--- numbers that are all 0 have the sum 0
-sum_by_none : {X : Type 0} (f : X → ℕ) (xs : List X) (d : X)
-    → ((j : ℕ) → j < length xs → f (get_or xs j d) ≡ 0) → sum_by f xs ≡ 0
-sum_by_none f [] d h = refl
-sum_by_none f (x ∷ xs) d h =
-    grind (arith, sum_by-cons, h 0, sum_by_none f xs d (λ j l. h (suc j) (omega arith)))
-
 -- where all others are 0, one number is the sum
 sum_by_one : {X : Type 0} (f : X → ℕ) (xs : List X) (m : ℕ) (d : X) → m < length xs
-    → ((j : ℕ) → j < length xs → j ≢ m → f (get_or xs j d) ≡ 0)
+    → ((j : ℕ) (e : X) → j < length xs → j ≢ m → f (get_or xs j e) ≡ 0)
     → sum_by f xs ≡ f (get_or xs m d)
 sum_by_one f [] m d l h = absurd (omega arith)
 sum_by_one f (x ∷ xs) zero d l h =
-    grind (arith, sum_by-cons, sum_by_none f xs d (λ j k. h (suc j) (omega arith) (omega arith)))
+    grind (arith, sum_by-cons, sum_by_zero f xs (λ j e k. h (suc j) e (omega arith) (omega arith)))
 sum_by_one f (x ∷ xs) (suc m) d l h =
-    let rest = sum_by_one f xs m d (omega arith) (λ j k e. h (suc j) (omega arith) (omega arith)) in
-    grind (arith, sum_by-cons, h 0)
+    let rest =
+    sum_by_one f xs m d (omega arith) (λ j e k o. h (suc j) e (omega arith) (omega arith)) in
+    grind (arith, sum_by-cons, h 0 x)
 
 is_corner-comm : (a b : List ℕ) → is_corner a b ≡ false → is_corner b a ≡ false
 is_corner-comm a b e = grind (arith, nat_tests)
@@ -106,7 +98,7 @@ pub whole_bins : (pixels : Pixels) (bins : List Bin) → AreBinsOf pixels (λ _.
 whole_bins pixels bins are distinct = λ m d l k.
     let place = (get_or bins m d).corner in
     let f : Bin → ℕ = λ bin. cond (is_corner place (channels bin.corner)) (total bin.sums k) 0 in
-    let other : (j : ℕ) → j < length bins → j ≢ m → f (get_or bins j d) ≡ 0 = λ j n e.
+    let other : (j : ℕ) (d : Bin) → j < length bins → j ≢ m → f (get_or bins j d) ≡ 0 = λ j d n e.
     grind (arith, nat_tests, distinct j m, distinct m j, get_or-map, length-map, is_corner-comm) in
     let own : f (get_or bins m d) ≡ total (get_or bins m d).sums k =
     grind (arith, nat_tests, is_corner-self) in
@@ -121,6 +113,8 @@ cond_times test n a = grind (arith, nat_tests)
 pub red-le : (a b : ℕ) → a ≤ b → get_or (color_of a) 0 0 / 4 ≤ get_or (color_of b) 0 0 / 4
 unfolding color_of
 red-le a b l = omega arith
+
+pub ruleset bin_counts = (nat_tests, get_or-le-sum_by, sum_by_more_le, sum_by-take-le)
 
 -- no pixel
 pub counted_none : (step : ℕ) (codes counts : List ℕ) (contains : List ℕ → Bool) (k : ℕ)

@@ -1,7 +1,7 @@
 -- From the listed codes and the entries chosen among them to the palette of the image and its
 -- certificate.
-use Rattle.std.proofs.Common.{◌≡◌, ℕ, ◌<◌, ◌≤◌, List, [], length, get_or, map, refl, sym, inl}
-use Rattle.std.proofs.Common.{inr, ◌∙◌, ⊎_elim, arith}
+use Rattle.std.proofs.Common.{◌≡◌, ℕ, ◌<◌, ◌≤◌, List, [], length, get_or, map, refl}
+use Rattle.std.proofs.Common.{◌∙◌, ⊎_elim, arith}
 use Rattle.std.specs.List.{All, Contains}
 use Rattle.std.specs.List.Sorted.{IsStrictlyIncreasing}
 use Rattle.std.proofs.lemmas.Bool.{cases_lt}
@@ -17,8 +17,8 @@ use Rattle.sixel_palette.specs.inside.PaletteChosen.{IsChosen}
 use Rattle.sixel_palette.proofs.PaletteColors.{IsColor, rank-color_of, distance-lt}
 use Rattle.sixel_palette.proofs.PaletteNearest.{nearest-le}
 use Rattle.sixel_palette.proofs.PaletteShown.{IsColor-color_at}
-use Rattle.sixel_palette.proofs.PaletteOrder.{farthest_alike, members_from_order, apart_from_order}
-use Rattle.sixel_palette.proofs.PaletteOrder.{bound_from_order}
+use Rattle.sixel_palette.proofs.PaletteOrder.{farthest_alike, order_alike, members_from_order}
+use Rattle.sixel_palette.proofs.PaletteOrder.{apart_from_order, bound_from_order}
 use Rattle.sixel_palette.proofs.PaletteSize.{one_size, complete_from_size}
 use Rattle.std.proofs.lemmas.Bool.Decides.{nat_tests}
 
@@ -33,21 +33,13 @@ members_from_codes M codes up to from =
     record {
       all = λ k d l. rw (color k d (omega arith)) (from _ (k, omega arith, refl));
       complete = λ c m. let h = to c m in (h.0, omega (arith, h.1), color h.0 c h.1 ∙ h.2);
-      ascending = λ i j d l m.
-          let n : j < length codes = omega arith in
-          rw (color i d (omega arith), color j d n)
-          (omega (arith, rank-color_of, AllPairs-from_increasing codes up i j 0 l n));
+      ascending = λ i j d l m. grind (arith, nat_tests, rank-color_of, AllPairs-from_increasing);
     }
 
 pub size_from_codes : (M : List ℕ → Type 0) (codes : List ℕ) → IsStrictlyIncreasing codes
     → ((c : List ℕ) → M c → IsListed codes c) → ((c : List ℕ) → IsListed codes c → M c)
     → HasSize M (length codes)
 size_from_codes h codes up to from = grind (arith, nat_tests, members_from_codes, length-map)
-
--- a list that is farthest first over a set is so over the same set
-order_alike : (M N : List ℕ → Type 0) → ((c : List ℕ) → M c → N c) → ((c : List ℕ) → N c → M c)
-    → (entries : List (List ℕ)) → IsFarthestFirst M entries → IsFarthestFirst N entries
-order_alike h e to from entries order = grind (arith, nat_tests)
 
 -- the color of an opaque pixel has three channels
 pub three_from_shown : (pixels c : List ℕ) → IsShown pixels c → length c ≡ 3
@@ -62,28 +54,26 @@ module _ (pixels : List ℕ) (room : ℕ) (choice : PaletteChoice)
     (h : IsChosen pixels room choice) where
   -- where a pixel is opaque there is a code
   some_from_shown : (c : List ℕ) → IsShown pixels c → 0 < length h.codes
-  some_from_shown c m = let l = (h.shown c m).1 in omega arith
+  some_from_shown c m = let l = (h.are.shown c m).1 in omega arith
 
   -- the entries are farthest first over the colors of opaque pixels
   pub chosen_order : IsFarthestFirst (IsShown pixels) choice.colors.items
   chosen_order =
-      order_alike (IsListed h.codes) (IsShown pixels) h.listed h.shown choice.colors.items h.order
+      order_alike (IsListed h.codes) (IsShown pixels) h.are.listed h.are.shown _ h.order
 
   -- the next color is the farthest of these
   chosen_farthest : 0 < length h.codes → IsFarthest (IsShown pixels) choice.colors.items h.far
   chosen_farthest l =
-      farthest_alike (IsListed h.codes) (IsShown pixels) h.listed h.shown choice.colors.items h.far
+      farthest_alike (IsListed h.codes) (IsShown pixels) h.are.listed h.are.shown _ h.far
       (h.farthest l)
 
   -- there are as many of these colors as codes
   pub chosen_size : HasSize (IsShown pixels) (length h.codes)
-  chosen_size = size_from_codes (IsShown pixels) h.codes h.up h.shown h.listed
+  chosen_size = size_from_codes (IsShown pixels) h.codes h.are.ascending h.are.shown h.are.listed
 
   -- so it is the only size
   only_size : (n : ℕ) → HasSize (IsShown pixels) n → n ≡ length h.codes
-  only_size n s =
-      one_size (IsShown pixels) (IsShown pixels) (λ c m. m) (λ c m. m) (three_from_shown pixels) n
-      (length h.codes) s chosen_size
+  only_size n s = one_size (IsShown pixels) (three_from_shown pixels) n _ s chosen_size
 
   -- the error is the greatest distance to the nearest entry
   pub chosen_error : IsError (IsShown pixels) choice.colors.items choice.error
@@ -91,10 +81,7 @@ module _ (pixels : List ℕ) (room : ℕ) (choice : PaletteChoice)
     bound = λ c m.
         let some = some_from_shown c m in
         rw (h.error_some some) ((chosen_farthest some).farthest c m);
-    reached =
-        ⊎_elim (λ some. inr (h.far, (chosen_farthest some).member, sym (h.error_some some)))
-        (λ none. inl (h.error_none (omega arith)))
-        (cases_lt 0 (length h.codes));
+    reached = grind (arith, nat_tests, h.far, h.error_some, h.error_none, cases_lt, h.codes);
   }
 
   -- the witnesses are the entries and the next color
@@ -155,4 +142,4 @@ module _ (pixels : List ℕ) (room : ℕ) (choice : PaletteChoice)
   chosen_empty none =
       nil_from_length choice.colors.items
       (let c = color_of (get_or h.codes 0 0) in
-      grind (arith, nat_tests, none c, h.listed c, h.size))
+      grind (arith, nat_tests, none c, h.are.listed c, h.size))

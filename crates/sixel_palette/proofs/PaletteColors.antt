@@ -41,6 +41,8 @@ color_of-rank c h =
     same_from_rank (color_of (rank c)) c (IsColor-color_of (rank c) (rank-lt c h)) h
     (rank-color_of (rank c))
 
+pub ruleset ranks = (nat_tests, color_of-rank)
+
 -- in one channel bytes are at most 255 apart
 square_gap-le : (a b : List ℕ) (k : ℕ) → get_or a k 0 < 256 → get_or b k 0 < 256
     → square_gap a b k ≤ 65025

@@ -6,9 +6,9 @@ use Rattle.std.specs.List.{sum_by}
 use Rattle.std.proofs.Math.Seq.{take-set-lt}
 use Rattle.std.proofs.lemmas.Bool.{cases_lt}
 use Rattle.std.proofs.lemmas.Bool.Decides.{nat_tests}
-use Rattle.std.proofs.lemmas.List.{get_or-take, length-take, take-set-le, take_all}
-use Rattle.std.proofs.lemmas.List.Sums.{sum_by-cons, sum_by-drop_more, sum_by-set, sum_by-take-drop}
-use Rattle.std.proofs.lemmas.List.Sums.{sum_by_more}
+use Rattle.std.proofs.lemmas.List.{get_or-take, length-set, length-take, take-set-le, take_all}
+use Rattle.std.proofs.lemmas.List.Sums.{sum_by-drop_more, sum_by-set, sum_by-take-drop}
+use Rattle.std.proofs.lemmas.List.Sums.{get_or-le-sum_by, sum_by_more, sum_by_more_le}
 use Rattle.sixel_palette.specs.declared.palette.bins.Bin.{Bin}
 use Rattle.sixel_palette.specs.declared.palette.color_sums.ColorSums.{ColorSums}
 use Rattle.sixel_palette.specs.declared.palette.gain_cut.Channel.{Channel}
@@ -21,7 +21,7 @@ use Rattle.sixel_palette.specs.inside.PaletteBoxes.{AreGains, AreWithin, high_pa
 use Rattle.sixel_palette.specs.inside.PaletteSums.{AreBinsOf, channels, prefix_sums, suffix_sums}
 use Rattle.sixel_palette.specs.inside.PaletteSums.{total}
 use Rattle.sixel_palette.proofs.PaletteDivide.{low_above, low_below, parts_of, sums_of_parts}
-use Rattle.sixel_palette.proofs.PaletteSums.{gain-none}
+use Rattle.sixel_palette.proofs.PaletteSums.{gain-none, sum_by_zero}
 
 -- ---- the best of cuts
 
@@ -119,13 +119,10 @@ gathered sums value old new bin channel low n k within own here plus =
     let above = low_above channel (low + n) (λ b. total b.sums k) bin in
     grind (arith, get_or-take, take-set-lt, sum_by-set, length-take, take-set-le)
 
--- ---- the parts of a box
+pub ruleset side_sums =
+    (nat_tests, length-set, sum_by-set, sum_by_more, sum_by_more_le, get_or-le-sum_by, gathered)
 
-sum_by_zero : {X : Type 0} (f : X → ℕ) (xs : List X)
-    → ((k : ℕ) (d : X) → k < length xs → f (get_or xs k d) ≡ 0) → sum_by f xs ≡ 0
-sum_by_zero f [] h = refl
-sum_by_zero f (x ∷ xs) h =
-    grind (arith, sum_by-cons, h 0 x, sum_by_zero f xs (λ k d l. h (suc k) d (omega arith)))
+-- ---- the parts of a box
 
 pub side-channels : (channel : Channel) (c : List ℕ) → side channel (channels c) ≡ side channel c
 side-channels channel c = grind (arith, nat_tests)

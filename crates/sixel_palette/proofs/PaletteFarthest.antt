@@ -1,21 +1,20 @@
 -- From the distances of the colors to the farthest one, and from their palette indices to those of
 -- the pixels.
-use Rattle.std.proofs.Common.{◌≡◌, ℕ, ◌+◌, ◌*◌, ◌/◌, ◌%◌, ◌<◌, ◌≤◌, List, [], length, get_or, refl}
+use Rattle.std.proofs.Common.{◌≡◌, ℕ, ◌/◌, ◌%◌, ◌<◌, ◌≤◌, List, [], length, get_or, refl}
 use Rattle.std.proofs.Common.{ap, sym, ◌∙◌, arith}
 use Rattle.std.specs.List.{Contains}
 use Rattle.std.specs.List.Sorted.{IsStrictlyIncreasing}
 use Rattle.std.proofs.lemmas.List.{get_or_default}
 use Rattle.sixel_palette.specs.declared.palette.nearest_entry.NearestEntry.{NearestEntry}
-use Rattle.sixel_palette.specs.Palette.{nearest, rank, color_at, IsOpaque, IsShown, IsFarthest}
+use Rattle.sixel_palette.specs.Palette.{nearest, rank, color_at, IsShown, IsFarthest}
 use Rattle.sixel_palette.specs.Palette.{IsNearest, no_entry}
-use Rattle.sixel_palette.specs.inside.PaletteCodes.{color_of, IsListed}
+use Rattle.sixel_palette.specs.inside.PaletteCodes.{color_of, IsListed, IsPixelWord}
 use Rattle.sixel_palette.specs.inside.PaletteNearest.{IsNearestEntry, AreNearest, IsIndexOf}
 use Rattle.sixel_palette.specs.inside.PaletteNearest.{IsIndex}
-use Rattle.sixel_palette.specs.inside.PaletteCells.{IsFirstGreatest}
+use Rattle.sixel_palette.specs.inside.PaletteBuckets.{IsFirstGreatest}
 use Rattle.sixel_palette.proofs.PaletteLists.{increasing-le}
 use Rattle.sixel_palette.proofs.PaletteNearest.{nearest-nil, nearest-le}
-use Rattle.sixel_palette.proofs.PaletteColors.{rank-color_of, color_of-rank}
-use Rattle.sixel_palette.proofs.PaletteShown.{IsColor-color_at}
+use Rattle.sixel_palette.proofs.PaletteColors.{rank-color_of}
 use Rattle.std.proofs.lemmas.Bool.Decides.{nat_tests}
 
 -- an earlier position has a color that is no later in order
@@ -58,30 +57,23 @@ pub code_from_listed : (codes : List ℕ) (c : List ℕ) (m : IsListed codes c)
 code_from_listed codes c m = sym (rank-color_of (get_or codes m.0 0)) ∙ ap rank m.2
 
 -- so the code of an opaque pixel's word is among the codes
-pub Contains-word : (pixels codes : List ℕ) (pixel word : ℕ)
-    → word / 256 ≡ rank (color_at pixels pixel) → pixel < length pixels / 4 → IsOpaque pixels pixel
+pub Contains-word : (pixels codes : List ℕ) (pixel word : ℕ) → IsPixelWord pixels pixel word
+    → pixel < length pixels / 4 → 128 ≤ word % 256
     → ((c : List ℕ) → IsShown pixels c → IsListed codes c) → Contains codes (word / 256)
-Contains-word pixels codes pixel word code l opaque listed =
-    let m = listed (color_at pixels pixel) (pixel, l, opaque, refl) in
+Contains-word pixels codes pixel word is l opaque listed =
+    let m = listed (color_at pixels pixel) (pixel, l, omega (arith, is.alpha), refl) in
     (m.0, m.1, grind (arith, nat_tests, get_or_default, code_from_listed))
-
--- the color of a pixel is that of its word
-color_of_word : (pixels : List ℕ) (pixel word : ℕ) → ((k : ℕ) → get_or pixels k 0 < 256)
-    → word / 256 ≡ rank (color_at pixels pixel) → color_of (word / 256) ≡ color_at pixels pixel
-color_of_word pixels pixel word bytes code = grind (arith, color_of-rank, IsColor-color_at)
 
 -- a bound on opaque pixels' colors applies to that of an opaque pixel's word
 pub word_below : (pixels : List ℕ) (entries : List (List ℕ)) (pixel word : ℕ)
-    → ((k : ℕ) → get_or pixels k 0 < 256) → word / 256 ≡ rank (color_at pixels pixel)
-    → pixel < length pixels / 4 → IsOpaque pixels pixel
+    → IsPixelWord pixels pixel word → pixel < length pixels / 4 → 128 ≤ word % 256
     → ((c : List ℕ) → IsShown pixels c → nearest entries c < no_entry)
     → nearest entries (color_of (word / 256)) < no_entry
-word_below pixels entries pixel word bytes code l opaque below = grind (arith, color_of_word)
+word_below pixels entries pixel word is l opaque below =
+    rw is.color (below _ (pixel, l, omega (arith, is.alpha), refl))
 
 -- the index for a word is that of each pixel with the word
 pub index_from_word : (pixels : List ℕ) (entries : List (List ℕ)) (pixel word index : ℕ)
-    → ((k : ℕ) → get_or pixels k 0 < 256) → word / 256 ≡ rank (color_at pixels pixel)
-    → word % 256 ≡ get_or pixels (4 * pixel + 3) 0 → IsIndexOf entries word index
+    → IsPixelWord pixels pixel word → IsIndexOf entries word index
     → IsIndex pixels entries pixel index
-index_from_word pixels entries pixel word index bytes code alpha h =
-    grind (arith, nat_tests, color_of_word)
+index_from_word pixels entries pixel word index is h = grind (arith, nat_tests)

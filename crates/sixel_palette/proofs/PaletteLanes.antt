@@ -12,7 +12,7 @@ use lib.Lanes.{Each1, put_chunk, sel_l, top, zip2}
 use Rattle.sixel_palette.specs.declared.palette.nearest_entry.NearestEntry.{NearestEntry}
 use Rattle.sixel_palette.specs.Palette.{distance}
 use Rattle.sixel_palette.specs.inside.PaletteNearest.{IsNearestEntry, nearest_at}
-use Rattle.sixel_palette.specs.inside.PaletteCells.{IsGreatestIn}
+use Rattle.sixel_palette.specs.inside.PaletteBuckets.{IsGreatestIn}
 use Rattle.sixel_palette.proofs.PaletteNearestEntry.{near_taken, near_kept}
 
 -- all ones where the first number is smaller
@@ -159,16 +159,17 @@ pub greatest_lanes_first : (squares : List ℕ) (from : ℕ) (lanes : List ℕ)
 greatest_lanes_first squares from lanes own =
     record { upper = λ k l. grind (arith, own k); reached = λ j l. (j, l, sym (own j l)) }
 
--- the greatest lane is that of the cell
-pub greatest_from_lanes : (codes squares lanes : List ℕ) (cell greatest : ℕ)
-    → 64 * cell + 64 ≤ length codes → AreGreatestLanes squares (64 * cell) 64 lanes
+-- the greatest lane is that of the bucket
+pub greatest_from_lanes : (codes squares lanes : List ℕ) (bucket greatest : ℕ)
+    → 64 * bucket + 64 ≤ length codes → AreGreatestLanes squares (64 * bucket) 64 lanes
     → ((j : ℕ) → j < 8 → get_or lanes j 0 ≤ greatest)
     → ((j : ℕ) × (j < 8) × (get_or lanes j 0 ≡ greatest))
-    → IsGreatestIn codes squares cell greatest
-greatest_from_lanes codes squares lanes cell greatest whole h upper reached = record {
+    → IsGreatestIn codes squares bucket greatest
+greatest_from_lanes codes squares lanes bucket greatest whole h upper reached = record {
   upper = λ k i.
-      grind (arith, nat_tests, h.upper (k - 64 * cell), upper ((k - 64 * cell) % 8), i.from, i.to);
+      let place = k - 64 * bucket in
+      grind (arith, nat_tests, h.upper place, upper (place % 8), i.from, i.to);
   reached =
       let r = h.reached reached.0 reached.1 in
-      (64 * cell + r.0, grind (arith, nat_tests), grind (arith, nat_tests));
+      (64 * bucket + r.0, grind (arith, nat_tests), grind (arith, nat_tests));
 }

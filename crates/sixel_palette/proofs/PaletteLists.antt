@@ -17,6 +17,13 @@ pub eight_cases : (P : ℕ → Type 0) → P 0 → P 1 → P 2 → P 3 → P 4 �
     → k < 8 → P k
 eight_cases i a b c d e f g h k l = grind (arith, nat_tests)
 
+-- what is so of each element and of one more
+pub each_push : {X : Type 0} (P : ℕ → X → Type 0) (xs : List X) (x d : X) (n : ℕ) → length xs ≡ n
+    → ((k : ℕ) → k < n → P k (get_or xs k d)) → P n x → (k : ℕ) → k < n + 1
+    → P k (get_or (xs ++ x ∷ []) k d)
+each_push P xs x d n size before here k l =
+    grind (arith, nat_tests, get_or_append_left, get_or_push)
+
 -- rising numbers do not fall from an earlier position to a later one
 pub increasing-le : (xs : List ℕ) → IsStrictlyIncreasing xs → (i j : ℕ) → i ≤ j → j < length xs
     → get_or xs i 0 ≤ get_or xs j 0

@@ -5,9 +5,10 @@ use Rattle.std.specs.Prelude.{◌==◌}
 use Rattle.std.specs.List.{All, range_with_len, sum_by}
 use Rattle.std.proofs.lemmas.Bool.Decides.{nat_tests}
 use Rattle.std.proofs.lemmas.List.{get_or-set_other, get_or-set_same, get_or_default, length-map}
-use Rattle.std.proofs.lemmas.List.{same_lists}
+use Rattle.std.proofs.lemmas.List.{length-set, same_lists}
 use Rattle.std.proofs.lemmas.List.FromFn.{get_or-map-range_with_len, length-range_with_len}
-use Rattle.std.proofs.lemmas.List.Sums.{sum_by-cons, sum_by_more}
+use Rattle.std.proofs.lemmas.List.Sums.{get_or-le-sum_by, sum_by-cons, sum_by-set, sum_by_more}
+use Rattle.std.proofs.lemmas.List.Sums.{sum_by_more_le}
 use Rattle.sixel_palette.specs.declared.palette.bins.Bin.{Bin}
 use Rattle.sixel_palette.specs.declared.palette.color_sums.ColorSums.{ColorSums}
 use Rattle.sixel_palette.specs.declared.palette.nearest_entry.NearestEntry.{NearestEntry}
@@ -20,7 +21,6 @@ use Rattle.sixel_palette.specs.inside.PaletteCounts.{counted_error}
 use Rattle.sixel_palette.specs.inside.PaletteNearest.{IsNearestEntry}
 use Rattle.sixel_palette.specs.inside.PaletteSums.{AreBinsOf, AreIndicesBy, IsWholeBin}
 use Rattle.sixel_palette.specs.inside.PaletteSums.{counted_pixels, entry_sums, total}
-use Rattle.sixel_palette.proofs.PaletteCounts.{dot-counted}
 use Rattle.sixel_palette.proofs.PaletteSums.{mean_or-same}
 
 -- ---- the nearest entry
@@ -57,6 +57,9 @@ pub entry_more : (entry : Bin → ℕ) (bins : List Bin) (indices : List ℕ) (s
 entry_more entry bins indices sums position place bin old new index k d are l own at inside was
     plus before =
     grind (arith, sum_by_more, get_or_default, get_or-set_same, get_or-set_other)
+
+pub ruleset additions =
+    (length-set, get_or-le-sum_by, sum_by-set, sum_by_more, sum_by_more_le, entry_more)
 
 sum_by_same : {X : Type 0} (f g : X → ℕ) (xs : List X)
     → ((k : ℕ) (d : X) → k < length xs → f (get_or xs k d) ≡ g (get_or xs k d))
@@ -105,24 +108,16 @@ moved_is pixels entries moved bins are whole size means =
 
 -- ---- the better entries
 
--- the error over the codes is a sum over their pixels
-pub error_counted : (entries : List (List ℕ)) (codes counts : List ℕ)
-    → length counts ≡ length codes
-    → counted_error entries codes counts ≡ (counted_pixels codes counts).sum (nearest entries)
-error_counted entries codes counts same = dot-counted (nearest entries) codes counts same
-
 pub improved_kept : (codes counts : List ℕ) (entries moved : List (List ℕ))
-    → length counts ≡ length codes
     → moved ≡ moved_entries (counted_pixels codes counts)
     (moved_entries (counted_pixels codes counts) entries)
     → counted_error entries codes counts ≤ counted_error moved codes counts
     → entries ≡ improved_entries (counted_pixels codes counts) entries
-improved_kept codes counts entries moved same is l = grind (arith, nat_tests, error_counted)
+improved_kept codes counts entries moved is l = grind (arith, nat_tests)
 
 pub improved_taken : (codes counts : List ℕ) (entries moved : List (List ℕ))
-    → length counts ≡ length codes
     → moved ≡ moved_entries (counted_pixels codes counts)
     (moved_entries (counted_pixels codes counts) entries)
     → counted_error moved codes counts < counted_error entries codes counts
     → moved ≡ improved_entries (counted_pixels codes counts) entries
-improved_taken codes counts entries moved same is l = grind (arith, nat_tests, error_counted)
+improved_taken codes counts entries moved is l = grind (arith, nat_tests)

@@ -1,12 +1,12 @@
 -- That an image has one refined palette: it follows from the opaque colors and their numbers.
-use Rattle.std.proofs.Common.{◌≡◌, ℕ, zero, suc, ◌<◌, ◌≤◌, List, [], ◌∷◌, ◌++◌, length, get_or}
-use Rattle.std.proofs.Common.{map, take, refl, ap, sym, ⊎_elim, add-one, ◌∙◌, arith}
+use Rattle.std.proofs.Common.{◌≡◌, ℕ, suc, ◌<◌, ◌≤◌, List, [], ◌∷◌, ◌++◌, length, get_or}
+use Rattle.std.proofs.Common.{map, take, refl, ap, sym, ⊎_elim, ◌∙◌, arith}
 use Rattle.std.specs.List.{All, AllPairs, Contains}
 use Rattle.std.proofs.lemmas.Bool.{cases_lt}
-use Rattle.std.proofs.lemmas.List.{length-append, length-map, take_all, take_more_same}
+use Rattle.std.proofs.lemmas.List.{length-append, length-map, take_all}
 use Rattle.sixel_palette.specs.GainCut.{bin_step}
 use Rattle.sixel_palette.specs.Palette.{AreMembers, IsShown, rank}
-use Rattle.sixel_palette.specs.Refined.{AreOnTop, IsFarOff, IsRefined, base_entries, cut_entries}
+use Rattle.sixel_palette.specs.Refined.{AreOnTop, IsRefined, base_entries, cut_entries}
 use Rattle.sixel_palette.specs.Refined.{opaque_bins, opaque_pixels, register_color}
 use Rattle.sixel_palette.specs.declared.palette.refined.RefinedPalette.{RefinedPalette}
 use Rattle.std.proofs.lemmas.List.Elements.{All-tail}
@@ -14,7 +14,8 @@ use Rattle.sixel_palette.proofs.PaletteApart.{AllPairs-tail}
 use Rattle.sixel_palette.proofs.PaletteChoices.{IsColor-shown}
 use Rattle.sixel_palette.proofs.PaletteColors.{IsColor, same_from_rank}
 use Rattle.sixel_palette.proofs.PaletteLaw.{byte-get_or}
-use Rattle.sixel_palette.proofs.PaletteOrder.{rank-farthest}
+use Rattle.sixel_palette.proofs.PaletteOrder.{members_alike, order-take}
+use Rattle.sixel_palette.proofs.PaletteTops.{tops_alike}
 use Rattle.std.proofs.lemmas.Bool.Decides.{nat_tests}
 
 -- ---- the members of a set, in order
@@ -53,56 +54,45 @@ same_sets (x ∷ xs) (y ∷ ys) up down to from colors others =
     (All-tail IsColor x xs colors) (All-tail IsColor y ys others) in
     λ i. head i ∷ rest i
 
-members_same : (M N : List ℕ → Type 0) → ((c : List ℕ) → M c → N c) → ((c : List ℕ) → N c → M c)
-    → ((c : List ℕ) → M c → IsColor c) → (xs ys : List (List ℕ)) → AreMembers M xs
-    → AreMembers N ys → xs ≡ ys
-members_same h e to from color xs ys f g = grind (arith, nat_tests, same_sets)
+members_same : (M : List ℕ → Type 0) → ((c : List ℕ) → M c → IsColor c) → (xs ys : List (List ℕ))
+    → AreMembers M xs → AreMembers M ys → xs ≡ ys
+members_same h color xs ys f g = grind (arith, nat_tests, same_sets)
 
 -- ---- entries on top
 
 -- the colors agree as far as both go
-tops-take : (M N : List ℕ → Type 0) → ((c : List ℕ) → M c → N c) → ((c : List ℕ) → N c → M c)
-    → ((c : List ℕ) → M c → IsColor c) → (base xs ys : List (List ℕ))
-    → ((i : ℕ) (d : List ℕ) → i < length xs
-    → IsFarOff M (base ++ map register_color (take i xs)) (get_or xs i d))
-    → ((i : ℕ) (d : List ℕ) → i < length ys
-    → IsFarOff N (base ++ map register_color (take i ys)) (get_or ys i d))
-    → (n : ℕ) → n ≤ length xs → n ≤ length ys → take n xs ≡ take n ys
-tops-take M N to from color base xs ys f g zero l m = refl
-tops-take M N to from color base xs ys f g (suc n) l m =
-    let front = tops-take M N to from color base xs ys f g n (omega arith) (omega arith) in
-    let x = (f n [] (omega arith)).farthest in
-    let y = rw (← front) at (g n [] (omega arith)).farthest in
-    let same = same_from_rank (get_or xs n []) (get_or ys n []) (color _ x.member)
-    (color _ (from _ y.member)) (rank-farthest M N to from _ _ _ x y) in
-    rw (← add-one) (take_more_same xs ys n [] (omega arith) (omega arith) front same)
-
--- neither list is longer
-tops-le : (M N : List ℕ → Type 0) → ((c : List ℕ) → M c → N c) → ((c : List ℕ) → N c → M c)
-    → ((c : List ℕ) → M c → IsColor c) → (max_colors : ℕ)
+tops-take : (M : List ℕ → Type 0) → ((c : List ℕ) → M c → IsColor c) → (max_colors : ℕ)
     → (base entries others witnesses more : List (List ℕ))
     → (f : AreOnTop M max_colors base entries witnesses)
-    → (g : AreOnTop N max_colors base others more) → length others ≤ max_colors
+    → (g : AreOnTop M max_colors base others more)
+    → (n : ℕ) → n ≤ length f.tops → n ≤ length g.tops → take n f.tops ≡ take n g.tops
+tops-take M color max_colors base entries others witnesses more f g =
+    order-take M color (λ tops. base ++ map register_color tops) f.tops g.tops
+    (λ i d l. (f.order i d l).farthest) (λ i d l. (g.order i d l).farthest)
+
+-- neither list is longer
+tops-le : (M : List ℕ → Type 0) → ((c : List ℕ) → M c → IsColor c) → (max_colors : ℕ)
+    → (base entries others witnesses more : List (List ℕ))
+    → (f : AreOnTop M max_colors base entries witnesses)
+    → (g : AreOnTop M max_colors base others more) → length others ≤ max_colors
     → length g.tops ≤ length f.tops
-tops-le M N to from color max_colors base entries others witnesses more f g few =
+tops-le M color max_colors base entries others witnesses more f g few =
     let n = length f.tops in
     let front : n < length g.tops → take n g.tops ≡ f.tops = λ longer.
-    sym (tops-take M N to from color base f.tops g.tops f.order g.order n (omega arith)
-    (omega arith)) ∙ take_all n f.tops (omega arith) in
+    sym (tops-take M color max_colors base _ _ _ _ f g n (omega arith) (omega arith))
+    ∙ take_all n f.tops (omega arith) in
     let off =
     λ (longer : n < length g.tops). rw (front longer, ← f.whole) at (g.order n [] longer) in
     grind (arith, nat_tests, f.whole, g.whole, f.full, length-append, length-map)
 
-tops_same : (M N : List ℕ → Type 0) → ((c : List ℕ) → M c → N c) → ((c : List ℕ) → N c → M c)
-    → ((c : List ℕ) → M c → IsColor c) → (max_colors : ℕ)
+tops_same : (M : List ℕ → Type 0) → ((c : List ℕ) → M c → IsColor c) → (max_colors : ℕ)
     → (base entries others witnesses more : List (List ℕ))
-    → AreOnTop M max_colors base entries witnesses → AreOnTop N max_colors base others more
+    → AreOnTop M max_colors base entries witnesses → AreOnTop M max_colors base others more
     → length entries ≤ max_colors → length others ≤ max_colors → entries ≡ others
-tops_same M N to from color max_colors base entries others witnesses more f g few small =
-    let up = tops-le M N to from color max_colors base entries others witnesses more f g small in
-    let down =
-    tops-le N M from to (λ c m. color c (from c m)) max_colors base _ _ more witnesses g f few in
-    let front = tops-take M N to from color base f.tops g.tops f.order g.order (length f.tops) in
+tops_same M color max_colors base entries others witnesses more f g few small =
+    let up = tops-le M color max_colors base entries others witnesses more f g small in
+    let down = tops-le M color max_colors base _ _ more witnesses g f few in
+    let front = tops-take M color max_colors base _ _ _ _ f g (length f.tops) in
     grind (arith, nat_tests, f.whole, g.whole, take_all)
 
 -- ---- the refined palette
@@ -117,17 +107,21 @@ refined_same p q max_colors x y bytes to from same f g =
     let color : (c : List ℕ) → IsShown p c → IsColor c = λ c m.
     IsColor-shown p c (byte-get_or p bytes) m in
     let members : f.members ≡ g.members =
-    members_same (IsShown p) (IsShown q) to from color f.members g.members f.are g.are in
+    members_same (IsShown p) color f.members g.members f.are
+    (members_alike (IsShown q) (IsShown p) from to g.members g.are) in
     let pixels : opaque_bins p (length f.members) ≡ opaque_bins q (length g.members) = λ i.
     record { sum = λ number. same number i; step = bin_step (length (members i)) } in
     ⊎_elim (λ (many : max_colors < length f.members).
     let mine = f.cut many in
     let yours = g.cut (omega (arith, many, ap length members)) in
+    let top =
+    tops_alike (IsShown q) (IsShown p) from to max_colors g.base y.colors.items y.witnesses.items
+    g.top in
     let base : f.base ≡ g.base =
     mine.1 ∙ (ap (λ s. base_entries s max_colors) pixels ∙ sym yours.1) in (
       mine.0 ∙ (ap (λ s. cut_entries s max_colors) pixels ∙ sym yours.0),
-      tops_same (IsShown p) (IsShown q) to from color max_colors f.base x.colors.items
-          y.colors.items x.witnesses.items y.witnesses.items f.top (rw base g.top) f.few g.few,
+      tops_same (IsShown p) color max_colors f.base x.colors.items y.colors.items
+          x.witnesses.items y.witnesses.items f.top (rw base top) f.few g.few,
     ))
     (λ (few : length f.members ≤ max_colors).
     let mine = f.whole few in

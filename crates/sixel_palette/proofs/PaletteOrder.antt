@@ -7,7 +7,7 @@ use Rattle.std.proofs.lemmas.List.{get_or-take, take-append-le, take_at, get_or_
 use Rattle.std.proofs.lemmas.List.{get_or_at, take_more_same, length-take, length_push}
 use Rattle.std.proofs.lemmas.List.Quantifiers.{all_pairs_push}
 use Rattle.std.proofs.lemmas.List.Elements.{All-push}
-use Rattle.sixel_palette.specs.Palette.{distance, nearest, rank, IsFarthest, IsFarthestFirst}
+use Rattle.sixel_palette.specs.Palette.{distance, nearest, AreMembers, IsFarthest, IsFarthestFirst}
 use Rattle.sixel_palette.specs.PaletteBound.{AreApart, NoListIsBetter}
 use Rattle.sixel_palette.proofs.PaletteNearest.{nearest-le, nearest-take}
 use Rattle.sixel_palette.proofs.PaletteApart.{far_from_others}
@@ -57,22 +57,31 @@ pub farthest_alike : (M N : List ℕ → Type 0) → ((c : List ℕ) → M c →
     → IsFarthest N entries c
 farthest_alike h e to from entries c far = grind (arith, nat_tests)
 
--- two farthest colors have one rank
-pub rank-farthest : (M N : List ℕ → Type 0) → ((c : List ℕ) → M c → N c)
-    → ((c : List ℕ) → N c → M c)
-    → (entries : List (List ℕ)) (a b : List ℕ) → IsFarthest M entries a → IsFarthest N entries b
-    → rank a ≡ rank b
-rank-farthest h e to from entries a b f g = grind (arith, nat_tests)
+pub members_alike : (M N : List ℕ → Type 0) → ((c : List ℕ) → M c → N c)
+    → ((c : List ℕ) → N c → M c) → (colors : List (List ℕ)) → AreMembers M colors
+    → AreMembers N colors
+members_alike h e to from colors are = grind (arith, nat_tests)
 
--- two farthest-first lists over the same colors agree as far as both go
-pub order-take : (M N : List ℕ → Type 0) → ((c : List ℕ) → M c → N c) → ((c : List ℕ) → N c → M c)
-    → ((c : List ℕ) → M c → IsColor c) → (xs ys : List (List ℕ)) → IsFarthestFirst M xs
-    → IsFarthestFirst N ys → (n : ℕ) → n ≤ length xs → n ≤ length ys → take n xs ≡ take n ys
-order-take M N to from colors xs ys f g zero l m = refl
-order-take M N to from colors xs ys f g (suc n) l m =
-    let front = order-take M N to from colors xs ys f g n (omega arith) (omega arith) in
-    let x = f n [] (omega arith) in
-    let y = rw (← front) at (g n [] (omega arith)) in
-    let same = same_from_rank (get_or xs n []) (get_or ys n []) (colors _ x.member)
-    (colors _ (from _ y.member)) (rank-farthest M N to from (take n xs) _ _ x y) in
+pub order_alike : (M N : List ℕ → Type 0) → ((c : List ℕ) → M c → N c)
+    → ((c : List ℕ) → N c → M c) → (entries : List (List ℕ)) → IsFarthestFirst M entries
+    → IsFarthestFirst N entries
+order_alike h e to from entries order = grind (arith, nat_tests)
+
+-- two farthest colors are equal
+farthest_same : (M : List ℕ → Type 0) → ((c : List ℕ) → M c → IsColor c)
+    → (entries : List (List ℕ)) (a b : List ℕ) → IsFarthest M entries a → IsFarthest M entries b
+    → a ≡ b
+farthest_same h colors entries a b f g = grind (arith, nat_tests, same_from_rank)
+
+-- two lists whose colors are farthest from those before agree as far as both go
+pub order-take : (M : List ℕ → Type 0) → ((c : List ℕ) → M c → IsColor c)
+    → (before : List (List ℕ) → List (List ℕ)) (xs ys : List (List ℕ))
+    → ((i : ℕ) (d : List ℕ) → i < length xs → IsFarthest M (before (take i xs)) (get_or xs i d))
+    → ((i : ℕ) (d : List ℕ) → i < length ys → IsFarthest M (before (take i ys)) (get_or ys i d))
+    → (n : ℕ) → n ≤ length xs → n ≤ length ys → take n xs ≡ take n ys
+order-take M colors before xs ys f g zero l m = refl
+order-take M colors before xs ys f g (suc n) l m =
+    let front = order-take M colors before xs ys f g n (omega arith) (omega arith) in
+    let other = rw (← front) at (g n [] (omega arith)) in
+    let same = farthest_same M colors _ _ _ (f n [] (omega arith)) other in
     rw (← add-one) (take_more_same xs ys n [] (omega arith) (omega arith) front same)

@@ -30,13 +30,12 @@ size-le M three members others h holds =
     let far = far_from_others M 1 others members apart h.all in
     grind (arith, nat_tests, near_from_contains, holds)
 
--- sets with the same members have one size
-pub one_size : (M N : List ℕ → Type 0) → ((c : List ℕ) → M c → N c) → ((c : List ℕ) → N c → M c)
-    → ((c : List ℕ) → M c → length c ≡ 3) → (m n : ℕ) → HasSize M m → HasSize N n → m ≡ n
-one_size M N to from three m n g h =
-    let up = size-le M three g.0 h.0 g.1 (λ c i. h.1.complete c (to c i)) in
-    let down =
-    size-le N (λ c i. three c (from c i)) h.0 g.0 h.1 (λ c i. g.1.complete c (from c i)) in
+-- a set has one size
+pub one_size : (M : List ℕ → Type 0) → ((c : List ℕ) → M c → length c ≡ 3) → (m n : ℕ)
+    → HasSize M m → HasSize M n → m ≡ n
+one_size M three m n g h =
+    let up = size-le M three g.0 h.0 g.1 h.1.complete in
+    let down = size-le M three h.0 g.0 h.1 g.1.complete in
     omega (arith, g.2, h.2)
 
 -- with an entry for each member the next color is at no distance

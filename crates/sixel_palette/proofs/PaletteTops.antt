@@ -2,6 +2,7 @@
 use Rattle.std.proofs.Common.{◌≡◌, ℕ, ◌*◌, ◌<◌, ◌≤◌, List, [], ◌∷◌, ◌++◌, length, get_or, map, take}
 use Rattle.std.proofs.Common.{append-nil, ⊎_elim, arith}
 use Rattle.std.specs.Int.{abs_diff}
+use Rattle.std.proofs.Math.Nat.{mul-le-mul_left}
 use Rattle.std.specs.List.{All}
 use Rattle.std.proofs.lemmas.Bool.{cases_lt}
 use Rattle.std.proofs.lemmas.List.{take-append-le, take_at, get_or_append_left, get_or_at}
@@ -13,7 +14,7 @@ use Rattle.sixel_palette.specs.Refined.{AreOnTop, IsFarOff, percentage, register
 use Rattle.sixel_palette.specs.inside.PaletteCodes.{color_of, IsListed}
 use Rattle.sixel_palette.specs.inside.PaletteCounts.{counted_error}
 use Rattle.sixel_palette.proofs.PaletteColors.{IsColor}
-use Rattle.sixel_palette.proofs.PaletteCounts.{dot-map-le}
+use Rattle.sixel_palette.proofs.PaletteSums.{sum_to-le}
 use Rattle.sixel_palette.proofs.PaletteNearest.{nearest-append, nearest-le}
 use Rattle.sixel_palette.proofs.PaletteOrder.{farthest_alike}
 use Rattle.std.proofs.lemmas.Bool.Decides.{nat_tests}
@@ -47,7 +48,8 @@ pub tops_fall : (Member : List ℕ → Type 0) (max_colors : ℕ) (base entries 
     (codes counts : List ℕ) → AreOnTop Member max_colors base entries witnesses
     → counted_error entries codes counts ≤ counted_error base codes counts
 tops_fall e max_colors base entries witnesses codes counts h =
-    grind (arith, nat_tests, dot-map-le, nearest-append)
+    sum_to-le _ _ (length codes) (λ k l.
+    mul-le-mul_left (get_or counts k 0) (rw h.whole (nearest-append base _ _)))
 
 -- the witnesses are members
 pub tops_occur : (Member : List ℕ → Type 0) (max_colors : ℕ)

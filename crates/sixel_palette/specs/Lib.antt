@@ -6,3 +6,6 @@ pub mod PaletteBound
 pub mod Refined
 pub mod Spread
 pub mod inside
+pub mod Dithering
+pub mod Gray
+pub mod GrayDiffusion

@@ -1,6 +1,6 @@
 pub mod PaletteCodes
 pub mod PaletteNearest
-pub mod PaletteCells
+pub mod PaletteBuckets
 pub mod PaletteFlags
 pub mod PaletteRanks
 pub mod PaletteLookUp
@@ -12,3 +12,7 @@ pub mod PaletteAssignment
 pub mod PaletteBoxes
 pub mod PaletteSums
 pub mod PaletteBins
+pub mod Diffusion
+pub mod Mapped
+pub mod PaletteError
+pub mod SixteenEntries

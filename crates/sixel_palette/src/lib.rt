@@ -1,4 +1,7 @@
-//! The palette of an image, for the SIXEL encoder.
+//! The palette of an image, and the palette indices of its pixels, for the SIXEL encoder.
 #![tactic(auto)]
 
+pub mod dither;
+pub mod dithering;
+pub mod mapping;
 pub mod palette;

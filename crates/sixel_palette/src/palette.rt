@@ -4,33 +4,30 @@
 
 ghost use Rattle.std.specs.Prelude.{◌≡◌, ◌≢◌, ◌-◌, ◌%◌, ◌<◌, ◌≤◌, ◌↔◌, ℕ, List, [], length};
 ghost use Rattle.std.specs.Prelude.{All, Contains, IsTrue, OnOk, IfOk, IfErr};
-ghost use Rattle.std.specs.List.Sorted.{IsStrictlyIncreasing};
 ghost use Rattle.sixel_palette.specs.Palette.{IsShown, HasSize, IsPalette, palette_room};
 ghost use Rattle.sixel_palette.specs.Palette.{IsNearest, AreIndices, IsError, AreWitnesses};
 ghost use Rattle.sixel_palette.specs.PaletteBound.{AreApart, NoListIsBetter};
 ghost use Rattle.sixel_palette.specs.Refined.{IsRefined, opaque_pixels};
 ghost use Rattle.sixel_palette.specs.declared.palette.refined.RefinedPalette.{RefinedPalette};
-ghost use Rattle.sixel_palette.specs.inside.PaletteCodes.{IsListed, AreColorCodes};
+ghost use Rattle.sixel_palette.specs.inside.PaletteCodes.{AreShownCodes};
 ghost use Rattle.sixel_palette.specs.inside.PaletteChosen.{IsChosen};
 
 mod assignment;
 mod bins;
-mod cells;
-mod code_list;
+mod buckets;
 mod color_counts;
+mod color_set;
 mod color_sums;
-mod colors;
+pub mod colors;
 pub mod distance;
 mod farthest;
 mod farthest_on_top;
-mod flags;
 mod gain_cut;
 mod indices;
 mod lloyd;
 pub mod nearest;
 pub mod nearest_entry;
 pub mod nearest_indices;
-mod rank_bitmap;
 mod refined;
 pub mod register_color;
 mod relaxation;
@@ -150,10 +147,7 @@ fn palette_of_codes(
 ) -> std::result::Result<PaletteChoice, AllocError>
     requires some { 0 < room }
     requires room { room ≤ 256 }
-    requires ascending { IsStrictlyIncreasing codes.now }
-    requires small { AreColorCodes codes.now }
-    requires shown { (c : List ℕ) → IsShown pixels.now c → IsListed codes.now c }
-    requires listed { (c : List ℕ) → IsListed codes.now c → IsShown pixels.now c }
+    requires codes { AreShownCodes pixels.now codes.now }
     ensures chosen { IfOk result (IsChosen pixels.now room) }
     ensures indices { IfOk result (λ p. AreIndices pixels.now p.colors.items p.indices.items) }
 {
@@ -172,6 +166,7 @@ fn palette_of_codes(
 ///
 /// If so, then for any list of fewer colors some witness has to each of these a squared distance of
 /// at least a fourth of `error`. It does not allocate.
+#[tactic(auto, using(crate::proofs::PaletteApart::apart_pairs))]
 pub fn witnesses_hold(witnesses: &[[u8; 3]], error: u32) -> bool
     ensures apart { IsTrue result ↔ AreApart witnesses.now error }
     ensures bound { IsTrue result → (n : ℕ) → n < length witnesses.now

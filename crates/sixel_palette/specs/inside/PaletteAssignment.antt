@@ -1,18 +1,19 @@
 -- The nearest entry of each distinct color, with the summed squared error, and more entries on top.
 use Rattle.std.specs.Prelude.{◌≡◌, ℕ, ◌<◌, ◌≤◌, List, map, length, All}
+use Rattle.std.specs.List.{sum}
 use Rattle.sixel_base.specs.Limits.{area_limit}
 use Rattle.sixel_palette.specs.declared.palette.assignment.Assignment.{Assignment}
 use Rattle.sixel_palette.specs.declared.palette.refined.Start.{Start}
 use Rattle.sixel_palette.specs.Refined.{IsRegisterColor, base_entries, cut_entries, register_color}
 use Rattle.sixel_palette.specs.inside.PaletteCodes.{color_of}
-use Rattle.sixel_palette.specs.inside.PaletteCounts.{dot, counted_error}
+use Rattle.sixel_palette.specs.inside.PaletteCounts.{counted_error}
 use Rattle.sixel_palette.specs.inside.PaletteSums.{counted_pixels}
 use Rattle.sixel_palette.specs.inside.PaletteTraversal.{IsTraversal, HasRelaxed}
 
 -- each code has a count, and there are no more pixels than the greatest image has
 pub record IsWeighed (codes counts : List ℕ) : Type 0 where
   pub same : length counts ≡ length codes
-  pub few : dot counts (map (λ _. 1) codes) ≤ area_limit
+  pub few : sum counts ≤ area_limit
 
 -- the distances and the palette indices are those of the nearest entries
 pub record IsAssignment (codes : List ℕ) (assignment : Assignment) : Type 0 where

@@ -9,8 +9,8 @@ abbrev pub corners_of : List Bin → List (List ℕ)
 corners_of bins = map (λ bin. bin.corner) bins
 
 -- where the table has the last corner with a green and a blue
-abbrev pub cell : List ℕ → ℕ
-cell corner = slice_index corner 1 * 64 + slice_index corner 2
+abbrev pub slot : List ℕ → ℕ
+slot corner = slice_index corner 1 * 64 + slice_index corner 2
 
 -- the corners differ, reds do not fall and are at most this one, and the table finds the last
 -- corner with a green and a blue
@@ -24,10 +24,10 @@ pub record IsTable (corners : List (List ℕ)) (positions : List ℕ) (red : ℕ
   pub distinct : (i j : ℕ) → i < j → j < length corners
       → is_corner (slice_index_or corners i []) (slice_index_or corners j []) ≡ false
   pub last : (k : ℕ) → k < length corners
-      → k ≤ slice_index positions (cell (slice_index_or corners k []))
+      → k ≤ slice_index positions (slot (slice_index_or corners k []))
   pub within : (k : ℕ) → k < length corners
-      → slice_index positions (cell (slice_index_or corners k [])) < length corners
+      → slice_index positions (slot (slice_index_or corners k [])) < length corners
   pub found : (k : ℕ) → k < length corners
-      → cell (slice_index_or corners (slice_index positions
-      (cell (slice_index_or corners k []))) [])
-      ≡ cell (slice_index_or corners k [])
+      → slot (slice_index_or corners (slice_index positions
+      (slot (slice_index_or corners k []))) [])
+      ≡ slot (slice_index_or corners k [])

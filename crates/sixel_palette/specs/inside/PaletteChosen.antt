@@ -1,19 +1,16 @@
 -- A palette that was chosen, in terms of the distinct codes and of the color that would be the next
 -- entry. The rules of palettes follow from it.
 use Rattle.std.specs.Prelude.{◌≡◌, ℕ, ◌<◌, ◌≤◌, min, List, [], ◌∷◌, ◌++◌, length}
-use Rattle.std.specs.List.Sorted.{IsStrictlyIncreasing}
 use Rattle.sixel_palette.specs.declared.palette.PaletteChoice.{PaletteChoice}
-use Rattle.sixel_palette.specs.Palette.{nearest, IsShown, IsFarthest, IsFarthestFirst}
-use Rattle.sixel_palette.specs.inside.PaletteCodes.{IsListed}
+use Rattle.sixel_palette.specs.Palette.{nearest, IsFarthest, IsFarthestFirst}
+use Rattle.sixel_palette.specs.inside.PaletteCodes.{AreShownCodes, IsListed}
 
 -- the entries are chosen among the image's colors, with this much room, and the error and the
 -- witnesses are theirs
 pub record IsChosen (pixels : List ℕ) (room : ℕ) (choice : PaletteChoice) : Type 0 where
   pub codes : List ℕ
   pub far : List ℕ
-  pub up : IsStrictlyIncreasing codes
-  pub shown : (c : List ℕ) → IsShown pixels c → IsListed codes c
-  pub listed : (c : List ℕ) → IsListed codes c → IsShown pixels c
+  pub are : AreShownCodes pixels codes
   pub order : IsFarthestFirst (IsListed codes) choice.colors.items
   pub size : length choice.colors.items ≡ min room (length codes)
   pub farthest : 0 < length codes → IsFarthest (IsListed codes) choice.colors.items far

@@ -1,7 +1,8 @@
 -- Colors as codes of 24 bits: red is the highest byte, blue the lowest.
-use Rattle.std.specs.Prelude.{◌≡◌, ℕ, ◌/◌, ◌%◌, ◌<◌, List, [], ◌∷◌, length, All, Contains}
+use Rattle.std.specs.Prelude.{◌≡◌, ℕ, ◌+◌, ◌*◌, ◌/◌, ◌%◌, ◌<◌, List, [], ◌∷◌, length, All, Contains}
 use Rattle.std.specs.Prelude.{slice_index}
-use Rattle.sixel_palette.specs.Palette.{rank, color_at, IsOpaque}
+use Rattle.std.specs.List.Sorted.{IsStrictlyIncreasing}
+use Rattle.sixel_palette.specs.Palette.{rank, color_at, IsOpaque, IsShown}
 
 -- how many codes there are
 abbrev pub code_count : ℕ
@@ -14,6 +15,17 @@ AreColorCodes codes = All (λ code. code < code_count) codes
 -- the color of a code
 unfoldable pub color_of : ℕ → List ℕ
 color_of code = code / 65536 ∷ code / 256 % 256 ∷ code % 256 ∷ []
+
+-- the word is that of a pixel: 256 times the code of its color and its alpha
+pub record IsPixelWord (pixels : List ℕ) (pixel word : ℕ) : Type 0 where
+  pub code : word / 256 ≡ rank (color_at pixels pixel)
+  pub color : color_of (word / 256) ≡ color_at pixels pixel
+  pub alpha : word % 256 ≡ slice_index pixels (4 * pixel + 3)
+
+-- the words are those of four pixels, from this one on
+abbrev pub AreFourWords : List ℕ → ℕ → List ℕ → Type 0
+AreFourWords pixels pixel words =
+    (k : ℕ) → k < 4 → IsPixelWord pixels (pixel + k) (slice_index words k)
 
 -- some code of the list is that of the color
 abbrev pub IsListed : List ℕ → List ℕ → Type 0
@@ -29,3 +41,10 @@ pub record AreCodes (pixels : List ℕ) (count : ℕ) (codes : List ℕ) : Type 
   pub all : All (HasPixel pixels count) codes
   pub complete : (pixel : ℕ) → pixel < count → IsOpaque pixels pixel
       → Contains codes (rank (color_at pixels pixel))
+
+-- the codes are those of the colors of an image's opaque pixels, in order
+pub record AreShownCodes (pixels codes : List ℕ) : Type 0 where
+  pub ascending : IsStrictlyIncreasing codes
+  pub small : AreColorCodes codes
+  pub shown : (c : List ℕ) → IsShown pixels c → IsListed codes c
+  pub listed : (c : List ℕ) → IsListed codes c → IsShown pixels c

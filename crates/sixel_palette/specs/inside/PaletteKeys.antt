@@ -9,7 +9,7 @@ use Rattle.sixel_palette.specs.declared.palette.nearest.Search.{Search}
 use Rattle.sixel_palette.specs.declared.palette.nearest.Span.{Span}
 use Rattle.sixel_palette.specs.declared.palette.nearest_entry.Entry.{Entry}
 use Rattle.sixel_palette.specs.Palette.{distance, nearest, no_entry}
-use Rattle.sixel_palette.specs.inside.PaletteCells.{IsInInterval}
+use Rattle.sixel_palette.specs.inside.PaletteBuckets.{IsInInterval}
 use Rattle.sixel_palette.specs.inside.PaletteCodes.{color_of, code_count}
 
 -- the key of an entry for a color

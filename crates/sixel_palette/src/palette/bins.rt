@@ -49,6 +49,7 @@ pub fn bins_of(alloc: Global, codes: &[u32], counts: &[u32]) -> Result<Vec<Bin>,
 }
 
 /// A bin for each color.
+#[tactic(auto, using(crate::proofs::PaletteBins::bin_counts))]
 fn color_bins(alloc: Global, codes: &[u32], counts: &[u32]) -> Result<Vec<Bin>, AllocError>
     requires small { AreColorCodes codes.now }
     requires ascending { IsStrictlyIncreasing codes.now }
@@ -88,6 +89,7 @@ fn histogram(alloc: Global, codes: &[u32], counts: &[u32]) -> Result<Vec<Bin>, A
 /// Appends the bins of the colors.
 ///
 /// The codes rise, so the bins of one red come one after the other.
+#[tactic(auto, using(crate::proofs::PaletteBins::bin_counts))]
 #[inline(never)]
 fn push_bins(
     bins: &mut Vec<Bin>,
@@ -137,13 +139,13 @@ fn add_color(
     ensures positions { OnOk result (length positions.new ≡ length positions.old) }
 {
     let corner = [color[0] / 4, color[1] / 4, color[2] / 4];
-    let cell = usize::from(corner[1]) * 64 + usize::from(corner[2]);
-    let position = positions[cell];
+    let slot = usize::from(corner[1]) * 64 + usize::from(corner[2]);
+    let position = positions[slot];
     if position < bins.len() && is_corner(bins[position].corner, corner) {
         bins[position].sums = bins[position].sums.plus(sums);
         return Ok(());
     }
-    positions[cell] = bins.len();
+    positions[slot] = bins.len();
     bins.push(Bin { corner, sums })?;
     Ok(())
 }

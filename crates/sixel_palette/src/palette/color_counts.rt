@@ -6,13 +6,13 @@ ghost use Rattle.std.specs.List.Sorted.{IsStrictlyIncreasing};
 ghost use Rattle.sixel_base.specs.Limits.{area_limit};
 ghost use Rattle.sixel_palette.specs.Palette.{IsShown};
 ghost use Rattle.sixel_palette.specs.inside.PaletteCodes.{IsListed, AreColorCodes};
+ghost use Rattle.sixel_palette.specs.inside.PaletteCodes.{AreFourWords, IsPixelWord};
 ghost use Rattle.sixel_palette.specs.inside.PaletteCounts.{AreCounts, HasPosition, IsRankingOf};
-ghost use Rattle.sixel_palette.specs.inside.PaletteFlags.{AreFourWords, IsPixelWord};
 ghost use Rattle.sixel_palette.specs.inside.PaletteRanks.{IsRankBitmap};
 
+use crate::palette::color_set::rank_bitmap::RankBitmap;
 use crate::palette::colors::{are_four_of, pixel_word};
 use crate::palette::indices::four_words;
-use crate::palette::rank_bitmap::RankBitmap;
 use std::alloc::{AllocError, Global};
 
 /// The pixels of each distinct color, and the ranks of the colors.

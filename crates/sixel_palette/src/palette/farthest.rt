@@ -10,10 +10,10 @@ ghost use Rattle.std.specs.List.Sorted.{IsStrictlyIncreasing};
 ghost use Rattle.sixel_palette.specs.Palette.{nearest, IsFarthest, IsFarthestFirst};
 ghost use Rattle.sixel_palette.specs.inside.PaletteCodes.{color_of, IsListed, AreColorCodes};
 ghost use Rattle.sixel_palette.specs.inside.PaletteNearest.{AreNearest};
-ghost use Rattle.sixel_palette.specs.inside.PaletteCells.{IsFirstGreatest};
+ghost use Rattle.sixel_palette.specs.inside.PaletteBuckets.{IsFirstGreatest};
 ghost use Rattle.sixel_palette.specs.inside.PaletteTraversal.{IsTraversal, HasRelaxed};
 
-use crate::palette::cells::{Cell, cells_of, farthest_of, measured_cells, relax_cells};
+use crate::palette::buckets::{Bucket, buckets_of, farthest_of, measured_buckets, relax_buckets};
 use crate::palette::colors::color_of;
 use crate::palette::nearest_entry::{Entry, NO_ENTRY, squared_to_nearest};
 use std::alloc::{AllocError, Global};
@@ -98,15 +98,15 @@ impl Selection {
     }
 }
 
-/// Each color's nearest entry so far, in two lists, and the cells of the colors.
+/// Each color's nearest entry so far, in two lists, and the buckets of the colors.
 #[derive(Drop)]
 pub struct Traversal {
     /// Each color's squared distance to its nearest entry.
     pub squares: Vec<u32>,
     /// The palette index of each color's nearest entry.
     pub indices: Vec<u8>,
-    /// The cells of the colors.
-    pub cells: Vec<Cell>,
+    /// The buckets of the colors.
+    pub buckets: Vec<Bucket>,
 }
 
 impl Traversal {
@@ -118,11 +118,11 @@ impl Traversal {
     {
         let squares = vec![in alloc; NO_ENTRY; codes.len()]?;
         let indices = vec![in alloc; 0; codes.len()]?;
-        let cells = cells_of(alloc, codes)?;
+        let buckets = buckets_of(alloc, codes)?;
         Ok(Traversal {
             squares,
             indices,
-            cells,
+            buckets,
         })
     }
 
@@ -139,11 +139,11 @@ impl Traversal {
                 color: colors[index],
                 index: index as u8,
             };
-            relax_cells(
+            relax_buckets(
                 codes,
                 &mut traversal.squares,
                 &mut traversal.indices,
-                &mut traversal.cells,
+                &mut traversal.buckets,
                 entry,
             );
         }
@@ -164,11 +164,11 @@ impl Traversal {
         ensures squares { IfOk result (λ t. t.squares.items ≡ squares.items) }
         ensures indices { IfOk result (λ t. t.indices.items ≡ indices.items) }
     {
-        let cells = measured_cells(alloc, codes, &squares)?;
+        let buckets = measured_buckets(alloc, codes, &squares)?;
         Ok(Traversal {
             squares,
             indices,
-            cells,
+            buckets,
         })
     }
 
@@ -178,7 +178,7 @@ impl Traversal {
         requires whole { IsTraversal codes.now self.now }
         ensures { IsFirstGreatest self.now.squares.items result }
     {
-        farthest_of(codes, &self.squares, &self.cells)
+        farthest_of(codes, &self.squares, &self.buckets)
     }
 
     /// Relaxes the distances by one more entry, and returns the farthest position.
@@ -192,13 +192,13 @@ impl Traversal {
             → HasRelaxed (entries ++ entry.color ∷ []) codes.now self.new }
         ensures farthest { IsFirstGreatest self.new.squares.items result }
     {
-        relax_cells(
+        relax_buckets(
             codes,
             &mut self.squares,
             &mut self.indices,
-            &mut self.cells,
+            &mut self.buckets,
             entry,
         );
-        farthest_of(codes, &self.squares, &self.cells)
+        farthest_of(codes, &self.squares, &self.buckets)
     }
 }

@@ -5,14 +5,14 @@ ghost use Rattle.std.specs.Prelude.{slice_index, All, Contains, IfOk, IsTrue};
 ghost use Rattle.std.specs.List.Sorted.{IsStrictlyIncreasing};
 ghost use Rattle.sixel_palette.specs.Palette.{nearest, IsShown, AreIndices, no_entry};
 ghost use Rattle.sixel_palette.specs.inside.PaletteCodes.{color_of, IsListed, AreColorCodes};
-ghost use Rattle.sixel_palette.specs.inside.PaletteFlags.{IsPixelWord, AreFourWords};
+ghost use Rattle.sixel_palette.specs.inside.PaletteCodes.{AreFourWords, IsPixelWord};
 ghost use Rattle.sixel_palette.specs.inside.PaletteNearest.{AreNearest, IsIndexOf};
 ghost use Rattle.sixel_palette.specs.inside.PaletteNearest.{IsIndex, AreIndicesTo};
 ghost use Rattle.sixel_palette.specs.inside.PaletteLookUp.{IsLookUp, HasColorsOf, FindsNearest};
 ghost use Rattle.sixel_palette.specs.inside.PaletteRanks.{IsRankBitmap};
 
+use crate::palette::color_set::rank_bitmap::RankBitmap;
 use crate::palette::colors::{are_four_of, pixel_word};
-use crate::palette::rank_bitmap::RankBitmap;
 use std::alloc::{AllocError, Global};
 
 /// The palette index of each pixel, from those of the colors in use.

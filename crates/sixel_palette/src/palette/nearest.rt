@@ -1,17 +1,17 @@
 //! A search for the nearest entry of any color, by cubes of colors.
 //!
 //! An entry is left out of a cube if another one is nearer even to the cube's farthest corner:
-//! branch and bound, as in [`cells`](crate::palette::cells). A cube's entries are listed when the
-//! first of its colors is looked up.
+//! branch and bound, as in [`buckets`](crate::palette::buckets). A cube's entries are listed when
+//! the first of its colors is looked up.
 
 ghost use Rattle.std.specs.Prelude.{◌≡◌, ◌+◌, ◌*◌, ◌/◌, ◌%◌, ◌<◌, ◌≤◌, ℕ, List, [], length};
 ghost use Rattle.sixel_palette.specs.declared.palette.nearest_entry.Entry.{Entry};
 ghost use Rattle.std.specs.Prelude.{IfOk, OnOk, slice_index};
 ghost use Rattle.sixel_palette.specs.Palette.{IsNearest, distance, nearest};
-ghost use Rattle.sixel_palette.specs.inside.PaletteCells.{IsInInterval};
+ghost use Rattle.sixel_palette.specs.inside.PaletteBuckets.{IsInInterval};
 ghost use Rattle.sixel_palette.specs.inside.PaletteCodes.{color_of, code_count};
 ghost use Rattle.sixel_palette.specs.inside.PaletteNearest.{IsNearestEntry};
-ghost use Rattle.sixel_palette.specs.inside.PaletteKeys.{entry_at, key_of, least_key, IsInCube};
+ghost use Rattle.sixel_palette.specs.inside.PaletteKeys.{least_key, IsInCube};
 ghost use Rattle.sixel_palette.specs.inside.PaletteKeys.{Appends, AreNumbered, HasNearest};
 ghost use Rattle.sixel_palette.specs.inside.PaletteKeys.{AreLists, IsSearch, IsSearchOf};
 ghost use Rattle.sixel_palette.specs.inside.PaletteKeys.{cube_position, group_position};
@@ -71,15 +71,6 @@ impl Search {
             groups,
             cubes,
         })
-    }
-
-    /// The entry of a palette index.
-    #[inline(always)]
-    pub fn entry(&self, index: u8) -> Entry
-        requires { index < length self.now.entries.items }
-        ensures { result ≡ entry_at self.now.entries.items index }
-    {
-        self.entries[usize::from(index)]
     }
 
     /// The entry nearest to a color, the first of equals.

@@ -13,7 +13,7 @@ ghost use Rattle.sixel_palette.specs.inside.PaletteAssignment.{IsStart, IsWeighe
 ghost use Rattle.sixel_palette.specs.inside.PaletteBoxes.{binned_pixels};
 ghost use Rattle.sixel_palette.specs.inside.PaletteSums.{AreBinsOf, IsWholeBin, counted_pixels};
 ghost use Rattle.sixel_palette.specs.inside.PaletteCounts.{counted_error, AreCounts};
-ghost use Rattle.sixel_palette.specs.inside.PaletteCodes.{color_of, IsListed, AreColorCodes};
+ghost use Rattle.sixel_palette.specs.inside.PaletteCodes.{color_of, AreColorCodes, AreShownCodes};
 ghost use Rattle.sixel_palette.specs.inside.PaletteRanks.{IsRankBitmap};
 
 use crate::palette::assignment::{Assignment, assign, summed};
@@ -100,11 +100,11 @@ pub fn refine_palette(alloc: Global, pixels: &[u8], max_colors: u16) -> Result<R
     if pixels.len() / 4 > MAX_AREA {
         return Err(SixelError::too_large());
     }
-    Ok(palette_of(alloc, pixels, usize::from(max_colors))?)
+    Ok(refined_of(alloc, pixels, usize::from(max_colors))?)
 }
 
 /// The refined palette of whole pixels, of at most `room` entries.
-fn palette_of(
+fn refined_of(
     alloc: Global,
     pixels: &[u8],
     room: usize,
@@ -119,11 +119,11 @@ fn palette_of(
         return transparent(alloc, pixels);
     }
     let counted = counts_of(alloc, pixels, &codes)?;
-    palette_of_counts(alloc, pixels, &codes, &counted, room)
+    refined_of_counts(alloc, pixels, &codes, &counted, room)
 }
 
 /// The refined palette from the codes and the counts of the opaque pixels' colors.
-fn palette_of_counts(
+fn refined_of_counts(
     alloc: Global,
     pixels: &[u8],
     codes: &[u32],
@@ -134,10 +134,7 @@ fn palette_of_counts(
     requires some_room { 0 < room }
     requires room { room ≤ 256 }
     requires some { 0 < length codes.now }
-    requires ascending { IsStrictlyIncreasing codes.now }
-    requires small { AreColorCodes codes.now }
-    requires shown { (c : List ℕ) → IsShown pixels.now c → IsListed codes.now c }
-    requires listed { (c : List ℕ) → IsListed codes.now c → IsShown pixels.now c }
+    requires codes { AreShownCodes pixels.now codes.now }
     requires counts { AreCounts pixels.now codes.now counted.now.counts.items
         (length pixels.now / 4) }
     requires ranks { IsRankBitmap codes.now counted.now.ranks }

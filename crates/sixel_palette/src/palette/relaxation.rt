@@ -1,14 +1,14 @@
-//! Relaxing the distances of a cell's colors by one more entry, eight at once or one by one.
+//! Relaxing the distances of a bucket's colors by one more entry, eight at once or one by one.
 
 ghost use Rattle.std.specs.Prelude.{◌≡◌, ◌⊎◌, ◌<◌, ◌≤◌, ◌+◌, ◌*◌, ℕ, List, [], ◌∷◌, ◌++◌, length};
 ghost use Rattle.std.specs.Prelude.{slice_index};
 ghost use Rattle.sixel_palette.specs.Palette.{distance};
 ghost use Rattle.sixel_palette.specs.inside.PaletteNearest.{IsNearestEntry, nearest_at};
-ghost use Rattle.sixel_palette.specs.inside.PaletteCells.{AreNearestIn, IsSameOutside};
-ghost use Rattle.sixel_palette.specs.inside.PaletteCells.{IsGreatestIn};
+ghost use Rattle.sixel_palette.specs.inside.PaletteBuckets.{AreNearestIn, IsSameOutside};
+ghost use Rattle.sixel_palette.specs.inside.PaletteBuckets.{IsGreatestIn};
 ghost use Rattle.sixel_palette.specs.inside.PaletteCodes.{color_of, AreColorCodes};
 
-use crate::palette::cells::CELL;
+use crate::palette::buckets::BUCKET;
 use crate::palette::distance::distance_to;
 use crate::palette::nearest_entry::{Entry, NearestEntry};
 use std::simd::prelude::*;
@@ -16,54 +16,54 @@ use std::simd::prelude::*;
 /// How many colors are relaxed at once.
 const LANES: usize = 8;
 
-/// Relaxes a cell's distances by one more entry, and returns the greatest of them.
+/// Relaxes a bucket's distances by one more entry, and returns the greatest of them.
 #[inline(always)]
-pub fn relax_cell(
+pub fn relax_bucket(
     codes: &[u32],
     squares: &mut [u32],
     indices: &mut [u8],
-    cell: usize,
+    bucket: usize,
     entry: Entry,
 ) -> u32
-    requires some { 64 * cell < length codes.now }
+    requires some { 64 * bucket < length codes.now }
     requires small { AreColorCodes codes.now }
     requires squares { length squares.old ≡ length codes.now }
     requires indices { length indices.old ≡ length codes.now }
     ensures near { (entries : List (List ℕ)) → length entries ≡ entry.index
-        → AreNearestIn entries codes.now squares.old indices.old cell
-        → AreNearestIn (entries ++ entry.color ∷ []) codes.now squares.new indices.new cell }
-    ensures squares { IsSameOutside cell squares.old squares.new }
-    ensures indices { IsSameOutside cell indices.old indices.new }
-    ensures greatest { IsGreatestIn codes.now squares.new cell result }
+        → AreNearestIn entries codes.now squares.old indices.old bucket
+        → AreNearestIn (entries ++ entry.color ∷ []) codes.now squares.new indices.new bucket }
+    ensures squares { IsSameOutside bucket squares.old squares.new }
+    ensures indices { IsSameOutside bucket indices.old indices.new }
+    ensures greatest { IsGreatestIn codes.now squares.new bucket result }
 {
-    if codes.len() - CELL * cell < CELL {
-        return relax_last_cell(codes, squares, indices, cell, entry);
+    if codes.len() - BUCKET * bucket < BUCKET {
+        return relax_last_bucket(codes, squares, indices, bucket, entry);
     }
-    relax_whole_cell(codes, squares, indices, cell, entry)
+    relax_whole_bucket(codes, squares, indices, bucket, entry)
 }
 
-/// Relaxes the distances of a cell color by color, because it may have fewer than 64.
+/// Relaxes the distances of a bucket color by color, because it may have fewer than 64.
 #[inline(never)]
-fn relax_last_cell(
+fn relax_last_bucket(
     codes: &[u32],
     squares: &mut [u32],
     indices: &mut [u8],
-    cell: usize,
+    bucket: usize,
     entry: Entry,
 ) -> u32
-    requires some { 64 * cell < length codes.now }
+    requires some { 64 * bucket < length codes.now }
     requires small { AreColorCodes codes.now }
     requires squares { length squares.old ≡ length codes.now }
     requires indices { length indices.old ≡ length codes.now }
     ensures near { (entries : List (List ℕ)) → length entries ≡ entry.index
-        → AreNearestIn entries codes.now squares.old indices.old cell
-        → AreNearestIn (entries ++ entry.color ∷ []) codes.now squares.new indices.new cell }
-    ensures squares { IsSameOutside cell squares.old squares.new }
-    ensures indices { IsSameOutside cell indices.old indices.new }
-    ensures greatest { IsGreatestIn codes.now squares.new cell result }
+        → AreNearestIn entries codes.now squares.old indices.old bucket
+        → AreNearestIn (entries ++ entry.color ∷ []) codes.now squares.new indices.new bucket }
+    ensures squares { IsSameOutside bucket squares.old squares.new }
+    ensures indices { IsSameOutside bucket indices.old indices.new }
+    ensures greatest { IsGreatestIn codes.now squares.new bucket result }
 {
-    let start = CELL * cell;
-    let end = codes.len().min(start + CELL);
+    let start = BUCKET * bucket;
+    let end = codes.len().min(start + BUCKET);
     let mut greatest = 0;
     for position in start..end {
         let before = NearestEntry {
@@ -78,29 +78,30 @@ fn relax_last_cell(
     greatest
 }
 
-/// Relaxes the distances of a cell of 64 colors, eight at once.
+/// Relaxes the distances of a bucket of 64 colors, eight at once.
+#[tactic(auto, using(crate::proofs::PaletteLanes::greatest_lanes_first))]
 #[inline(never)]
-fn relax_whole_cell(
+fn relax_whole_bucket(
     codes: &[u32],
     squares: &mut [u32],
     indices: &mut [u8],
-    cell: usize,
+    bucket: usize,
     entry: Entry,
 ) -> u32
-    requires whole { 64 * cell + 64 ≤ length codes.now }
+    requires whole { 64 * bucket + 64 ≤ length codes.now }
     requires small { AreColorCodes codes.now }
     requires squares { length squares.old ≡ length codes.now }
     requires indices { length indices.old ≡ length codes.now }
     ensures near { (entries : List (List ℕ)) → length entries ≡ entry.index
-        → AreNearestIn entries codes.now squares.old indices.old cell
-        → AreNearestIn (entries ++ entry.color ∷ []) codes.now squares.new indices.new cell }
-    ensures squares { IsSameOutside cell squares.old squares.new }
-    ensures indices { IsSameOutside cell indices.old indices.new }
-    ensures greatest { IsGreatestIn codes.now squares.new cell result }
+        → AreNearestIn entries codes.now squares.old indices.old bucket
+        → AreNearestIn (entries ++ entry.color ∷ []) codes.now squares.new indices.new bucket }
+    ensures squares { IsSameOutside bucket squares.old squares.new }
+    ensures indices { IsSameOutside bucket indices.old indices.new }
+    ensures greatest { IsGreatestIn codes.now squares.new bucket result }
 {
-    let start = CELL * cell;
+    let start = BUCKET * bucket;
     let mut greatest = relax_lanes(codes, squares, indices, start, entry);
-    for block in 1..CELL / LANES {
+    for block in 1..BUCKET / LANES {
         let lanes = relax_lanes(codes, squares, indices, start + LANES * block, entry);
         greatest = greatest.simd_max(lanes);
     }

@@ -23,7 +23,6 @@ columns-preserved c =
     let rows = c.columns.rows in
     let used = c.columns.used in
     let column = c.columns.column in
-    let pixel = c.args.line.start + column in
     let entry = c.from-entry.result in
     let others = c.others_from.result in
     let bit : ℕ → ℕ → ℕ =
@@ -39,38 +38,30 @@ columns-preserved c =
           let opaque = w.is_opaque.ensures.opaque w.if-is_opaque.true in
           let within = c.has_row.ensures.inside w.if-has_row.true in
           let one : row < length used = omega (arith, within.0, within.1) in
+          let place =
+          place_inside c.args.rows.now _ width row column c.requires.rows
+          (omega (arith, one, c.columns.auto.used)) c.columns-test.true in
           let inside : row * width + column < length rows =
-          omega (
-            arith,
-            c.columns.auto.rows,
-            place_inside c.args.rows.now c.args.used.now width row
-                column c.requires.rows (omega (arith, one, c.columns.auto.used))
-                c.columns-test.true,
-          ) in
+          omega (arith, c.columns.auto.rows, place) in
           record {
             cells = λ e x le lx.
                 let count : e < length used = omega (arith, c.if-has_row.auto.used) in
                 ap (λ r. cell r width e x) w.rows-is
                 ∙ column-dot (bit e) rows width row column weight (cell c.args.rows.now width e x)
                 others e x inside c.columns-test.true lx (c.columns.invariant.cells e x count lx)
-                (pixel_bit-dot pixels indices weight first entry column pixel e opaque
-                c.from-entry.ensures within.0)
-                (after e x count lx);
-            marks = AreMarks-same w.rows-is w.used-is
-                (AreMarks-dot rows used width row column weight c.columns.invariant.marks inside one
-                c.columns-test.true c.requires.weight);
+                (pixel_bit-dot pixels indices weight first entry column (c.args.line.start + column)
+                e opaque c.from-entry.ensures within.0) (after e x count lx);
+            marks = grind (arith, nat_tests, AreMarks-same, AreMarks-dot, weight, inside, one);
           }
       | else-has_row w ↦ record {
         cells = λ e x le lx.
             let count : e < length used = omega (arith, c.if-has_row.auto.used) in
             let none : bit e column ≡ 0 = elim w.else-has_row.branch [
               | else-has_row-via-then-has_row+else-is_opaque v ↦
-                  pixel_bit-transparent pixels indices weight (first + e) pixel
-                  (v.is_opaque.ensures.transparent v.if-is_opaque.false)
+                  grind (arith, nat_tests, pixel_bit-transparent, weight, first)
               | else-has_row-via-else-has_row v ↦
-                  pixel_bit-other pixels indices weight (first + e) pixel
-                  (λ is. absurd (c.has_row.ensures.outside v.if-has_row.false e count
-                  (c.from-entry.ensures ∙ is)))
+                  let other = c.has_row.ensures.outside v.if-has_row.false e count in
+                  grind (arith, nat_tests, pixel_bit-other, weight, first, c.from-entry.ensures)
             ] in
             grind (arith, nat_tests, column-more, c.columns.invariant.cells);
         marks = AreMarks-same w.rows-is w.used-is c.columns.invariant.marks;

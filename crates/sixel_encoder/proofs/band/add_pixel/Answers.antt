@@ -1,4 +1,4 @@
-use Rattle.std.proofs.Common.{◌+◌, arith}
+use Rattle.std.proofs.Common.{arith}
 use Rattle.sixel_encoder.proofs.Cells.{AreMarks-dot, cell-dot, sixel_inside}
 use Rattle.sixel_encoder.proofs.band.add_pixel.Goals as goal
 use Rattle.std.proofs.lemmas.Bool.Decides.{nat_tests}
@@ -10,23 +10,7 @@ pub returns-clause-cells : goal.returns-clause-cells
 returns-clause-cells c = λ e x le lx. grind (arith, nat_tests, sixel_inside, cell-dot)
 
 pub returns-clause-marks : goal.returns-clause-marks
-returns-clause-marks c =
-    let width = c.args.image.now.width in
-    let weight = c.args.line.weight in
-    let rows = c.args.rows.now in
-    let used = c.args.used.now in
-    let column = c.args.column in
-    let pixel = c.args.line.start + column in
-    let row = c.from-row.result in
-    let opaque = c.is_opaque.ensures.opaque c.if-not-is_opaque.false in
-    let inside =
-    sixel_inside c.args.image.now rows c.args.used.now pixel c.from-row.result
-    c.args.column c.requires.image
-    c.requires.entries c.requires.rows (omega (arith, c.requires.line))
-    opaque c.from-row.ensures c.requires.column in
-    AreMarks-dot rows used width row column weight c.requires.marks inside.1 inside.0
-    c.requires.column
-    c.requires.weight
+returns-clause-marks c = grind (arith, nat_tests, AreMarks-dot, sixel_inside)
 
 pub bounds-rows-row : goal.bounds-rows-row
 bounds-rows-row c = grind (arith, nat_tests)

@@ -1,51 +1,31 @@
 use Rattle.std.proofs.Common.{◌≡◌, ◌+◌, ◌-◌, ◌*◌, arith}
 use Rattle.sixel_encoder.proofs.Lines.{pixel_bit-row}
-use Rattle.sixel_encoder.proofs.LineRuns.{between-none}
-use Rattle.sixel_encoder.proofs.LineRuns.{between-same, cell-run, AreMarks-run}
+use Rattle.sixel_encoder.proofs.LineRuns.{between-none, between-same, cell-run, AreMarks-run}
 use Rattle.sixel_encoder.proofs.band.add_sixteen.Goals as goal
 use Rattle.std.proofs.lemmas.Bool.Decides.{nat_tests}
 
 pub returns-then-is_run-clause-cells : goal.returns-then-is_run-clause-cells
 returns-then-is_run-clause-cells c = λ e x le lx.
-    let width = c.args.image.now.width in
-    let weight = c.args.line.weight in
-    let rows = c.args.rows.now in
-    let column = c.args.column in
-    let row = c.from-row.result in
-    let run =
-    cell-run rows c.add_weight.new.rows width row column weight c.add_weight.ensures
-    c.requires.columns e x lx in
+    let run = cell-run _ _ _ _ _ _ c.add_weight.ensures c.requires.columns e _ lx in
     grind (arith, nat_tests, between-same, pixel_bit-row, c.from-row.ensures)
 
 pub returns-then-is_run-clause-marks : goal.returns-then-is_run-clause-marks
 returns-then-is_run-clause-marks c =
-    let width = c.args.image.now.width in
-    let rows = c.args.rows.now in
-    let column = c.args.column in
-    let pixel = c.args.line.start + column in
-    let row = c.from-row.result in
+    let pixel = c.args.line.start + c.args.column in
     let one = c.is_run.ensures c.if-is_run.true pixel (omega arith) (omega arith) in
     let known =
     c.requires.image.opaque pixel (omega (arith, c.requires.line, c.requires.columns)) one.1 in
-    AreMarks-run rows c.add_weight.new.rows c.args.used.now width row column c.args.line.weight
-    c.requires.marks
-    (cell-run rows c.add_weight.new.rows width row column c.args.line.weight c.add_weight.ensures
-    c.requires.columns)
+    AreMarks-run _ _ _ _ _ _ _ c.requires.marks (cell-run c.args.rows.now _ c.args.image.now.width _
+    c.args.column _ c.add_weight.ensures c.requires.columns)
     (omega (arith, known, c.from-row.ensures, c.requires.entries)) c.requires.columns
     c.requires.weight
 
 pub add_weight-requires-clause-fits : goal.add_weight-requires-clause-fits
 add_weight-requires-clause-fits c = λ k l m.
-    let rows = c.args.rows.now in
-    let width = c.args.image.now.width in
-    let column = c.args.column in
-    let pixel = c.args.line.start + column in
-    let row = c.from-row.result in
+    let pixel = c.args.line.start + c.args.column in
+    let start = c.from-row.result * c.args.image.now.width in
     let one = c.is_run.ensures c.if-is_run.true pixel (omega arith) (omega arith) in
-    let known =
-    c.requires.image.opaque pixel (omega (arith, c.requires.line, c.requires.columns)) one.1 in
-    let x = column + (k - (row * width + column)) in
-    let place : row * width + x ≡ k = omega (arith, l) in
+    let place : start + (c.args.column + (k - (start + c.args.column))) ≡ k = omega (arith, l) in
     grind (arith, nat_tests, c.requires.fits)
 
 pub loop-one-init : goal.loop-one-init

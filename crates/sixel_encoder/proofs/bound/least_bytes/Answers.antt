@@ -21,85 +21,50 @@ pub end-requires-clause-lane : goal.end-requires-clause-lane
 end-requires-clause-lane c = grind (arith, nat_tests, lane-most, c.requires, c.lane-left.ensures)
 
 pub end-requires-then-left-right-clause-lane : goal.end-requires-then-left-right-clause-lane
-end-requires-then-left-right-clause-lane c =
-    let entries = c.args.entries.now in
-    let column = c.loop-column.column in
-    lane-most entries column c.loop-bit.bit c.lane-right.result c.requires
-    (omega (arith, c.loop-column-test.true, c.loop-column.auto.column-end)) c.lane-right.ensures
+end-requires-then-left-right-clause-lane c = grind (arith, nat_tests, lane-most)
 
 pub end-requires-then-left-right-clause-order : goal.end-requires-then-left-right-clause-order
 end-requires-then-left-right-clause-order c =
     let entries = c.args.entries.now in
-    let column = c.loop-column.column in
-    let bit = c.loop-bit.bit in
-    let lc : column < entries.image.now.width = grind (arith, nat_tests) in
-    let lb : bit < 6 = omega (arith, c.loop-bit-test.true, c.loop-bit.auto.bit-end) in
-    (c.end.ensures.bound (drawing_of entries.image.now) entries.band
-    (λ some. change-left entries column bit c.lane-left.result c.lane-right.result c.requires lc lb
-    c.lane-left.ensures c.lane-right.ensures c.if-left-right.true some)
-    c.loop-bit.invariant.bound).order
+    let lc : c.loop-column.column < entries.image.now.width = grind (arith, nat_tests) in
+    let lb : c.loop-bit.bit < 6 = omega (arith, c.loop-bit-test.true, c.loop-bit.auto.bit-end) in
+    (c.end.ensures.bound (drawing_of entries.image.now) entries.band (λ some.
+    change-left _ _ _ _ _ c.requires lc lb c.lane-left.ensures c.lane-right.ensures
+    c.if-left-right.true some) c.loop-bit.invariant.bound).order
 
 pub loop-bit-preserved : goal.loop-bit-preserved
 loop-bit-preserved c =
     let entries = c.args.entries.now in
     let drawing = drawing_of entries.image.now in
-    let column = c.loop-column.column in
-    let bit = c.loop-bit.bit in
-    let left = c.lane-left.result in
-    let right = c.lane-right.result in
-    let is = c.loop-bit.invariant in
-    let lc : column < entries.image.now.width = grind (arith, nat_tests) in
-    let lb : bit < 6 = omega (arith, c.loop-bit-test.true, c.loop-bit.auto.bit-end) in
+    let lc : c.loop-column.column < entries.image.now.width = grind (arith, nat_tests) in
+    let lb : c.loop-bit.bit < 6 = omega (arith, c.loop-bit-test.true, c.loop-bit.auto.bit-end) in
     elim c.if-left-right.branch [
       | then-left-right w ↦
           let apart = w.if-left-right.true in
-          let once = w.end.ensures.bound drawing entries.band
-          (λ some. change-left entries column bit left right c.requires lc lb c.lane-left.ensures
-          c.lane-right.ensures apart some) is.bound in
-          let twice = w.end-then-left-right.ensures.bound drawing entries.band
-          (λ some. change-right entries column bit right left c.requires lc lb
-          c.lane-right.ensures c.lane-left.ensures (λ e. apart (sym e)) some) once in
-          rw w.runs-is record {
-            bound = twice;
-            size = w.end-then-left-right.ensures.starts;
-            few = omega (arith, is.few, w.end.ensures.few, w.end-then-left-right.ensures.few);
-          }
+          let once =
+          w.end.ensures.bound drawing entries.band (λ some.
+          change-left _ _ _ _ _ c.requires lc lb c.lane-left.ensures c.lane-right.ensures apart
+          some) c.loop-bit.invariant.bound in
+          let twice =
+          w.end-then-left-right.ensures.bound drawing entries.band (λ some.
+          change-right _ _ _ _ _ c.requires lc lb c.lane-right.ensures c.lane-left.ensures
+          (λ e. apart (sym e)) some) once in
+          grind (arith, nat_tests, w.runs-is, w.end.ensures.few, w.end-then-left-right.ensures.few)
       | else-left-right w ↦ grind (arith, nat_tests)
     ]
 
 pub loop-column-preserved : goal.loop-column-preserved
 loop-column-preserved c =
     let entries = c.args.entries.now in
-    let drawing = drawing_of entries.image.now in
-    let column = c.loop-column.column in
-    let some : 0 < column = omega (arith, c.loop-column.auto.column) in
-    let lc : column < entries.image.now.width = grind (arith, nat_tests) in
-    elim c.if-not-is_repeated.branch [
-      | then-not-is_repeated+else-loop-bit-test w ↦
-          let is = w.loop-bit.invariant in
-          rw w.runs-is record {
-            bound = bound-step drawing entries.band column w.loop-bit.runs some lc is.bound;
-            size = is.size;
-            before = λ entry. omega (arith, is.bound.order entry);
-            few = omega (arith, is.few, w.loop-bit.auto.bit-end);
-          }
-      | else-not-is_repeated w ↦
-          let is = c.loop-column.invariant in
-          rw w.runs-is record {
-            bound = bound-step drawing entries.band column c.loop-column.runs some lc is.bound;
-            size = is.size;
-            before = λ entry. omega (arith, is.before entry);
-            few = omega (arith, is.few);
-          }
-    ]
+    let some : 0 < c.loop-column.column = omega (arith, c.loop-column.auto.column) in
+    let lc : c.loop-column.column < entries.image.now.width = grind (arith, nat_tests) in
+    let step = bound-step (drawing_of entries.image.now) entries.band c.loop-column.column in
+    grind (arith, nat_tests, then-not-is_repeated+else-loop-bit-test, else-not-is_repeated)
 
 pub returns : goal.returns
 returns c =
     let entries = c.args.entries.now in
     bound-whole (drawing_of entries.image.now) entries.band c.loop-column.column
     c.loop-column.runs c.requires.indexed.colors
-    (λ entry some. (
-      omega (arith, c.loop-column-test.false, c.loop-column.auto.column-end),
-      c.loop-column.invariant.before entry,
-    ))
+    (λ entry some. grind (arith, nat_tests, c.loop-column.invariant.before))
     c.loop-column.invariant.bound

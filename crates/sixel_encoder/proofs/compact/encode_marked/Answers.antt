@@ -4,9 +4,8 @@ use Rattle.sixel_encoder.proofs.compact.encode_marked.Goals as goal
 
 pub new-requires-clause-numbers : goal.new-requires-clause-numbers
 new-requires-clause-numbers c =
-    rw c.deref-4.ensures.value
-    (AreNumbersOf-ranks c.args.image.now c.in_ok-runs.runs.items c.in_ok-numbers.numbers.items
-    c.in_ok-runs.ensures (rw c.deref.ensures.value at c.in_ok-numbers.ensures))
+    rw c.deref-4.ensures.value (AreNumbersOf-ranks _ _ _ c.in_ok-runs.ensures
+    (rw c.deref.ensures.value at c.in_ok-numbers.ensures))
 
 pub returns-clause-text : goal.returns-clause-text
 returns-clause-text c =

@@ -4,10 +4,8 @@ use Rattle.sixel_encoder.proofs.entries.others_from.Goals as goal
 
 pub returns-then-some-eq0-clause-others : goal.returns-then-some-eq0-clause-others
 returns-then-some-eq0-clause-others c =
-    none_of_all c.args.indices.now c.args.at c.args.first c.args.count _ (omega arith)
-    c.requires.first c.requires.count
-    (mask_is c.args.indices.now c.args.at c.args.first c.args.count (omega arith))
-    c.if-some-eq0.true
+    let mask = mask_is c.args.indices.now c.args.at c.args.first c.args.count (omega arith) in
+    none_of_all _ _ _ _ _ (omega arith) c.requires.first c.requires.count mask c.if-some-eq0.true
 
 pub returns-else-some-eq0-clause-few : goal.returns-else-some-eq0-clause-few
 returns-else-some-eq0-clause-few c =
@@ -17,7 +15,5 @@ returns-else-some-eq0-clause-few c =
 
 pub returns-else-some-eq0-clause-others : goal.returns-else-some-eq0-clause-others
 returns-else-some-eq0-clause-others c =
-    none_before c.args.indices.now c.args.at c.args.first c.args.count _ (omega arith)
-    c.requires.first c.requires.count
-    (mask_is c.args.indices.now c.args.at c.args.first c.args.count (omega arith))
-    c.if-some-eq0.false
+    let mask = mask_is c.args.indices.now c.args.at c.args.first c.args.count (omega arith) in
+    none_before _ _ _ _ _ (omega arith) c.requires.first c.requires.count mask c.if-some-eq0.false

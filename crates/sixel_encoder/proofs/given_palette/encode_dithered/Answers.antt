@@ -1,13 +1,13 @@
 use Rattle.std.proofs.Common.{length, ap, arith}
-use Rattle.sixel_encoder.specs.Dithering.{AreDithered}
+use Rattle.sixel_palette.specs.Dithering.{AreDithered}
 use Rattle.sixel_encoder.specs.Encoding.{source_value}
-use Rattle.sixel_encoder.proofs.DitheredIndices.{rows-image}
-use Rattle.sixel_encoder.proofs.GraySource.{dithered-count, dithered-entry}
+use Rattle.sixel_palette.proofs.GraySource.{dithered-count, dithered-entry}
 use Rattle.sixel_encoder.proofs.PaletteText.{rows-sound}
 use Rattle.sixel_encoder.proofs.Sizes.{within-sound}
 use Rattle.sixel_encoder.proofs.given_palette.encode_dithered.Goals as goal
 use Rattle.sixel_encoder.proofs.given_palette.encode_dithered.Goals.{After-deref}
 use Rattle.std.proofs.lemmas.Bool.Decides.{nat_tests}
+use Rattle.sixel_encoder.proofs.Sizes.{rows-image}
 
 -- the indices
 told : (c : After-deref)
@@ -18,27 +18,17 @@ told c = grind (arith, nat_tests)
 pub dithered_indices-requires-clause-image : goal.dithered_indices-requires-clause-image
 dithered_indices-requires-clause-image c =
     let image = source_value c.args.source.now in
-    record {
-      whole = record {
-        wide =
-            rw c.plain-image.ensures.width (within-sound image c.requires.sound).some_width;
-        rows =
-            rw (c.plain-image.ensures.pixels, c.plain-image.ensures.width)
-            (rows-image image c.requires.sound);
-        few = rw c.plain-image.ensures.colors c.requires.few;
-      };
-      some = rw c.plain-image.ensures.colors c.requires.some;
-      strength = omega (arith, c.plain-image.ensures.plain.strength);
-    }
+    let sound = within-sound image c.requires.sound in
+    let rows = rows-image image c.requires.sound in
+    grind (arith, nat_tests)
 
 pub encode_drawing-requires-clause-count : goal.encode_drawing-requires-clause-count
 encode_drawing-requires-clause-count c =
     let image = source_value c.args.source.now in
-    let sized = (within-sound image c.requires.sound).sized in
     let count =
     dithered-count c.args.mapping image.width image.pixels c.args.colors.now
     c.in_ok-indices.indices.items (told c) in
-    rw c.deref.ensures.value (omega (arith, sized, count))
+    rw c.deref.ensures.value (omega (arith, (within-sound image c.requires.sound).sized, count))
 
 pub encode_drawing-requires-clause-opaque : goal.encode_drawing-requires-clause-opaque
 encode_drawing-requires-clause-opaque c = λ pixel inside opaque.

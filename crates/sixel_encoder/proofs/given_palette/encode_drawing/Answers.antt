@@ -1,7 +1,6 @@
 use Rattle.std.proofs.Common.{[], subst}
 use Rattle.std.specs.Prelude.{All}
 use Rattle.std.proofs.lemmas.List.{get_or_default}
-use Rattle.sixel_encoder.specs.Encoding.{source_value}
 use Rattle.sixel_encoder.specs.Trip.{IsColor}
 use Rattle.sixel_encoder.proofs.IndexedText.{IsTextOf-written, IsWritable-indexed}
 use Rattle.sixel_encoder.proofs.given_palette.encode_drawing.Goals as goal
@@ -13,7 +12,5 @@ returns-clause-text c =
     λ k d l.
     subst IsColor (get_or_default colors k [] d l)
     (record { channels = c.told-colors k l; bytes = c.color_bytes.ensures k [] l }) in
-    IsTextOf-written c.args.form _ _
-    (IsWritable-indexed (source_value c.args.source.now) colors c.args.indices.now c.requires.sound
-    c.requires.few bytes c.requires.count c.requires.opaque)
-    c.in_ok-encode_in_form.ensures
+    IsTextOf-written _ _ _ (IsWritable-indexed _ _ _ c.requires.sound c.requires.few bytes
+    c.requires.count c.requires.opaque) c.in_ok-encode_in_form.ensures

@@ -7,18 +7,9 @@ use Rattle.std.proofs.lemmas.Bool.Decides.{nat_tests}
 
 pub returns-then-from-colors : goal.returns-then-from-colors
 returns-then-from-colors c =
-    let found =
-    list_any-past c.args.pixels.now c.args.indices.now c.args.colors c.loop-pixel.pixel
-    (omega arith) (c.is_opaque.ensures.opaque c.if-is_opaque.true)
-    (omega (arith, c.if-from-colors.true, c.from.ensures)) in
-    grind (arith, nat_tests, c.index_range.ensures)
+    let list =
+    list_any-past c.args.pixels.now c.args.indices.now c.args.colors c.loop-pixel.pixel in
+    grind (arith, nat_tests)
 
 pub returns : goal.returns
-returns c =
-    grind (
-      arith,
-      length-range_with_len,
-      get_or-range_with_len,
-      c.loop-pixel.invariant,
-      list_any_none,
-    )
+returns c = grind (arith, nat_tests, length-range_with_len, get_or-range_with_len, list_any_none)

@@ -7,4 +7,4 @@ returns-clause-trip c = λ raster_crop image max_colors drawing was mode is.
 
 pub returns-clause-read_back : goal.returns-clause-read_back
 returns-clause-read_back c = λ decoder image max_colors text was mode reads is.
-    text-again decoder image max_colors text was mode reads is
+    text-again decoder image max_colors text reads is was mode

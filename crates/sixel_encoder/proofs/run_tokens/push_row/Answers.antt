@@ -1,4 +1,4 @@
-use Rattle.std.proofs.Common.{string_bytes, arith}
+use Rattle.std.proofs.Common.{arith}
 use Rattle.sixel_encoder.proofs.EqualRuns.{tokens_skip}
 use Rattle.sixel_encoder.proofs.ShortestRows.{spells, shortest}
 use Rattle.sixel_encoder.proofs.run_tokens.push_row.Goals as goal
@@ -17,11 +17,4 @@ pub returns-clause-shortest : goal.returns-clause-shortest
 returns-clause-shortest c = shortest c.args.row.now
 
 pub sixels-preserved-then-same-gt0 : goal.sixels-preserved-then-same-gt0
-sixels-preserved-then-same-gt0 c =
-    let run = c.run_from-same.ensures.run in
-    record {
-      sixel = c.sixels.invariant.sixel;
-      few = omega (arith, c.sixels.invariant.few);
-      within = run.within;
-      text = grind (arith, nat_tests, string_bytes, tokens_skip, c.sixels.invariant.text);
-    }
+sixels-preserved-then-same-gt0 c = grind (arith, nat_tests, tokens_skip)

@@ -1,7 +1,5 @@
-use Rattle.std.proofs.Common.{◌≡◌, ◌+◌, ◌-◌, ◌<◌, length, ap, refl, ◌∙◌, arith}
+use Rattle.std.proofs.Common.{◌≡◌, ◌+◌, ◌<◌, length, ap, refl, ◌∙◌, arith}
 use Rattle.sixel_encoder.specs.Segments.{with_pixel}
-use Rattle.sixel_encoder.specs.inside.Compact.{with_run}
-use Rattle.sixel_encoder.specs.inside.Indexed.{drawing_of}
 use Rattle.sixel_encoder.proofs.EntryLaneMasks.{opaque-lane, transparent-lane}
 use Rattle.sixel_encoder.proofs.PassSteps.{none-replicated, segment-pixel, segment-skip}
 use Rattle.sixel_encoder.proofs.PassSteps.{segments_up_to-none, with_pixel-twice}
@@ -23,34 +21,22 @@ columns-init c = record {
 
 pub push_run-requires-clause-entry : goal.push_run-requires-clause-entry
 push_run-requires-clause-entry c =
-    let lane =
-    opaque-lane c.args.entries.now c.columns.column 0 c.lane-lane.result c.requires
-    c.columns-test.true c.lane-lane.ensures c.if-lane-ne-TRANSPARENT.true in
-    omega (arith, c.run_of-run.ensures.entry, lane.1, c.columns.invariant.size)
+    grind (arith, nat_tests, opaque-lane c.args.entries.now c.columns.column 0 c.lane-lane.result)
 
 pub columns-preserved-in-Continue-1 : goal.columns-preserved-in-Continue-1
 columns-preserved-in-Continue-1 c =
-    let entries = c.args.entries.now in
-    let drawing = drawing_of entries.image.now in
-    let column = c.columns.column in
-    let end = c.end_of_repeats-column.result in
     let lane = c.lane-lane.result in
-    let gap = c.gap_of-gap.result in
-    let run = c.run_of-run.result in
-    let items = c.columns.segments.items in
     let is = c.columns.invariant in
     let told = c.end_of_repeats-column.ensures in
+    let run = c.run_of-run.ensures in
     let at =
-    opaque-lane entries column 0 lane c.requires c.columns-test.true c.lane-lane.ensures
+    opaque-lane _ _ 0 lane c.requires c.columns-test.true c.lane-lane.ensures
     c.if-lane-ne-TRANSPARENT.true in
-    let made =
-    run-made run lane column end c.run_of-run.ensures.entry c.run_of-run.ensures.first
-    c.run_of-run.ensures.end in
+    let made = run-made c.run_of-run.result lane _ _ run.entry run.first run.end in
     record {
-      segments = columns-whole drawing entries.band column end gap lane items
-          c.push_run.new.segments.items told.order c.columns-test.true c.gap_of-gap.ensures
-          is.segments (c.is_uniform.ensures c.if-is_uniform.true) told.same at.0
-          (c.in_ok-push_run.ensures.segments ∙ ap (λ r. with_run gap r items) made);
+      segments = columns-whole _ _ _ _ _ told.order is.segments
+          (c.is_uniform.ensures c.if-is_uniform.true) told.same _ lane _ c.columns-test.true
+          c.gap_of-gap.ensures at.0 (grind (arith, nat_tests, c.in_ok-push_run.ensures.segments));
       last = grind (arith, nat_tests, c.run_of-run.ensures.end, c.in_ok-push_run.ensures.last);
       size = c.push_run.ensures.size ∙ is.size;
       within = told.within;
@@ -63,46 +49,38 @@ columns-preserved-else-lane-ne-TRANSPARENT c =
 pub push_run-requires-then-is_new-clause-entry : goal.push_run-requires-then-is_new-clause-entry
 push_run-requires-then-is_new-clause-entry c =
     let lane =
-    opaque-lane c.args.entries.now c.columns.column c.loop-bit.bit c.lane-lane-in-loop-bit.result
-    c.requires c.columns-test.true c.lane-lane-in-loop-bit.ensures
+    opaque-lane _ _ _ _ c.requires c.columns-test.true c.lane-lane-in-loop-bit.ensures
     (c.is_new.ensures.opaque c.if-is_new.true) in
     omega (arith, c.run_of-run-then-is_new.ensures.entry, lane.1, c.loop-bit.invariant.size)
 
 pub loop-bit-preserved : goal.loop-bit-preserved
 loop-bit-preserved c =
     let entries = c.args.entries.now in
-    let drawing = drawing_of entries.image.now in
     let column = c.columns.column in
-    let bit = c.loop-bit.bit in
     let lane = c.lane-lane-in-loop-bit.result in
     let gap = c.gap_of-gap.result in
     let was = c.loop-bit.segments.items in
     let is = c.loop-bit.invariant in
     let lc : column < entries.image.now.width = c.columns-test.true in
-    let lb : bit < 6 = omega (arith, c.loop-bit-test.true, c.loop-bit.auto.bit-end) in
+    let lb : c.loop-bit.bit < 6 = omega (arith, c.loop-bit-test.true, c.loop-bit.auto.bit-end) in
     elim c.if-is_new.branch [
       | then-is_new+in_ok-push_run-2 w ↦
           let run = w.run_of-run-then-is_new.result in
           let new = w.push_run-then-is_new.new in
           let at =
-          opaque-lane entries column bit lane c.requires lc c.lane-lane-in-loop-bit.ensures
-          (c.is_new.ensures.opaque w.if-is_new.true) in
+          opaque-lane entries column c.loop-bit.bit lane c.requires lc
+          c.lane-lane-in-loop-bit.ensures (c.is_new.ensures.opaque w.if-is_new.true) in
           let made =
           run-made run lane column (column + 1) w.run_of-run-then-is_new.ensures.entry
           w.run_of-run-then-is_new.ensures.first w.run_of-run-then-is_new.ensures.end in
-          let items : c.if-is_new.segments.items ≡ new.segments.items =
-          ap (λ v. v.items) w.segments-is in
+          let items : c.if-is_new.segments.items ≡ new.segments.items = grind (arith, nat_tests) in
           let pushed : new.segments.items ≡ with_pixel gap column lane was =
           grind (arith, nat_tests, run-pixel, w.in_ok-push_run-2.ensures.segments) in
           record {
             segments =
                 items
-                ∙ segment-pixel drawing entries.band column bit gap lane was new.segments.items lb
-                c.gap_of-gap.ensures is.segments at.0 pushed;
-            last = rw (items, w.last-is)
-                (AreLast-later new.segments.items new.last gap (run.end - 1) column
-                (omega (arith, w.run_of-run-then-is_new.ensures.end))
-                w.in_ok-push_run-2.ensures.last);
+                ∙ segment-pixel _ _ _ _ _ lb is.segments _ _ _ c.gap_of-gap.ensures at.0 pushed;
+            last = rw (items, w.last-is) (grind (arith, nat_tests, AreLast-later));
             size = ap length w.last-is ∙ (w.push_run-then-is_new.ensures.size ∙ is.size);
             above = λ l. rw (items, pushed) (with_pixel-twice gap column lane was);
           }

@@ -1,4 +1,4 @@
-use Rattle.std.proofs.Common.{◌≡◌, ℕ, ◌<◌, length, false, sym, ap, ◌∙◌, arith}
+use Rattle.std.proofs.Common.{◌≡◌, ℕ, ◌<◌, length, false, arith}
 use Rattle.std.proofs.lemmas.List.{get_or_default}
 use Rattle.sixel_encoder.specs.declared.segments.Segment.{Segment}
 use Rattle.sixel_encoder.specs.inside.Compact.{nth}
@@ -18,38 +18,14 @@ index-near-requires c =
     omega (arith, known.0, c.args.segments.now.ok.0)
 
 pub overflow_add-near : goal.overflow_add-near
-overflow_add-near c =
-    let items = c.args.segments.now.items in
-    let index = c.in-Some.index in
-    let near = c.index-near.result.now in
-    let known = c.requires.last.known c.args.run.entry index c.in-Some.is in
-    let at : nth items index ≡ near =
-    get_or_default items index none_there near known.0 ∙ sym c.index-near.ensures in
-    grind (arith, nat_tests, c.requires.last.ended, c.requires.small, c.requires.some)
+overflow_add-near c = grind (arith, nat_tests, get_or_default, none_there)
 
 pub returns-then-run-near-clause-segments : goal.returns-then-run-near-clause-segments
 returns-then-run-near-clause-segments c =
-    let items = c.args.segments.now.items in
-    let index = c.in-Some.index in
-    let near = c.index-near.result.now in
-    let known = c.requires.last.known c.args.run.entry index c.in-Some.is in
-    let at : nth items index ≡ near =
-    get_or_default items index none_there near known.0 ∙ sym c.index-near.ensures in
-    sym (run-near c.args.gap c.args.run items index near known.0 at
-    (λ j l. others-far items c.args.last.now c.args.gap c.args.run.first c.args.run.entry index j
-    c.requires.last c.in-Some.is (omega (arith, l, known.0)) (λ e. absurd (omega (arith, e, l))))
-    (near-own c.args.gap c.args.run.first c.args.run.entry near
-    (ap (λ (s : Segment). s.entry) (sym at) ∙ known.1) c.if-run-near.true))
+    grind (arith, nat_tests, get_or_default, none_there, run-near, others-far, near-own)
 
 pub returns-then-run-near-clause-last : goal.returns-then-run-near-clause-last
-returns-then-run-near-clause-last c =
-    let items = c.args.segments.now.items in
-    let index = c.in-Some.index in
-    let near = c.index-near.result.now in
-    let known = c.requires.last.known c.args.run.entry index c.in-Some.is in
-    AreLast-longer items c.args.last.now c.args.gap index c.args.run near c.requires.some
-    c.requires.last c.in-Some.is
-    (get_or_default items index none_there near known.0 ∙ sym c.index-near.ensures)
+returns-then-run-near-clause-last c = grind (arith, nat_tests, AreLast-longer, get_or_default)
 
 pub returns-clause-segments : goal.returns-clause-segments
 returns-clause-segments c = grind (arith, nat_tests, get_or_default, run-new)
@@ -57,23 +33,10 @@ returns-clause-segments c = grind (arith, nat_tests, get_or_default, run-new)
 pub returns-clause-last : goal.returns-clause-last
 returns-clause-last c =
     let items = c.args.segments.now.items in
-    let last = c.args.last.now in
     let far : (j : ℕ) → j < length items
     → is_near c.args.gap c.args.run.first c.args.run.entry (nth items j) ≡ false =
     elim c.match-last-run.branch [
-      | in-Some+else-run-near w ↦ λ j l.
-          let index = w.in-Some.index in
-          let near = w.index-near.result.now in
-          let known = c.requires.last.known c.args.run.entry index w.in-Some.is in
-          let at : nth items index ≡ near =
-          get_or_default items index none_there near known.0 ∙ sym w.index-near.ensures in
-          grind (arith, nat_tests, last-far, c.requires.last, w.in-Some.is, w.if-run-near.false)
-      | in-None w ↦ λ j l.
-          none-near items last c.args.gap c.args.run.first c.args.run.entry j c.requires.last
-          w.in-None.is l
+      | in-Some+else-run-near w ↦ grind (arith, nat_tests, get_or_default, none_there, last-far)
+      | in-None w ↦ grind (arith, nat_tests, none-near)
     ] in
-    let size : c.len.result ≡ length items = grind (arith, nat_tests) in
-    rw c.in_ok-push.ensures.items
-    (rw size
-    (AreLast-run items last c.args.gap c.args.run c.requires.some c.requires.last c.requires.entry
-    far))
+    grind (arith, nat_tests, items, AreLast-run)

@@ -1,6 +1,5 @@
 use Rattle.std.proofs.Common.{length, ap, arith, refl}
 use Rattle.std.specs.Prelude.{string_bytes}
-use Rattle.sixel_encoder.specs.Text.{band_text}
 use Rattle.sixel_encoder.specs.inside.Indexed.{drawing_of}
 use Rattle.sixel_encoder.proofs.Dots.{appended-start, appended-more}
 use Rattle.sixel_encoder.proofs.TextLength.{length-stopped, text-joined}
@@ -12,13 +11,9 @@ loop-band-init c = grind (arith, nat_tests, appended-start, c.in_ok-rows.ensures
 
 pub loop-band-preserved : goal.loop-band-preserved
 loop-band-preserved c =
-    let image = c.args.image.now in
     let told = c.in_ok-push_band.ensures in
     record {
-      text = appended-more (band_text (drawing_of image)) c.loop-band.band
-          (string_bytes c.in_ok-text.text) (string_bytes c.loop-band.text)
-          (string_bytes c.push_band.new.text) (band_text (drawing_of image) c.loop-band.band)
-          c.loop-band.invariant.text told.text refl;
+      text = appended-more _ _ _ _ _ _ c.loop-band.invariant.text told.text refl;
       empty = told.empty;
     }
 
@@ -26,28 +21,13 @@ pub returns-then-len-limit-clause-shorter : goal.returns-then-len-limit-clause-s
 returns-then-len-limit-clause-shorter c =
     length-stopped (drawing_of c.args.image.now) c.loop-band.band c.args.limit
     (string_bytes c.in_ok-text.text) (string_bytes c.loop-band.text) c.in_ok-text.ensures
-    c.loop-band.invariant.text
-    (omega (
-      arith,
-      c.loop-band-test.true,
-      c.loop-band.auto.band-end,
-      c.div_ceil-band-end.ensures,
-    ))
-    (omega (arith, c.if-len-limit.true, c.len.ensures))
+    c.loop-band.invariant.text (grind (arith, nat_tests)) (grind (arith, nat_tests))
 
 pub returns-then-len-limit-2-clause-shorter : goal.returns-then-len-limit-2-clause-shorter
 returns-then-len-limit-2-clause-shorter c =
     let whole =
-    text-joined (drawing_of c.args.image.now) c.loop-band.band
-    (string_bytes c.in_ok-text.text) (string_bytes c.loop-band.text)
-    (string_bytes c.push_str.new.self) c.in_ok-text.ensures c.loop-band.invariant.text
-    (omega (
-      arith,
-      c.loop-band-test.false,
-      c.loop-band.auto.band-end,
-      c.div_ceil-band-end.ensures,
-    ))
-    c.in_ok-push_str.ensures.bytes in
+    text-joined _ _ _ _ _ c.in_ok-text.ensures c.loop-band.invariant.text
+    (grind (arith, nat_tests)) c.in_ok-push_str.ensures.bytes in
     omega (arith, ap length whole, c.if-len-limit-2.true, c.len-2.ensures)
 
 pub returns-clause-text : goal.returns-clause-text

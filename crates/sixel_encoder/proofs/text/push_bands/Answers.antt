@@ -1,6 +1,4 @@
 use Rattle.std.proofs.Common.{string_bytes, refl, arith}
-use Rattle.sixel_encoder.specs.Text.{band_text}
-use Rattle.sixel_encoder.specs.inside.Indexed.{drawing_of}
 use Rattle.sixel_encoder.proofs.Dots.{appended-start, appended-more}
 use Rattle.sixel_encoder.proofs.text.push_bands.Goals as goal
 use Rattle.std.proofs.lemmas.Bool.Decides.{nat_tests}
@@ -10,13 +8,9 @@ loop-band-init c = grind (arith, nat_tests, appended-start, string_bytes, c.in_o
 
 pub loop-band-preserved : goal.loop-band-preserved
 loop-band-preserved c =
-    let image = c.args.image.now in
     let told = c.in_ok-push_band.ensures in
     record {
-      text = appended-more (band_text (drawing_of image)) c.loop-band.band
-          (string_bytes c.args.text.now) (string_bytes c.loop-band.text)
-          (string_bytes c.push_band.new.text) (band_text (drawing_of image) c.loop-band.band)
-          c.loop-band.invariant.text told.text refl;
+      text = appended-more _ _ _ _ _ _ c.loop-band.invariant.text told.text refl;
       empty = told.empty;
     }
 

@@ -1,4 +1,4 @@
-use Rattle.std.proofs.Common.{length, arith, rules}
+use Rattle.std.proofs.Common.{arith, rules}
 use Rattle.std.proofs.lemmas.List.{get_or_default}
 use Rattle.sixel_palette.specs.Palette.{palette_room, IsShown}
 use Rattle.sixel_palette.specs.inside.PaletteChosen.{IsChosen}
@@ -13,10 +13,7 @@ returns c =
     c.in_ok-palette_of.field-0 = grind (arith, nat_tests) in
     let order = chosen.chosen_order _ _ _ choice in
     record {
-      palette = record {
-        order = order;
-        size = (length choice.codes, chosen.chosen_size _ _ _ choice, choice.size);
-      };
+      palette = grind (arith, nat_tests, choice.codes, chosen.chosen_size, choice.size);
       error = chosen.chosen_error _ _ _ choice;
       witnesses = chosen.chosen_witnesses _ _ _ choice;
       witnesses_apart = chosen.chosen_apart _ _ _ choice;

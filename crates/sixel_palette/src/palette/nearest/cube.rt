@@ -10,7 +10,7 @@ ghost use Rattle.sixel_palette.specs.inside.PaletteCodes.{color_of, code_count};
 ghost use Rattle.sixel_palette.specs.inside.PaletteKeys.{entry_at, key_of, least_key, IsInCube};
 ghost use Rattle.sixel_palette.specs.inside.PaletteKeys.{cube_position, group_position};
 
-use crate::palette::cells::Interval;
+use crate::palette::buckets::Interval;
 use crate::palette::nearest_entry::{Entry, NO_ENTRY};
 
 /// How many keys of entries are found at once.
@@ -26,6 +26,7 @@ pub struct Cube {
 
 impl Cube {
     /// The squared distance of a color to the nearest color of the cube.
+    #[tactic(auto, unfolding(crate::specs::Palette::distance, crate::specs::Palette::square_gap))]
     #[inline(always)]
     pub fn gap(&self, color: [u8; 3]) -> u32
         ensures least { (c : List ℕ) → IsInCube self.now c → result ≤ distance color c }
@@ -35,12 +36,15 @@ impl Cube {
     }
 
     /// The squared distance of a color to the farthest corner of the cube.
+    #[tactic(auto, unfolding(crate::specs::Palette::distance, crate::specs::Palette::square_gap))]
     #[inline(always)]
-    pub fn reach(&self, color: [u8; 3]) -> u32
+    pub fn greatest_gap(&self, color: [u8; 3]) -> u32
         ensures greatest { (c : List ℕ) → IsInCube self.now c → distance color c ≤ result }
         ensures small { result ≤ 195075 }
     {
-        self.red.reach(color[0]) + self.green.reach(color[1]) + self.blue.reach(color[2])
+        self.red.greatest_gap(color[0])
+            + self.green.greatest_gap(color[1])
+            + self.blue.greatest_gap(color[2])
     }
 
     /// Keys of the next entries from `from` on: no color of the cube has lesser ones.
@@ -68,13 +72,14 @@ impl Cube {
     {
         let mut greatest = 256 * NO_ENTRY;
         for entry in entries {
-            greatest = key(self.reach(entry.color), entry.index).min(greatest);
+            greatest = key(self.greatest_gap(entry.color), entry.index).min(greatest);
         }
         greatest
     }
 }
 
 /// The cube that the color of a code is in.
+#[tactic(auto, unfolding(crate::specs::inside::PaletteCodes::color_of))]
 pub fn cube_around(code: u32) -> Cube
     requires { code < code_count }
     ensures { (other : ℕ) → other < code_count → cube_position other ≡ cube_position code
@@ -88,6 +93,7 @@ pub fn cube_around(code: u32) -> Cube
 }
 
 /// The group that the color of a code is in.
+#[tactic(auto, unfolding(crate::specs::inside::PaletteCodes::color_of))]
 pub fn group_around(code: u32) -> Cube
     requires { code < code_count }
     ensures { (other : ℕ) → other < code_count → group_position other ≡ group_position code

@@ -28,26 +28,10 @@ pub add_part_of_line-requires-clause-line : goal.add_part_of_line-requires-claus
 add_part_of_line-requires-clause-line c = grind (arith, nat_tests, line-within, c.if-row-image.true)
 
 pub add_whole_line-requires-clause-fits : goal.add_whole_line-requires-clause-fits
-add_whole_line-requires-clause-fits c = λ e x le lx.
-    let count : e < length c.loop-bit.self.used.items = grind (arith, nat_tests) in
-    omega (
-      arith,
-      c.loop-bit.invariant.cells e x count lx,
-      ap (λ r. cell r c.args.image.now.width e x) c.deref_mut.ensures.value,
-      mask-lt (hits c.args.image.now c.args.band (c.args.self.now.first + e) x) c.loop-bit.bit,
-      weight-le c.loop-bit.bit c.loop-bit-test.true,
-    )
+add_whole_line-requires-clause-fits c = grind (arith, nat_tests, weight-le, mask-lt, hits)
 
 pub add_part_of_line-requires-clause-fits : goal.add_part_of_line-requires-clause-fits
-add_part_of_line-requires-clause-fits c = λ e x le lx.
-    let count : e < length c.loop-bit.self.used.items = grind (arith, nat_tests) in
-    omega (
-      arith,
-      c.loop-bit.invariant.cells e x count lx,
-      ap (λ r. cell r c.args.image.now.width e x) c.deref_mut-else-is_whole.ensures.value,
-      mask-lt (hits c.args.image.now c.args.band (c.args.self.now.first + e) x) c.loop-bit.bit,
-      weight-le c.loop-bit.bit c.loop-bit-test.true,
-    )
+add_part_of_line-requires-clause-fits c = grind (arith, nat_tests, weight-le, mask-lt, hits)
 
 -- a line more of the sixels of an entry in a column, where its pixels are added to what was there
 line-added : (image : IndexedImage) (band bit weight first entry e x : ℕ) (was before now : List ℕ)
@@ -79,29 +63,23 @@ loop-bit-preserved c =
           let rows_long = w.add_whole_line.auto.rows ∙ ap length w.deref_mut.ensures.value in
           let used_long = w.add_whole_line.auto.used
           ∙ ap length w.deref_mut-then-is_whole.ensures.value in
-          let rows : after.rows.items ≡ new.rows = ap (λ (s : BandRows). s.rows.items) w.self-is
-          ∙ with_items_is old.rows new.rows (omega (arith, rows_long, old.rows.ok.0)) in
-          let used : after.used.items ≡ new.used = ap (λ (s : BandRows). s.used.items) w.self-is
-          ∙ with_items_is old.used new.used (omega (arith, used_long, old.used.ok.0)) in
-          let zero : first ≡ 0 = c.requires.part.whole
-          (omega (arith, w.if-is_whole.true, c.len.ensures, c.args.self.now.used.ok.0)) in
+          let rows : after.rows.items ≡ new.rows =
+          grind (arith, nat_tests, with_items_is, w.self-is) in
+          let used : after.used.items ≡ new.used =
+          grind (arith, nat_tests, with_items_is, w.self-is) in
+          let zero : first ≡ 0 = grind (arith, nat_tests) in
           record {
             weight = omega (arith, pow_more 2 bit);
-            shape = record {
-              wide = ap (λ (s : BandRows). s.width) w.self-is ∙ is.shape.wide;
-              from = ap (λ (s : BandRows). s.first) w.self-is ∙ is.shape.from;
-              sixels = ap length rows ∙ rows_long ∙ is.shape.sixels;
-              marks = ap length used ∙ used_long ∙ is.shape.marks;
-            };
+            shape = grind (arith, nat_tests, w.self-is, ap length rows, ap length used);
             cells = λ e x le lx.
                 let count : e < length new.used = omega (arith, le, ap length used) in
-                line-added image band bit c.loop-bit.weight first e e x old.rows.items
-                w.deref_mut.result.now after.rows.items c.requires.image lx w.if-row-image.true
+                let added =
+                w.add_whole_line.ensures.cells e x
+                (omega (arith, count, w.add_whole_line.auto.used)) lx in
+                line-added _ _ _ _ first e _ _ _ _ _ c.requires.image lx w.if-row-image.true
                 (is.cells e x (omega (arith, count, used_long)) lx) is.weight
                 w.deref_mut.ensures.value (omega (arith, zero))
-                (ap (λ r. cell r width e x) rows
-                ∙ w.add_whole_line.ensures.cells e x
-                (omega (arith, count, w.add_whole_line.auto.used)) lx);
+                (ap (λ r. cell r width e x) rows ∙ added);
             marks = AreMarks-same rows used w.add_whole_line.ensures.marks;
           }
       | then-row-image+else-is_whole w ↦
@@ -116,17 +94,11 @@ loop-bit-preserved c =
           ∙ with_items_is old.used new.used (omega (arith, used_long, old.used.ok.0)) in
           record {
             weight = omega (arith, pow_more 2 bit);
-            shape = record {
-              wide = ap (λ (s : BandRows). s.width) w.self-is ∙ is.shape.wide;
-              from = ap (λ (s : BandRows). s.first) w.self-is ∙ is.shape.from;
-              sixels = ap length rows ∙ rows_long ∙ is.shape.sixels;
-              marks = ap length used ∙ used_long ∙ is.shape.marks;
-            };
+            shape = grind (arith, nat_tests, w.self-is, ap length rows, ap length used);
             cells = λ e x le lx.
                 let count : e < length new.used = omega (arith, le, ap length used) in
-                line-added image band bit c.loop-bit.weight first (old.first + e) e x
-                old.rows.items w.deref_mut-else-is_whole.result.now after.rows.items
-                c.requires.image lx
+                line-added image band bit c.loop-bit.weight first (old.first + e) e x old.rows.items
+                w.deref_mut-else-is_whole.result.now after.rows.items c.requires.image lx
                 w.if-row-image.true (is.cells e x (omega (arith, count, used_long)) lx) is.weight
                 w.deref_mut-else-is_whole.ensures.value (ap (λ f. f + e) is.shape.from)
                 (ap (λ r. cell r width e x) rows
@@ -139,15 +111,9 @@ loop-bit-preserved c =
           let used = ap (λ (s : BandRows). s.used.items) w.self-is in
           record {
             weight = omega (arith, pow_more 2 bit);
-            shape = record {
-              wide = ap (λ (s : BandRows). s.width) w.self-is ∙ is.shape.wide;
-              from = ap (λ (s : BandRows). s.first) w.self-is ∙ is.shape.from;
-              sixels = ap length rows ∙ is.shape.sixels;
-              marks = ap length used ∙ is.shape.marks;
-            };
+            shape = grind (arith, nat_tests, w.self-is, ap length rows, ap length used);
             cells = λ e x le lx.
-                mask-below image band bit (first + e) x (cell after.rows.items width e x)
-                c.requires.image w.if-row-image.false
+                mask-below _ _ _ _ _ c.requires.image _ w.if-row-image.false
                 (ap (λ r. cell r width e x) rows
                 ∙ is.cells e x (omega (arith, le, ap length used)) lx);
             marks = AreMarks-same rows used is.marks;

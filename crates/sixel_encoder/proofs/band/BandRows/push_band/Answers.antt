@@ -29,7 +29,6 @@ loop-part-preserved c =
     let filled = c.fill.new.self in
     let new = c.push_rows.new.self in
     let count = length old.used.items in
-    let told = c.in_ok-push_rows.ensures in
     let shape = c.push_rows.ensures.shape in
     let from_old = c.fill.ensures.shape in
     let size : c.len-in-loop-part.result ≡ count = grind (arith, nat_tests) in
@@ -40,11 +39,9 @@ loop-part-preserved c =
     let cells : (e x : ℕ) → e < count → x < image.width
     → cell filled.rows.items image.width e x ≡ sixel_of drawing band (part * count + e) x =
     λ e x le lx. grind (arith, nat_tests) in
-    let text = rw (wide, from, from_old.marks) at told.text in
+    let text = rw (wide, from, from_old.marks) at c.in_ok-push_rows.ensures.text in
     record {
-      text = rw marks (appended-part (entry_text drawing band) part count
-          (string_bytes c.args.text.now) (string_bytes c.loop-part.text)
-          (string_bytes c.push_rows.new.text) is.text
+      text = rw marks (appended-part (entry_text drawing band) part count _ _ _ is.text
           (text ∙ ap (λ rows. string_bytes c.loop-part.text ++ rows)
           (joined-part drawing band (part * count) count filled.rows.items cells)));
       count = marks ∙ is.count;
@@ -52,15 +49,4 @@ loop-part-preserved c =
     }
 
 pub returns-clause-text : goal.returns-clause-text
-returns-clause-text c =
-    grind (
-      arith,
-      string_bytes,
-      c.parts-part-end.ensures.all,
-      c.loop-part.invariant.text,
-      joined-all,
-      c.requires.image,
-      c.push.ensures.ascii,
-      append_assoc,
-      c.push.ensures.bytes,
-    )
+returns-clause-text c = grind (arith, nat_tests, joined-all, append_assoc)

@@ -9,12 +9,10 @@ pub push_sixels-requires-clause-below : goal.push_sixels-requires-clause-below
 push_sixels-requires-clause-below c =
     let rows = c.args.self.now in
     let start = c.args.row * rows.width in
-    let size = start + rows.width - start in
-    let row : take size (drop start c.deref.result.now)
+    let row : take (start + rows.width - start) (drop start c.deref.result.now)
     ≡ grid_row rows.rows.items rows.width c.args.row =
     grind (arith, nat_tests, part-row, c.deref.ensures.value, c.requires.within) in
-    rw row
-    (All-grid_row (λ bits. bits < 64) rows.rows.items rows.width c.args.row c.requires.below)
+    rw row (All-grid_row (λ bits. bits < 64) rows.rows.items rows.width c.args.row c.requires.below)
 
 pub returns-clause-text : goal.returns-clause-text
 returns-clause-text c =

@@ -4,6 +4,5 @@ use Rattle.sixel_encoder.proofs.band_entries.BandEntries.is_repeated.Goals as go
 
 pub returns : goal.returns
 returns c = λ same bit lb.
-    repeated-lanes c.args.self.now c.args.column _ c.requires.entries c.requires.column
-    (omega (arith, c.requires.column))
-    (rw c.deref.ensures.value at (c.have_equal_lanes.ensures same)) bit lb
+    repeated-lanes _ _ _ c.requires.entries c.requires.column (omega (arith, c.requires.column))
+    (rw c.deref.ensures.value at (c.have_equal_lanes.ensures same)) _ lb

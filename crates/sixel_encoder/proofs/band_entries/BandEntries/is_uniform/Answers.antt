@@ -8,11 +8,8 @@ use Rattle.sixel_encoder.proofs.band_entries.BandEntries.is_uniform.Goals as goa
 pub returns : goal.returns
 returns c = λ all bit lb.
     let all_set : c.lanes_with.result % 64 ≡ 63 = grind (arith, nat_tests) in
-    uniform-lanes c.args.self.now c.args.column c.lane-first.result c.lanes_with.result
-    c.requires.entries c.requires.column c.lane-first.ensures
+    uniform-lanes _ _ _ _ c.requires.entries c.requires.column c.lane-first.ensures
     (c.lanes_with.ensures
-    ∙ ap
-    (λ (lanes : List ℕ).
+    ∙ ap (λ (lanes : List ℕ).
     mask (λ bit. slice_index lanes (8 * c.args.column + bit) == c.lane-first.result) 8)
-    c.deref.ensures.value)
-    all_set bit lb
+    c.deref.ensures.value) all_set _ lb

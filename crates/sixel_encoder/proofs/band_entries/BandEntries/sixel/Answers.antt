@@ -7,9 +7,6 @@ use Rattle.sixel_encoder.proofs.band_entries.BandEntries.sixel.Goals as goal
 pub returns : goal.returns
 returns c =
     c.lanes_with.ensures
-    ∙ (ap
-    (λ (lanes : List ℕ).
+    ∙ (ap (λ (lanes : List ℕ).
     mask (λ bit. slice_index lanes (8 * c.args.column + bit) == c.args.entry) 8)
-    c.deref.ensures.value
-    ∙ sixel-lanes c.args.self.now c.args.column c.args.entry c.requires.entries c.requires.column
-    c.requires.entry)
+    c.deref.ensures.value ∙ sixel-lanes _ _ _ c.requires.entries c.requires.column c.requires.entry)

@@ -1,8 +1,5 @@
 use Rattle.std.proofs.Common.{◌≤◌, length, ◌∙◌, arith}
-use Rattle.std.specs.Prelude.{string_bytes}
 use Rattle.std.proofs.lemmas.List.FromFn.{length-map-range_with_len}
-use Rattle.sixel_encoder.specs.Compact.{nothing_of}
-use Rattle.sixel_encoder.specs.inside.Compact.{drawn_so_far}
 use Rattle.sixel_encoder.specs.inside.Indexed.{drawing_of}
 use Rattle.sixel_encoder.proofs.CompactSteps.{IsWithin-drawn, band-selected, band-text, drawn-end}
 use Rattle.sixel_encoder.proofs.CompactSteps.{drawn-made, drawn-more, text-end, text-more}
@@ -13,18 +10,12 @@ pub loop-segment-init : goal.loop-segment-init
 loop-segment-init c = grind (arith, length-map-range_with_len)
 
 pub push_segment-requires-clause-within : goal.push_segment-requires-clause-within
-push_segment-requires-clause-within c =
-    let drawn = rw (c.read.ensures.image, c.read.ensures.band) at c.in_ok-segments.ensures in
-    rw c.loop-segment.invariant.image
-    (IsWithin-drawn c.args.self.now.entries.image.now c.args.band c.loop-segment.segment-index
-    c.deref-segment-items.result.now c.requires.writer.indexed
-    (c.deref-segment-items.ensures.value ∙ drawn) c.loop-segment-test.true)
+push_segment-requires-clause-within c = grind (arith, nat_tests, IsWithin-drawn)
 
 pub loop-segment-preserved : goal.loop-segment-preserved
 loop-segment-preserved c =
     let is = c.loop-segment.invariant in
     let told = c.in_ok-push_segment.ensures in
-    let k = c.loop-segment.segment-index in
     let items = c.deref-segment-items.result.now in
     let drawing = drawing_of c.loop-segment.self.entries.image.now in
     let text = rw is.band at told.text in
@@ -34,46 +25,32 @@ loop-segment-preserved c =
       entries = is.entries;
       image = is.image;
       band = is.band;
-      text =
-          text-more drawing c.args.band k (drawn_so_far c.loop-segment.self)
-          (drawn_so_far c.push_segment.new.self) items (string_bytes c.loop-segment.text)
-          (string_bytes c.push_segment.new.text) _ c.loop-segment-test.true drawn text is.text;
-      drawn =
-          drawn-more drawing c.args.band k (drawn_so_far c.loop-segment.self)
-          (drawn_so_far c.push_segment.new.self) _ items c.loop-segment-test.true drawn is.drawn;
+      text = text-more drawing _ _ _ _ items _ _ _ c.loop-segment-test.true drawn text is.text;
+      drawn = drawn-more drawing _ _ _ _ _ items c.loop-segment-test.true drawn is.drawn;
     }
 
 pub returns-clause-register : goal.returns-clause-register
 returns-clause-register c =
     let drawing = drawing_of c.args.self.now.entries.image.now in
-    let band = c.args.band in
     let items = c.deref-segment-items.result.now in
     let drawn = rw (c.read.ensures.image, c.read.ensures.band) at c.in_ok-segments.ensures in
     let all : length items ≤ c.loop-segment.segment-index = grind (arith, nat_tests) in
-    band-selected drawing band c.args.self.now.pen.register _
-    (drawn_so_far c.loop-segment.self) items
-    (drawn-made _ (nothing_of drawing band c.args.self.now.pen.register)
+    band-selected drawing c.args.band c.args.self.now.pen.register _ _ items (drawn-made _ _
     c.begin_band.ensures.column c.begin_band.ensures.register
     (rw (c.read.ensures.image, c.read.ensures.band) at c.begin.ensures))
-    (c.deref-segment-items.ensures.value ∙ drawn)
-    (drawn-end drawing band c.loop-segment.segment-index (drawn_so_far c.loop-segment.self) _ items
-    all (rw c.loop-segment.invariant.image at c.loop-segment.invariant.drawn))
+    (c.deref-segment-items.ensures.value ∙ drawn) (drawn-end drawing c.args.band
+    c.loop-segment.segment-index _ _ items all
+    (rw c.loop-segment.invariant.image at c.loop-segment.invariant.drawn))
 
 pub returns-clause-text : goal.returns-clause-text
 returns-clause-text c =
     let drawing = drawing_of c.args.self.now.entries.image.now in
-    let band = c.args.band in
     let items = c.deref-segment-items.result.now in
     let drawn = rw (c.read.ensures.image, c.read.ensures.band) at c.in_ok-segments.ensures in
     let all : length items ≤ c.loop-segment.segment-index = grind (arith, nat_tests) in
-    band-text drawing band c.args.self.now.pen.register _ items
-    (string_bytes c.args.text.now) (string_bytes c.begin_band.new.text)
-    (string_bytes c.loop-segment.text)
-    (drawn-made _ (nothing_of drawing band c.args.self.now.pen.register)
+    band-text drawing c.args.band c.args.self.now.pen.register _ items _ _ _ (drawn-made _ _
     c.begin_band.ensures.column c.begin_band.ensures.register
     (rw (c.read.ensures.image, c.read.ensures.band) at c.begin.ensures))
-    (c.deref-segment-items.ensures.value ∙ drawn)
-    c.in_ok-begin_band.ensures.text
-    (text-end drawing band c.loop-segment.segment-index (drawn_so_far c.loop-segment.self) items
-    (string_bytes c.loop-segment.text) _ all
+    (c.deref-segment-items.ensures.value ∙ drawn) c.in_ok-begin_band.ensures.text (text-end drawing
+    c.args.band c.loop-segment.segment-index _ items _ _ all
     (rw c.loop-segment.invariant.image at c.loop-segment.invariant.text))

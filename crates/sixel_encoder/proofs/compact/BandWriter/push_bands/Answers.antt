@@ -1,7 +1,4 @@
-use Rattle.std.proofs.Common.{ap, sym, ◌∙◌, arith}
-use Rattle.sixel_encoder.specs.Compact.{band_register}
-use Rattle.sixel_encoder.specs.Text.{bands}
-use Rattle.sixel_encoder.specs.Trip.{is_used}
+use Rattle.std.proofs.Common.{ap, ◌∙◌, arith}
 use Rattle.sixel_encoder.specs.inside.Indexed.{drawing_of}
 use Rattle.sixel_encoder.proofs.Counts.{flat_map-more, flat_map-start}
 use Rattle.sixel_encoder.proofs.DrawnHeight.{bands_up_to-le}
@@ -15,28 +12,23 @@ loop-band-init c =
     grind (arith, c.requires.writer, flat_map-start, c.requires.register, register_after-none)
 
 pub push_band-requires-clause-band : goal.push_band-requires-clause-band
-push_band-requires-clause-band c =
-    let image = c.args.self.now.entries.image.now in
-    let most = bands_up_to-le (is_used (drawing_of image)) (bands image.height) in
-    rw c.loop-band.invariant.image
-    (omega (arith, most, c.loop-band-test.true, c.used_bands-band-end.ensures))
+push_band-requires-clause-band c = grind (arith, nat_tests, bands_up_to-le)
 
 pub loop-band-preserved : goal.loop-band-preserved
 loop-band-preserved c =
     let drawing = drawing_of c.args.self.now.entries.image.now in
-    let band = c.loop-band.band in
     let is = c.loop-band.invariant in
     let told = c.in_ok-push_band.ensures in
     record {
       writer = told.writer;
       image = ap (λ b. b.now) c.push_band.ensures.image ∙ is.image;
       text = grind (arith, nat_tests, flat_map-more, is.text, is.register, is.image, told.text);
-      plain = length-band drawing band c.loop-band.plain_bytes c.least_bytes.result
+      plain = length-band drawing c.loop-band.band c.loop-band.plain_bytes c.least_bytes.result
           c.saturating_add-plain_bytes.result is.plain
           (rw (c.push_band.ensures.image, is.image, told.band) at c.least_bytes.ensures)
           (omega (arith, c.saturating_add-plain_bytes.ensures));
-      register = (rw is.image at told.register)
-          ∙ (ap (band_register drawing band) is.register ∙ sym (register_after-more drawing band));
+      register =
+          grind (arith, nat_tests, register_after-more, is.register, is.image, told.register);
     }
 
 pub returns-clause-plain : goal.returns-clause-plain

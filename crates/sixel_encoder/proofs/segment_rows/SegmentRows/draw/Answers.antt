@@ -1,6 +1,6 @@
-use Rattle.std.proofs.Common.{◌≡◌, ◌+◌, ◌-◌, ◌<◌, List, length, set, ap, ◌∙◌, arith, ℕ, refl}
+use Rattle.std.proofs.Common.{◌≡◌, ◌+◌, ◌<◌, List, length, set, ap, ◌∙◌, arith, ℕ, refl}
 use Rattle.std.specs.Int.Bits.{bit_or}
-use Rattle.std.specs.Prelude.{slice_index, vec_len}
+use Rattle.std.specs.Prelude.{slice_index}
 use Rattle.std.proofs.lemmas.List.{get_or_default}
 use Rattle.sixel_encoder.specs.Text.{sixel_of}
 use Rattle.sixel_encoder.specs.inside.Indexed.{drawing_of}
@@ -8,7 +8,9 @@ use Rattle.sixel_encoder.proofs.FillSteps.{IsBlocking, blocked-after, blocked-mo
 use Rattle.sixel_encoder.proofs.FillSteps.{fill-off, fill-on}
 use Rattle.sixel_encoder.proofs.segment_rows.SegmentRows.draw.Goals as goal
 use Rattle.sixel_encoder.proofs.segment_rows.SegmentRows.draw.Goals.{then-more-wider-eq0}
-use Rattle.sixel_encoder.proofs.segment_rows.SegmentRows.draw.Goals.{else-more-wider-eq0+in_ok-resize}
+use Rattle.sixel_encoder.proofs.segment_rows.SegmentRows.draw.Goals.{
+  else-more-wider-eq0+in_ok-resize,
+}
 use Rattle.std.proofs.lemmas.Bool.Decides.{nat_tests}
 
 pub loop-column-init : goal.loop-column-init
@@ -33,13 +35,11 @@ loop-column-preserved c =
     ≡ bit_or (slice_index old column) (own column) = grind (arith, nat_tests) in
     let blocking : IsBlocking old own segment.first (column + 1)
     (set was column (bit_or c.index-blocked.result.now c.sixel-own.result)) =
-    blocked-more old was own segment.first column _ inside c.loop-column.auto.column value
-    is.blocked in
+    blocked-more _ _ _ _ _ _ inside c.loop-column.auto.column value is.blocked in
     elim c.if-more-wider-eq0.branch [
       | then-more-wider-eq0 w ↦ rw w.self-is record {
         short = omega (arith, is.short);
-        row = fill-on own (slice_index old) row.items row.items _ c.loop-column.bits
-            c.loop-column.ban _ _ c.args.from column segment.end high is.short refl
+        row = fill-on _ _ _ _ _ _ _ _ _ _ _ _ high is.short refl
             (w.bits-is ∙ ap (bit_or c.loop-column.bits) sixel)
             (w.ban-is ∙ ap (bit_or c.loop-column.ban) ban)
             (rw (sixel, ban) at w.if-more-wider-eq0.true) is.row;
@@ -47,25 +47,18 @@ loop-column-preserved c =
       }
       | else-more-wider-eq0+in_ok-resize w ↦
           let cut =
-          fill-off own (slice_index old) row.items w.resize.new.self.items _ c.loop-column.bits
-          c.loop-column.ban _ _ c.args.from column segment.end (column - c.args.from) (vec_len row)
-          high is.short refl row.ok.0 w.in_ok-resize.ensures.items (w.bits-is ∙ sixel)
-          (w.ban-is ∙ ban) (rw (sixel, ban) at w.if-more-wider-eq0.false) is.row in
+          fill-off _ _ _ _ _ _ _ _ _ _ _ _ _ _ high is.short refl row.ok.0
+          w.in_ok-resize.ensures.items (w.bits-is ∙ sixel) (w.ban-is ∙ ban)
+          (rw (sixel, ban) at w.if-more-wider-eq0.false) is.row in
           grind (arith, nat_tests, w.self-is)
     ]
 
 pub returns-clause-row : goal.returns-clause-row
 returns-clause-row c =
     let is = c.loop-column.invariant in
-    let segment = c.args.segment.now in
-    let entries = c.args.entries.now in
-    let row = c.loop-column.self.row in
-    let all : c.loop-column.column ≡ segment.end = grind (arith, nat_tests) in
-    fill-end (sixel_of (drawing_of entries.image.now) entries.band segment.entry)
-    (slice_index c.args.self.now.blocked.items) row.items c.resize-2.new.self.items _
-    c.loop-column.bits c.loop-column.ban c.args.from segment.end (segment.end - c.args.from)
-    (vec_len row) (rw all at is.short) refl row.ok.0 c.in_ok-resize-2.ensures.items
-    (rw all at is.row)
+    let all : c.loop-column.column ≡ c.args.segment.now.end = grind (arith, nat_tests) in
+    fill-end _ _ _ _ _ _ _ _ _ _ _ (rw all at is.short) refl c.loop-column.self.row.ok.0
+    c.in_ok-resize-2.ensures.items (rw all at is.row)
 
 pub returns-clause-blocked : goal.returns-clause-blocked
 returns-clause-blocked c = grind (arith, blocked-after)

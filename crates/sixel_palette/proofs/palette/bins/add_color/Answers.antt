@@ -4,7 +4,7 @@ use Rattle.std.proofs.Math.Seq.{map-set_same}
 use Rattle.sixel_palette.specs.declared.palette.bins.Bin.{Bin}
 use Rattle.sixel_palette.specs.GainCut.{corner}
 use Rattle.sixel_palette.specs.Lloyd.{is_corner}
-use Rattle.sixel_palette.specs.inside.PaletteBins.{cell, corners_of}
+use Rattle.sixel_palette.specs.inside.PaletteBins.{slot, corners_of}
 use Rattle.sixel_palette.proofs.PaletteBins.{not_found, sums_more, table_more}
 use Rattle.sixel_palette.proofs.palette.bins.add_color.Goals as goal
 
@@ -20,13 +20,13 @@ returns-clause-table c = λ red l h.
     let positions = c.args.positions.now in
     let color = corner 4 c.args.color in
     let size : length (corners_of bins) ≡ length bins = length-map bins (λ (b : Bin). b.corner) in
-    let place : c.from.result * 64 + c.from-2.result ≡ cell color =
+    let place : c.from.result * 64 + c.from-2.result ≡ slot color =
     omega (arith, c.from.ensures, c.from-2.ensures) in
     let long : c.len-2.result ≡ length (corners_of bins) =
     omega (arith, size, c.len-2.ensures, c.args.bins.now.ok.0) in
     let at : ℕ = get_or positions (c.from.result * 64 + c.from-2.result) 0 in
-    let miss : get_or positions (cell color) 0 < length (corners_of bins)
-    → is_corner (get_or (corners_of bins) (get_or positions (cell color) 0) []) color ≡ false =
+    let miss : get_or positions (slot color) 0 < length (corners_of bins)
+    → is_corner (get_or (corners_of bins) (get_or positions (slot color) 0) []) color ≡ false =
     rw (← place)
     (elim c.else-position-len.branch [
       | goal.else-position-len-via-then-position-len+else-is_corner w ↦ λ inside.

@@ -1,18 +1,13 @@
 use Rattle.std.proofs.Common.{refl, get_or, length, sym, ◌∙◌, arith, cond}
 use Rattle.std.proofs.lemmas.List.{map_more, map_push, take_all}
-use Rattle.std.proofs.lemmas.List.Sums.{sum_by_more, sum_by_push, sum_by-take-le, get_or-le-sum_by}
+use Rattle.std.proofs.lemmas.List.Sums.{sum_by_more, sum_by_push}
 use Rattle.sixel_palette.specs.declared.palette.bins.Bin.{Bin}
 use Rattle.sixel_palette.specs.inside.PaletteCodes.{color_of}
 use Rattle.sixel_palette.specs.inside.PaletteSums.{channels, first_counted, total}
 use Rattle.sixel_palette.proofs.PaletteBins.{colors_distinct, corner-one, counted_more}
 use Rattle.sixel_palette.proofs.PaletteBins.{counted_none, whole_bins}
-use Rattle.sixel_palette.proofs.PaletteBoxes.{weighed-sum}
 use Rattle.sixel_palette.proofs.palette.bins.color_bins.Goals as goal
 use Rattle.std.proofs.lemmas.Bool.Decides.{nat_tests}
-
-pub of-sums-requires : goal.of-sums-requires
-of-sums-requires c =
-    grind (arith, get_or-le-sum_by, c.requires.weighed.same, weighed-sum, c.requires.weighed)
 
 pub loop-index-init : goal.loop-index-init
 loop-index-init c =
@@ -43,14 +38,8 @@ loop-index-preserved c =
           sum_by_push (λ b. cond (contains (channels b.corner)) (total b.sums k) 0) bins bin
           ∙ rw (h.sums contains k, c.of-sums.ensures.sums k, color, ← own)
           (sym (counted_more 1 codes counts index contains k));
-      corners =
-          map_push (λ (b : Bin). b.corner) bins bin
-          ∙ rw (h.corners, color) (sym (map_more color_of codes index 0 (omega arith)));
+      corners = grind (arith, nat_tests, map_push, h.corners, map_more);
     })
-
-pub returns-clause-few : goal.returns-clause-few
-returns-clause-few c =
-    grind (arith, sum_by-take-le, weighed-sum, c.requires.weighed, c.loop-index.invariant.pixels)
 
 pub returns-clause-bins : goal.returns-clause-bins
 returns-clause-bins c = grind (arith, nat_tests)

@@ -1,32 +1,13 @@
 use Rattle.std.proofs.Common.{◌≡◌, refl, get_or, length, sym, ◌∙◌, arith}
 use Rattle.std.proofs.lemmas.List.{nil_from_length}
-use Rattle.std.proofs.lemmas.List.Sums.{sum_by_more, sum_by_more_le, sum_by-take-le}
-use Rattle.std.proofs.lemmas.List.Sums.{get_or-le-sum_by}
+use Rattle.std.proofs.lemmas.List.Sums.{sum_by_more}
 use Rattle.sixel_palette.specs.GainCut.{corner}
 use Rattle.sixel_palette.specs.inside.PaletteCodes.{color_of}
 use Rattle.sixel_palette.specs.inside.PaletteSums.{first_counted}
 use Rattle.sixel_palette.proofs.PaletteBins.{counted_more, counted_none, red-le, table_none}
 use Rattle.sixel_palette.proofs.PaletteBins.{whole_bins}
-use Rattle.sixel_palette.proofs.PaletteBoxes.{weighed-sum}
 use Rattle.sixel_palette.proofs.PaletteLists.{increasing-le}
 use Rattle.sixel_palette.proofs.palette.bins.push_bins.Goals as goal
-
-pub of-sums-requires : goal.of-sums-requires
-of-sums-requires c =
-    grind (arith, get_or-le-sum_by, c.requires.weighed.same, weighed-sum, c.requires.weighed)
-
-pub add_color-requires-clause-few : goal.add_color-requires-clause-few
-add_color-requires-clause-few c =
-    let counts = c.args.counts.now in
-    omega (
-      arith,
-      sum_by_more_le (λ n. n) counts c.loop-index.index 0 (omega (arith, c.requires.weighed.same)),
-      weighed-sum c.args.codes.now counts c.requires.weighed,
-    )
-
-pub returns-clause-few : goal.returns-clause-few
-returns-clause-few c =
-    grind (arith, sum_by-take-le, weighed-sum, c.requires.weighed, c.loop-index.invariant.pixels)
 
 pub loop-index-init : goal.loop-index-init
 loop-index-init c =

@@ -1,4 +1,4 @@
-use Rattle.std.proofs.Common.{◌≡◌, ℕ, ◌<◌, inl, inr, get_or, length, refl, ap, arith}
+use Rattle.std.proofs.Common.{◌≡◌, ℕ, ◌<◌, get_or, length, refl, ap, arith}
 use Rattle.std.proofs.lemmas.List.{get_or_default}
 use Rattle.sixel_palette.specs.declared.palette.gain_cut.Channel.TheVariants.{Red}
 use Rattle.sixel_palette.specs.declared.palette.gain_cut.ColorBox.{ColorBox}
@@ -25,25 +25,20 @@ loop-position-preserved c =
     ap (λ (b : ColorBox). b.cut.gain) (get_or_default boxes k d none l) in
     let here : position < length boxes = c.loop-position-test.true in
     let next = λ (d : ColorBox) (new : ℕ).
-    first_greatest-next (λ k. (get_or boxes k d).cut.gain) _ _ new (omega arith) (h.first d) in
+    first_greatest-next (λ k. (get_or boxes k d).cut.gain) position best new (omega arith)
+    (h.first d) in
     elim c.if-boxes-best.branch [
       | goal.then-boxes-best w ↦
+          let more = w.if-boxes-best.true in
           rw w.best-is (record {
             within = here;
-            first = λ d.
-                next d position (inl (
-                  omega (arith, same best d h.within, same position d here, w.if-boxes-best.true),
-                  refl,
-                ));
+            first = λ d. grind (arith, next d position, same best d, same position d);
           })
       | goal.else-boxes-best w ↦
+          let less = w.if-boxes-best.false in
           rw w.best-is (record {
             within = h.within;
-            first = λ d.
-                next d best (inr (
-                  omega (arith, same best d h.within, same position d here, w.if-boxes-best.false),
-                  refl,
-                ));
+            first = λ d. grind (arith, next d best, same best d, same position d);
           })
     ]
 

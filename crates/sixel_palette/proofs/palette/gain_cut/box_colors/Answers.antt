@@ -1,18 +1,12 @@
-use Rattle.std.proofs.Common.{◌≡◌, ℕ, ◌<◌, ◌≤◌, [], ◌∷◌, true, List, length, map, sym, ⊎_elim}
-use Rattle.std.proofs.Common.{◌∙◌, arith}
-use Rattle.std.proofs.lemmas.Bool.{cases_lt}
-use Rattle.std.proofs.lemmas.List.{get_or-map, get_or_append_left, get_or_at, get_or_default}
-use Rattle.std.proofs.lemmas.List.{length-map, length_push, same_lists}
+use Rattle.std.proofs.Common.{◌≡◌, ℕ, ◌<◌, [], true, List, length, map, sym, ◌∙◌, arith}
+use Rattle.std.proofs.lemmas.List.{get_or-map, get_or_default, length-map, length_push, same_lists}
 use Rattle.std.proofs.lemmas.List.Elements.{All-push}
 use Rattle.sixel_base.specs.Color.{rgb}
 use Rattle.sixel_palette.specs.ColorSums.{mean_or}
 use Rattle.sixel_palette.specs.GainCut.{Box, box_at, box_sums}
 use Rattle.sixel_palette.specs.Refined.{IsRegisterColor}
-use Rattle.sixel_palette.proofs.PaletteBoxes.{binned-part}
+use Rattle.sixel_palette.proofs.PaletteLists.{each_push}
 use Rattle.sixel_palette.proofs.palette.gain_cut.box_colors.Goals as goal
-
-pub mean_of-requires : goal.mean_of-requires
-mean_of-requires c = binned-part c.args.bins.now _ _ c.requires.few
 
 pub loop-position-preserved : goal.loop-position-preserved
 loop-position-preserved c =
@@ -23,16 +17,11 @@ loop-position-preserved c =
     rw c.in_ok-push.ensures.items (record {
       shown = All-push IsRegisterColor colors mean h.shown c.mean_of.ensures.shown;
       size = omega (arith, length_push colors mean, h.size);
-      means = λ pixels model are k l.
-          ⊎_elim (λ (less : k < position).
-          get_or_append_left colors (mean ∷ []) [] k (omega (arith, less, h.size))
-          ∙ h.means pixels model are k less)
-          (λ (more : position ≤ k).
-          let e : position ≡ k = omega arith in
-          get_or_at colors mean [] [] k (omega (arith, e, h.size))
-          ∙ rw (← e)
+      means = λ pixels model are.
+          each_push (λ i x. x ≡ mean_or (box_sums pixels (box_at model i)) (rgb 0 0 0)) colors mean
+          [] position h.size (h.means pixels model are)
           (c.mean_of.ensures.mean pixels (box_at model position)
-          (are.bins_of position _ (omega arith)))) (cases_lt k position);
+          (are.bins_of position _ (omega arith)));
     })
 
 pub returns-clause-means : goal.returns-clause-means

@@ -19,9 +19,7 @@ loop-count-init c =
     (nil_from_length c.args.boxes.now.items c.requires.none) in
     rw one (record {
       boxes = refl;
-      ranges = λ k d l.
-          let e : k ≡ 0 = omega arith in
-          rw e (record { order = omega (arith, made.start); within = omega (arith, made.end) });
+      ranges = λ k d l. grind (arith, nat_tests, made.start, made.end);
       lower = omega (arith, c.box_of.auto.lower, c.requires.lower);
       upper = omega (arith, c.box_of.auto.upper, c.requires.upper);
       moved = IsPermutation-refl c.args.bins.now;

@@ -1,4 +1,4 @@
-use Rattle.std.proofs.Common.{◌≡◌, ◌+◌, ◌*◌, ◌<◌, ◌≤◌, arith}
+use Rattle.std.proofs.Common.{◌≡◌, ◌+◌, ◌*◌, arith}
 use Rattle.std.proofs.lemmas.List.{get_or-replicate}
 use Rattle.sixel_palette.proofs.PaletteFarthest.{index_from_word}
 use Rattle.sixel_palette.proofs.palette.indices.fill_indices.Goals as goal
@@ -10,16 +10,12 @@ loop-four-preserved c =
     let end : 4 * (c.loop-four.four + 1) ≡ pixel + 4 = omega arith in
     elim c.if-are_four_of.branch [
       | goal.then-are_four_of w ↦
-          let same = c.are_four_of.ensures in
-          let alike = w.if-are_four_of.true in
           rw (w.indices-is, w.last-is, w.index-is, end) (record {
             size = w.fill_four_with.ensures.size;
             each = λ entries tells. w.fill_four_with.ensures.indices entries (λ k l.
-                let from : pixel ≤ pixel + k = omega arith in
-                let to : pixel + k < pixel + 4 = omega arith in
+                let same = c.are_four_of.ensures w.if-are_four_of.true (pixel + k) in
                 rw (get_or-replicate 4 k c.loop-four.index 0 l)
-                (index_from_word _ _ _ _ _ (λ i. omega (arith, c.type_inv.pixels i))
-                (same.code alike (pixel + k) from to) (same.alpha alike (pixel + k) from to)
+                (index_from_word _ _ _ _ _ (same (omega arith) (omega arith))
                 (h.last entries tells))) (h.each entries tells);
             last = h.last;
           })

@@ -1,11 +1,11 @@
-use Rattle.std.proofs.Common.{◌≡◌, ◌<◌, ◌≤◌, [], ◌∷◌, get_or, length, ap, ⊎_elim, ◌∙◌, arith}
-use Rattle.std.proofs.lemmas.Bool.{cases_lt}
-use Rattle.std.proofs.lemmas.List.{get_or_append_left, get_or_at, get_or_default, length_push}
+use Rattle.std.proofs.Common.{◌≡◌, ◌<◌, [], get_or, length, ap, ◌∙◌, arith}
+use Rattle.std.proofs.lemmas.List.{get_or_default, length_push}
 use Rattle.std.proofs.lemmas.List.Elements.{All-push}
 use Rattle.sixel_palette.specs.declared.palette.color_sums.ColorSums.{ColorSums}
 use Rattle.sixel_palette.specs.ColorSums.{mean_or}
 use Rattle.sixel_palette.specs.Refined.{IsRegisterColor}
 use Rattle.sixel_palette.specs.inside.PaletteSums.{total}
+use Rattle.sixel_palette.proofs.PaletteLists.{each_push}
 use Rattle.sixel_palette.proofs.PaletteSums.{mean_or-same}
 use Rattle.sixel_palette.proofs.palette.lloyd.means_of.Goals as goal
 
@@ -22,18 +22,13 @@ loop-position-preserved c =
     rw c.in_ok-push.ensures.items (record {
       shown = All-push IsRegisterColor means mean h.shown c.mean_or.ensures.shown;
       size = omega (arith, length_push means mean, h.size);
-      means = λ k d l.
-          ⊎_elim (λ (less : k < position).
-          get_or_append_left means (mean ∷ []) [] k (omega (arith, less, h.size))
-          ∙ h.means k d less)
-          (λ (more : position ≤ k).
-          let e : position ≡ k = omega arith in
-          get_or_at means mean [] [] k (omega (arith, e, h.size))
-          ∙ rw (← e)
+      means = λ k d.
+          each_push
+          (λ i x. x ≡ mean_or (total (get_or sums i d)) (get_or colors i [])) means
+          mean [] position h.size (λ i. h.means i d)
           (c.mean_or.ensures.mean
           ∙ ap (λ (s : ColorSums). mean_or (total s) (get_or colors position []))
-          (get_or_default sums position c.index-sums-position.result d inside)))
-          (cases_lt k position);
+          (get_or_default sums position c.index-sums-position.result d inside)) k;
     })
 
 pub returns-clause-means : goal.returns-clause-means

@@ -1,5 +1,4 @@
-use Rattle.std.proofs.Common.{[], take, get_or}
-use Rattle.std.proofs.Common.{arith}
+use Rattle.std.proofs.Common.{[], take, get_or, arith}
 use Rattle.std.proofs.lemmas.List.{get_or-set_other, get_or-set_same, length-set}
 use Rattle.std.proofs.lemmas.List.{take_more}
 use Rattle.sixel_palette.specs.inside.PaletteCodes.{color_of}

@@ -42,9 +42,7 @@ loop-position-preserved c =
     let more : c.from-end.result ≡ 0 = rw f.0 at c.from-end.ensures in
     let to : end + c.from-end.result ≡ end = omega (arith, more) in
     rw to (record {
-      pushed =
-          rw (next, take-set-le end list end e (omega arith))
-          (pushed_skipped _ _ _ _ _ _ _ f.1 (this_key c) h.pushed);
+      pushed = grind (arith, nat_tests, take-set-le, pushed_skipped, this_key, h.pushed);
       size = omega (arith, h.size, length-set list end e);
       end = omega (arith, h.end);
       keys = later c;

@@ -1,8 +1,6 @@
-use Rattle.std.proofs.Common.{◌≡◌, ℕ, ◌<◌, ◌≤◌, get_or}
+use Rattle.std.proofs.Common.{get_or}
+use Rattle.sixel_palette.proofs.PaletteRelaxation.{IsGreatestOf}
 use Rattle.sixel_palette.proofs.palette.relaxation.greatest_of_eight.Given as goal
 
 abbrev pub invariant-loop-lane : goal.invariant-loop-lane
-invariant-loop-lane l = record {
-  upper : (j : ℕ) → j < l.lane → get_or l.numbers j 0 ≤ l.greatest;
-  reached : (j : ℕ) × (j < 8) × (get_or l.numbers j 0 ≡ l.greatest);
-}
+invariant-loop-lane l = IsGreatestOf (λ j. get_or l.numbers j 0) 0 l.lane l.greatest

@@ -24,8 +24,7 @@ returns-clause-eight c = length-chosen _ _ _ (length-smaller _ _ (far c) (was c)
 
 pub returns-clause-squares : goal.returns-clause-squares
 returns-clause-squares c = λ k apart.
-    stored_outside c.args.squares.now _ c.args.at k
-    (length-chosen _ _ _ (length-smaller _ _ (far c) (was c)) (far c) (was c)) apart
+    stored_outside c.args.squares.now _ c.args.at k (returns-clause-eight c) apart
 
 pub returns-clause-indices : goal.returns-clause-indices
 returns-clause-indices c = λ k apart.
@@ -38,8 +37,7 @@ returns-clause-indices c = λ k apart.
 pub returns-clause-lanes : goal.returns-clause-lanes
 returns-clause-lanes c = λ j l.
     sym (stored_at c.args.squares.now _ c.args.at j
-    (length-chosen _ _ _ (length-smaller _ _ (far c) (was c)) (far c) (was c))
-    (omega (arith, c.requires.within, c.requires.squares)) l)
+    (returns-clause-eight c) (omega (arith, c.requires.within, c.requires.squares)) l)
 
 own : (c : goal.After-row_known-1) → length (take 8 (drop c.args.at c.args.indices.now)) ≡ 8
 own c =
@@ -60,7 +58,6 @@ returns-clause-near c = λ entries k at from to near.
     let small : j < 8 = omega (arith, from, to) in
     let place : c.args.at + j ≡ k = omega (arith, from) in
     let zeros = length-replicate {A = ℕ} 8 0 in
-    let least = length-chosen _ ds ss (length-smaller ds ss (far c) (was c)) (far c) (was c) in
     let ours =
     length-chosen _ _ ys (length-narrow _ _ ds ss (replicate 8 0) (far c) (was c) zeros)
     (length-replicate 8 index) (own c) in
@@ -70,7 +67,7 @@ returns-clause-near c = λ entries k at from to near.
     let old_index = rw place at (get_or-chunk c.args.at 8 indices j 0 small) in
     near_stored entries color (color_of (get_or codes k 0)) k (get_or ds j 0) (get_or ss j 0)
     (get_or ys j 0) index _ _
-    (stored_here squares _ c.args.at k least
+    (stored_here squares _ c.args.at k (returns-clause-eight c)
     (omega (arith, c.requires.within, c.requires.squares)) from to
     ∙ least_at ds ss j (far c) (was c) small)
     (stored_here indices _ c.args.at k ours

@@ -12,19 +12,20 @@ loop-index-preserved c =
     let colors = c.args.colors.now in
     let index = c.loop-index.index in
     let old = c.loop-index.traversal in
-    let new = c.relax_cells.new in
+    let new = c.relax_buckets.new in
     let h = c.loop-index.invariant in
     let squares = replaced new.squares old.squares.items old.squares.len (omega arith) in
     let indices = replaced new.indices old.indices.items old.indices.len (omega arith) in
-    let cells = replaced new.cells old.cells.items old.cells.len (omega arith) in
+    let buckets = replaced new.buckets old.buckets.items old.buckets.len (omega arith) in
     record {
       whole = record {
         squares = rw squares (omega arith);
         indices = rw indices (omega arith);
-        cells = rw (squares, cells) c.relax_cells.ensures.cells;
+        buckets = rw (squares, buckets) c.relax_buckets.ensures.buckets;
       };
       relaxed =
           rw (squares, indices, take_more colors index [] (omega arith))
-          (c.relax_cells.ensures.near (take index colors) (omega (arith, length-take index colors))
+          (c.relax_buckets.ensures.near (take index colors)
+          (omega (arith, length-take index colors))
           (rw (c.deref_mut.ensures.value, c.deref_mut-in-loop-index.ensures.value) h.relaxed));
     }

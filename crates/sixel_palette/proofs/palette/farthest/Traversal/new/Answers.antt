@@ -10,7 +10,7 @@ returns-clause-whole c =
     record {
       squares = omega (arith, squares.ensures.len);
       indices = omega (arith, c.in_ok-indices.ensures.len);
-      cells = c.in_ok-cells.ensures squares.squares.items far;
+      buckets = c.in_ok-buckets.ensures squares.squares.items far;
     }
 
 pub returns-clause-relaxed : goal.returns-clause-relaxed

@@ -13,6 +13,6 @@ loop-entry-preserved c = λ c' box.
     rw (take_more entries i none (omega arith)) (omega (
       arith,
       least_key-push (take i entries) (get_or entries i none) c',
-      c.reach.ensures.greatest c' box,
+      c.greatest_gap.ensures.greatest c' box,
       c.loop-entry.invariant c' box,
     ))

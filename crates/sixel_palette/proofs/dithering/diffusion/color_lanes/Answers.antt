@@ -1,0 +1,7 @@
+use Rattle.std.proofs.Common.{arith}
+use Rattle.sixel_palette.proofs.DiffusionLanes.{lanes-cast, lanes-chunk}
+use Rattle.std.proofs.lemmas.Bool.Decides.{nat_tests}
+use Rattle.sixel_palette.proofs.dithering.diffusion.color_lanes.Goals as goal
+
+pub returns : goal.returns
+returns c = grind (arith, nat_tests, lanes-cast, lanes-chunk, c.requires, c.type_inv.pixels)

@@ -1,0 +1,9 @@
+use Rattle.std.proofs.Common.{arith}
+use Rattle.sixel_palette.proofs.GraySource.{gray-length}
+use Rattle.sixel_palette.proofs.dithering.dithered_indices.Goals as goal
+
+pub searched_indices-requires-2-clause-image : goal.searched_indices-requires-2-clause-image
+searched_indices-requires-2-clause-image c =
+    let value = c.deref.ensures.value in
+    let image = c.requires.image in
+    grind (arith, c.in_ok-grays.ensures, gray-length, image.whole, image.some, image.strength)

@@ -1,0 +1,21 @@
+use Rattle.std.proofs.Common.{◌≡◌, length, arith}
+use Rattle.sixel_palette.specs.Dithering.{mapped_of, target_of}
+use Rattle.sixel_palette.specs.Gray.{source_pixels}
+use Rattle.sixel_palette.proofs.DitheredIndices.{AreMapped-none}
+use Rattle.sixel_palette.proofs.GraySource.{AreRowsOf-source, IsSource-pixels}
+use Rattle.std.proofs.lemmas.Bool.Decides.{nat_tests}
+use Rattle.sixel_palette.proofs.dithering.indices_from.Goals as goal
+
+pub returns-then-is_empty : goal.returns-then-is_empty
+returns-then-is_empty c =
+    let image = c.args.image.now in
+    let pixels = image.pixels.now in
+    let colors = image.colors.now in
+    let s = source_pixels c.args.mapping.dither colors pixels in
+    let is = IsSource-pixels c.args.mapping.dither colors pixels in
+    let m = mapped_of c.args.mapping image.width s colors in
+    let none : length colors ≡ 0 = grind (arith, nat_tests) in
+    AreMapped-none m (target_of c.args.mapping.dither m c.args.nearest.items)
+    c.args.nearest.items
+    (grind (arith, nat_tests, AreRowsOf-source))
+    none (grind (arith, nat_tests))

@@ -1,0 +1,99 @@
+use Rattle.std.proofs.Common.{◌≡◌, ◌+◌, ◌*◌, [], get_or, ap, ◌∙◌, arith}
+use Rattle.std.proofs.lemmas.Nat.{mod-mul-add}
+use Rattle.sixel_palette.specs.declared.dithering.diffusion.Neighbors.{Neighbors}
+use Rattle.sixel_palette.specs.Dithering.{error_above, errors_of}
+use Rattle.sixel_palette.specs.inside.Diffusion.{channels}
+use Rattle.sixel_palette.specs.inside.Mapped.{mapped_value}
+use Rattle.sixel_palette.proofs.DiffusionVisit.{AreVisited-more, IsLine-more, errors_of-more}
+use Rattle.sixel_palette.proofs.DiffusionVisit.{AreReceived-neighbors, before-more, behind-more}
+use Rattle.sixel_palette.proofs.DiffusionVisit.{beyond-line}
+use Rattle.sixel_palette.proofs.Serpentine.{serpentine-step, column-next_row}
+use Rattle.std.proofs.lemmas.Bool.Decides.{nat_tests}
+use Rattle.sixel_palette.proofs.dithering.mapped.MappedImage.diffuse_row.Goals as goal
+
+pub loop-step-init : goal.loop-step-init
+loop-step-init c = grind (arith, nat_tests)
+
+pub loop-step-preserved : goal.loop-step-preserved
+loop-step-preserved c =
+    let m = mapped_value c.args.self.now in
+    let row = c.args.row in
+    let step = c.loop-step.step in
+    let n = row * m.width + step in
+    let old = c.loop-step.indices in
+    let new = c.visit.new.indices in
+    let line = c.loop-step.line in
+    let error = c.visit.new.error in
+    let errors = errors_of m old n in
+    let h = c.loop-step.invariant in
+    let inside = c.loop-step-test.true in
+    let column = c.column_of_step-column.result in
+    let same = c.column_of_step-column.ensures.value in
+    let above : channels (get_or line column []) ≡ error_above m errors step =
+    ap (λ k. channels (get_or line k [])) same ∙ grind (arith, nat_tests) in
+    let beyond =
+    beyond-line m errors line row step c.error_beyond.result inside h.line c.error_beyond.ensures in
+    let neighbors : Neighbors = record {
+      before = c.loop-step.before;
+      behind = c.loop-step.behind;
+      above = get_or line column [];
+      beyond = c.error_beyond.result;
+    } in
+    let visit =
+    c.in_ok-visit.ensures.visit errors
+    (AreReceived-neighbors m errors n step neighbors c.received.result
+    (mod-mul-add row m.width step inside) h.before h.behind above beyond
+    c.received.ensures.value) in
+    let wide = c.requires.image.whole.wide in
+    let next : n + 1 ≡ row * m.width + (step + 1) = omega arith in
+    let more = rw next at (errors_of-more m old new error n wide visit) in
+    record {
+      size = c.in_ok-visit.ensures.indices;
+      entries = c.in_ok-visit.ensures.entries;
+      visited = rw next at (AreVisited-more m old new error n wide h.visited visit);
+      line = rw (more, same) (IsLine-more m errors line row step error inside visit.lanes h.line);
+      before = rw more (before-more m errors step (channels error));
+      behind = rw more (above ∙ behind-more m errors step (channels error));
+      lanes_before = visit.lanes;
+      lanes_behind = h.line.lanes column c.column_of_step-column.ensures.within;
+      prepared = c.in_ok-visit.ensures.prepared;
+    }
+
+pub returns : goal.returns
+returns c =
+    grind (
+      arith,
+      nat_tests,
+      c.loop-step.invariant,
+      c.loop-step.step,
+      c.args.self.now.width,
+      column-next_row,
+    )
+
+pub error_beyond-requires-clause-image : goal.error_beyond-requires-clause-image
+error_beyond-requires-clause-image c = c.requires.image
+
+pub error_beyond-requires-clause-line : goal.error_beyond-requires-clause-line
+error_beyond-requires-clause-line c = c.loop-step.invariant.line.whole
+
+pub received-requires : goal.received-requires
+received-requires c =
+    grind (
+      arith,
+      nat_tests,
+      c.loop-step.invariant.lanes_before,
+      c.loop-step.invariant.lanes_behind,
+    )
+
+pub visit-requires : goal.visit-requires
+visit-requires c =
+    let h = c.loop-step.invariant in
+    record {
+      image = c.requires.image;
+      indices = h.size;
+      entries = h.entries;
+      place = grind (arith, c.loop-step-test.true, c.requires.row, serpentine-step);
+      four = c.received.ensures.four;
+      small = c.received.ensures.small;
+      prepared = h.prepared;
+    }

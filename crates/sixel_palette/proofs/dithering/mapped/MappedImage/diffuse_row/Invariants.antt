@@ -1,0 +1,26 @@
+use Rattle.std.proofs.Common.{◌≡◌, ◌+◌, ◌*◌, length}
+use Rattle.std.specs.Prelude.{◌/◌}
+use Rattle.sixel_palette.specs.Dithering.{error_before, error_behind, errors_of}
+use Rattle.sixel_palette.specs.inside.Diffusion.{AreErrors, ArePrepared, AreVisited, IsLine}
+use Rattle.sixel_palette.specs.inside.Diffusion.{channels}
+use Rattle.sixel_palette.specs.inside.Mapped.{AreEntries, mapped_value}
+use Rattle.sixel_palette.proofs.dithering.mapped.MappedImage.diffuse_row.Given as goal
+
+abbrev pub invariant-loop-step : goal.invariant-loop-step
+invariant-loop-step l = record {
+  size : length l.indices ≡ length l.self.pixels.now / 4;
+  entries : AreEntries l.self.colors.now l.indices;
+  visited : AreVisited (mapped_value l.self) l.indices (l.row * l.self.width + l.step);
+  line : IsLine (mapped_value l.self)
+      (errors_of (mapped_value l.self) l.indices (l.row * l.self.width + l.step)) l.row l.step
+      l.line;
+  before : channels l.before
+      ≡ error_before (mapped_value l.self)
+      (errors_of (mapped_value l.self) l.indices (l.row * l.self.width + l.step)) l.step;
+  behind : channels l.behind
+      ≡ error_behind (mapped_value l.self)
+      (errors_of (mapped_value l.self) l.indices (l.row * l.self.width + l.step)) l.step;
+  lanes_before : AreErrors l.before;
+  lanes_behind : AreErrors l.behind;
+  prepared : ArePrepared l.self l.entries;
+}

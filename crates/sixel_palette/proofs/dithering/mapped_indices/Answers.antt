@@ -1,0 +1,35 @@
+use Rattle.std.proofs.Common.{◌≡◌, ap, arith, subst, sym, ◌∙◌}
+use Rattle.sixel_palette.specs.declared.dither.Dither.{Dither}
+use Rattle.sixel_palette.specs.declared.mapping.Tolerance.TheVariants.{Auto}
+use Rattle.sixel_palette.specs.Dithering.{AreMapped, mapped_of, target_of, tolerance_of}
+use Rattle.sixel_palette.proofs.DiffusionLaws.{AreMapped-diffused}
+use Rattle.sixel_palette.proofs.DitheredIndices.{AreRows}
+use Rattle.sixel_palette.proofs.PaletteError.{error-none, held-none}
+use Rattle.std.proofs.lemmas.Bool.Decides.{nat_tests}
+use Rattle.sixel_palette.proofs.dithering.mapped_indices.Goals as goal
+
+pub returns-in-Off : goal.returns-in-Off
+returns-in-Off c = grind (arith, nat_tests)
+
+pub returns-in-Ordered : goal.returns-in-Ordered
+returns-in-Ordered c = grind (arith, nat_tests)
+
+pub returns-in-Diffusion : goal.returns-in-Diffusion
+returns-in-Diffusion c =
+    let image = c.args.image.now in
+    let pixels = image.pixels.now in
+    let colors = image.colors.now in
+    let auto : c.args.mapping.tolerance ≡ Auto = grind arith in
+    let exact = sym c.tolerance_of-tolerance.ensures ∙ c.if-tolerance-eq0.true in
+    let none = ap (λ t. tolerance_of t colors pixels) (sym auto) ∙ exact in
+    let m = mapped_of c.args.mapping image.width pixels colors in
+    let three = c.channel_bytes.ensures.three in
+    let rows : AreRows m = grind (arith, nat_tests) in
+    subst
+    (λ (d : Dither). AreMapped m (target_of d m c.args.nearest.items) c.args.nearest.items)
+    (sym c.in-Diffusion.is) (AreMapped-diffused m c.args.nearest.items rows
+    (record { three = three; bytes = c.channel_bytes.ensures.bytes })
+    (held-none colors pixels three (error-none colors pixels none)) exact c.requires.nearest)
+
+pub returns-in-Diffusion-2 : goal.returns-in-Diffusion-2
+returns-in-Diffusion-2 c = grind (arith, nat_tests)

@@ -1,0 +1,10 @@
+use Rattle.std.proofs.Common.{◌≡◌, ◌*◌, ◌≤◌}
+use Rattle.sixel_palette.specs.Palette.{nearest, no_entry}
+use Rattle.sixel_palette.specs.Refined.{opaque_number, sum_to}
+use Rattle.sixel_palette.proofs.dithering.palette_error.summed_error.Given as goal
+
+abbrev pub invariant-loop-pixel : goal.invariant-loop-pixel
+invariant-loop-pixel l = record {
+  sum : l.sum ≡ sum_to (opaque_number (nearest l.image.colors.now) l.image.pixels.now) l.pixel;
+  small : l.sum ≤ no_entry * l.pixel;
+}

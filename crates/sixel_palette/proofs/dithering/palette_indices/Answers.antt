@@ -1,0 +1,78 @@
+use Rattle.std.proofs.Common.{◌≡◌, ◌<◌, ℕ, length, ap, subst, arith, refl}
+use Rattle.std.specs.Prelude.{◌/◌, All}
+use Rattle.std.proofs.lemmas.Bool.Decides.{nat_tests}
+use Rattle.std.proofs.lemmas.List.{get_or_default}
+use Rattle.sixel_palette.proofs.PaletteColors.{IsColor}
+use Rattle.sixel_palette.specs.Palette.{IsOpaque, color_at}
+use Rattle.sixel_palette.specs.declared.dither.Dither.{Dither}
+use Rattle.sixel_palette.specs.Dithering.{AreMapped, Mapped, mapped_of, target_of, tolerance_of}
+use Rattle.sixel_palette.specs.Gray.{source_pixels}
+use Rattle.sixel_palette.proofs.DiffusionLaws.{AreHeld, AreIndices-exact}
+use Rattle.sixel_palette.proofs.DitheredIndices.{AreIndices-mapped, AreRows}
+use Rattle.sixel_palette.proofs.GraySource.{AreIndices-source, AreRowsOf-source, IsSource-pixels}
+use Rattle.sixel_palette.proofs.GraySource.{bytes-source, dithered-count, chosen-own}
+use Rattle.sixel_palette.proofs.PaletteError.{error-bound, tolerance-held}
+use Rattle.sixel_palette.proofs.dithering.palette_indices.Goals as goal
+
+-- the rows of an image without a fault, mapped in any way to the colors
+rows-of : (c : goal.In_ok-dithered_indices) (m : Mapped) → m.width ≡ c.args.width
+    → m.pixels ≡ c.args.pixels.now → m.colors ≡ c.args.colors.now → AreRows m
+rows-of c m wide pixels colors = grind (arith, nat_tests)
+
+pub returns-clause-count : goal.returns-clause-count
+returns-clause-count c =
+    dithered-count c.args.mapping c.args.width c.args.pixels.now c.args.colors.now
+    c.in_ok-dithered_indices.field-0.items (grind (arith, nat_tests))
+
+pub returns-clause-nearest : goal.returns-clause-nearest
+returns-clause-nearest c = λ off exact.
+    let pixels = c.args.pixels.now in
+    let m = mapped_of c.args.mapping c.args.width pixels c.args.colors.now in
+    let indices = c.in_ok-dithered_indices.field-0.items in
+    AreIndices-mapped m (target_of c.args.mapping.dither m indices) indices
+    (rows-of c m refl refl refl) (ap (λ t. tolerance_of t c.args.colors.now pixels) exact)
+    (grind (arith, nat_tests))
+    (λ n l light. ap (λ d. target_of d m indices n) off)
+
+pub returns-clause-exact : goal.returns-clause-exact
+returns-clause-exact c = λ strength is none held.
+    let pixels = c.args.pixels.now in
+    let colors = c.args.colors.now in
+    let dither = c.args.mapping.dither in
+    let s = source_pixels dither colors pixels in
+    let of = IsSource-pixels dither colors pixels in
+    let m = mapped_of c.args.mapping c.args.width s colors in
+    let own = mapped_of c.args.mapping c.args.width pixels colors in
+    let indices = c.in_ok-dithered_indices.field-0.items in
+    let rows = rows-of c own refl refl refl in
+    let same : (pixel : ℕ) → pixel < length pixels / 4 → IsOpaque pixels pixel
+    → color_at s pixel ≡ color_at pixels pixel =
+    λ pixel l light. grind (arith, nat_tests, chosen-own) in
+    let kept : AreHeld m = λ pixel l light. grind (arith, nat_tests) in
+    let exact : tolerance_of c.args.mapping.tolerance colors s ≡ 0 =
+    grind (arith, nat_tests, colors, s, tolerance-held, kept) in
+    let three : All (λ p. length p ≡ 3) colors =
+    λ k e l. grind (arith, nat_tests, get_or_default, colors) in
+    AreIndices-source pixels s colors indices of same
+    (AreIndices-exact m indices
+    (grind (arith, nat_tests, c.args.width, AreRowsOf-source))
+    (grind (arith, nat_tests, c.type_inv.pixels, bytes-source))
+    kept exact (subst (λ (d : Dither). AreMapped m (target_of d m indices) indices) is (grind (
+      arith,
+      nat_tests,
+    ))))
+
+pub returns-clause-summed : goal.returns-clause-summed
+returns-clause-summed c = λ off.
+    let pixels = c.args.pixels.now in
+    let colors = c.args.colors.now in
+    let m = mapped_of c.args.mapping c.args.width pixels colors in
+    let indices = c.in_ok-dithered_indices.field-0.items in
+    let all : All IsColor colors =
+    λ k e l. grind (arith, nat_tests, get_or_default, colors, c.color_bytes.ensures) in
+    error-bound m indices (rows-of c m refl refl refl).rows
+    (λ j. omega (arith, c.type_inv.pixels j)) all
+    (subst (λ (d : Dither). AreMapped m (target_of d m indices) indices) off (grind (
+      arith,
+      nat_tests,
+    )))

@@ -1,0 +1,29 @@
+use Rattle.std.proofs.Common.{◌≡◌, get_or, inl, inr, sym, arith}
+use Rattle.std.proofs.lemmas.Bool.{cases_lt}
+use Rattle.sixel_palette.proofs.SixteenEntries.{IsIndex-keys}
+use Rattle.sixel_palette.proofs.dithering.sixteen_entries.SixteenEntries.index_of.Goals as goal
+
+pub loop-lane-preserved : goal.loop-lane-preserved
+loop-lane-preserved c =
+    let lane = c.loop-lane.lane in
+    let h = c.loop-lane.invariant in
+    rw c.min-least.ensures (record {
+      lower = λ j l. elim (cases_lt j lane) [
+        | inl below ↦ omega (arith, h.lower j below)
+        | inr above ↦ let e : j ≡ lane = omega (arith, above, l) in rw e (omega arith)
+      ];
+      reached = elim (cases_lt (get_or c.keys-keys.result lane 0) c.loop-lane.least) [
+        | inl below ↦ (lane, omega arith, omega (arith, below))
+        | inr above ↦ (h.reached.0, h.reached.1, omega (arith, h.reached.2, above))
+      ];
+    })
+
+pub returns-clause-index : goal.returns-clause-index
+returns-clause-index c = λ m all same are here there.
+    let (i, l, reached) = c.loop-lane.invariant.reached in
+    IsIndex-keys m c.args.self.now c.args.target c.keys-keys.result c.args.before c.args.above i
+    c.loop-lane.least all are here there c.requires.small
+    (λ k lk.
+    rw (same, sym c.lane_of.ensures, sym c.lane_of-2.ensures)
+    (c.keys-keys.ensures m.colors k are lk)) l reached
+    (λ k lk. c.loop-lane.invariant.lower k (omega (arith, lk, c.loop-lane-test.false)))

@@ -1,0 +1,11 @@
+use Rattle.std.proofs.Common.{◌≡◌, ℕ, ◌<◌, length, get_or}
+use Rattle.sixel_palette.specs.declared.palette.buckets.Bucket.{Bucket}
+use Rattle.sixel_palette.specs.inside.PaletteBuckets.{IsBucket}
+use Rattle.sixel_palette.proofs.palette.buckets.measured_buckets.Given as goal
+
+abbrev pub invariant-loop-position : goal.invariant-loop-position
+invariant-loop-position l = record {
+  size : length l.buckets.items ≡ l.position;
+  each : (j : ℕ) (d : Bucket) → j < l.position
+      → IsBucket l.codes l.squares j (get_or l.buckets.items j d);
+}

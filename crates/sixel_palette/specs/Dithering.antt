@@ -1,0 +1,326 @@
+-- Palette indices of an image's pixels in a given palette. An opaque pixel has the entry that is
+-- nearest to its target, a color that the kind of dithering determines, or it keeps the entry of a
+-- neighbor that is hardly farther. Error diffusion is that of R. W. Floyd and L. Steinberg, "An
+-- adaptive algorithm for spatial greyscale", Proceedings of the Society for Information Display 17
+-- (1976), 75-77, in serpentine order and in whole sixteenths. The pattern of ordered dithering is
+-- that of Ø. Kolås, "a dither" (2013).
+use Rattle.std.specs.Prelude.{◌≡◌, ℕ, zero, suc, ◌+◌, ◌-◌, ◌*◌, ◌/◌, ◌%◌, ◌<◌, ◌≤◌, ◌==◌, nat_le}
+use Rattle.std.specs.Prelude.{nat_lt, min, max, if◌then◌else◌, List, [], ◌∷◌, length, slice_index}
+use Rattle.std.specs.Prelude.{slice_index_or, Option, Some, None}
+use Rattle.std.specs.Option.{option_or}
+use Rattle.sixel_base.specs.CallFault.{CallFault, color_count_fault, size_call_fault}
+use Rattle.sixel_base.specs.declared.error.SixelError.{SixelError}
+use Rattle.sixel_base.specs.declared.error.SixelError.TheVariants.{InvalidDimensions}
+use Rattle.sixel_base.specs.declared.error.SixelError.TheVariants.{BufferSizeMismatch}
+use Rattle.sixel_palette.specs.Palette.{color_at, distance, nearest, IsOpaque, IsNearest}
+use Rattle.sixel_palette.specs.Refined.{opaque_pixels, sum_to, summed_error}
+use Rattle.sixel_palette.specs.Gray.{source_pixels}
+use Rattle.sixel_palette.specs.declared.dither.Amplitude.{Amplitude}
+use Rattle.sixel_palette.specs.declared.dither.Amplitude.TheVariants.{Auto as AutoAmplitude, Levels}
+use Rattle.sixel_palette.specs.declared.dither.Dither.{Dither}
+use Rattle.sixel_palette.specs.declared.dither.Dither.TheVariants.{Off, Diffusion, Ordered}
+use Rattle.sixel_palette.specs.declared.mapping.Mapping.{Mapping}
+use Rattle.sixel_palette.specs.declared.mapping.Tolerance.{Tolerance}
+use Rattle.sixel_palette.specs.declared.mapping.Tolerance.TheVariants.{Auto, Squared}
+
+-- ---- errors of a call
+
+-- the number of bytes of the whole rows among these bytes
+abbrev pub whole_rows : ℕ → ℕ → ℕ
+whole_rows bytes width = 4 * (bytes / 4 / width * width)
+
+-- rows without a pixel, or bytes that are not whole rows
+abbrev pub rows_fault : ℕ → ℕ → Option SixelError
+rows_fault bytes width =
+    if width == 0 then Some (InvalidDimensions 0 0)
+    else if bytes == whole_rows bytes width then None
+    else Some (BufferSizeMismatch (whole_rows bytes width) bytes)
+
+-- what is wrong with this number of bytes in rows of this width, and this number of colors
+abbrev pub indices_fault : ℕ → ℕ → ℕ → Option CallFault
+indices_fault bytes width colors =
+    option_or (size_call_fault (rows_fault bytes width)) (color_count_fault colors)
+
+-- ---- the order of visits
+
+-- an image that is mapped to a palette: `strength` eighths of each error are passed on, the pattern
+-- moves a channel by the amplitude, and an entry may be kept that is farther by the tolerance
+pub record Mapped : Type 0 where
+  pub width : ℕ
+  pub pixels : List ℕ
+  pub colors : List (List ℕ)
+  pub strength : ℕ
+  pub amplitude : ℕ
+  pub tolerance : ℕ
+
+-- the column of a step of a row: even rows go from the left, odd rows from the right
+abbrev pub column_of_step : ℕ → ℕ → ℕ → ℕ
+column_of_step width row step = if row % 2 == 0 then step else width - 1 - step
+
+-- The order of visits, row by row from the top: the pixel of a visit, and as well the visit of a
+-- pixel.
+abbrev pub serpentine : ℕ → ℕ → ℕ
+serpentine width n = n / width * width + column_of_step width (n / width) (n % width)
+
+-- ---- the entry of a pixel
+
+-- the entry of a pixel: its index, if it is opaque
+abbrev pub entry_of : List ℕ → List ℕ → ℕ → Option ℕ
+entry_of pixels indices pixel =
+    if nat_le 128 (slice_index pixels (4 * pixel + 3)) then Some (slice_index indices pixel)
+    else None
+
+-- the entry of the pixel that is visited before this visit's, in the same row
+abbrev pub entry_before : Mapped → List ℕ → ℕ → Option ℕ
+entry_before m indices n =
+    if n % m.width == 0 then None else entry_of m.pixels indices (serpentine m.width (n - 1))
+
+-- the entry of the pixel above, in the same band of six rows
+abbrev pub entry_above : Mapped → List ℕ → ℕ → Option ℕ
+entry_above m indices n =
+    if n / m.width % 6 == 0 then None
+    else entry_of m.pixels indices (serpentine m.width n - m.width)
+
+-- the squared distance of an entry to a color
+abbrev pub entry_distance : List (List ℕ) → List ℕ → ℕ → ℕ
+entry_distance colors c entry = distance (slice_index_or colors entry []) c
+
+-- of two entries the one nearer to a color, the first one on ties
+abbrev pub nearer_entry : List (List ℕ) → List ℕ → Option ℕ → Option ℕ → Option ℕ
+nearer_entry colors c None second = second
+nearer_entry colors c (Some first) None = Some first
+nearer_entry colors c (Some first) (Some second) =
+    if nat_lt (entry_distance colors c second) (entry_distance colors c first) then Some second
+    else Some first
+
+-- the entry of a neighbor that the pixel of a visit may keep
+abbrev pub neighbor_of : Mapped → List ℕ → List ℕ → ℕ → Option ℕ
+neighbor_of m target indices n =
+    nearer_entry m.colors target (entry_before m indices n) (entry_above m indices n)
+
+-- The index is that of the neighbor's entry, if its squared distance to the target is below that of
+-- the nearest entry plus the tolerance. Otherwise it is that of the nearest entry, the first of
+-- equals.
+pub record IsIndex (m : Mapped) (target : List ℕ) (neighbor : Option ℕ) (index : ℕ)
+    : Type 0 where
+  pub entry : index < length m.colors
+  pub kept : (entry : ℕ) → neighbor ≡ Some entry
+      → entry_distance m.colors target entry < nearest m.colors target + m.tolerance
+      → index ≡ entry
+  pub nearest : ((entry : ℕ) → neighbor ≡ Some entry
+      → nearest m.colors target + m.tolerance ≤ entry_distance m.colors target entry)
+      → IsNearest m.colors target index
+
+-- the pixel of a visit has the index for its target, and 0 if it is transparent
+pub record HasTarget (m : Mapped) (target : List ℕ) (indices : List ℕ) (n : ℕ) : Type 0 where
+  pub opaque : IsOpaque m.pixels (serpentine m.width n)
+      → IsIndex m target (neighbor_of m target indices n)
+      (slice_index indices (serpentine m.width n))
+  pub hidden : slice_index m.pixels (4 * serpentine m.width n + 3) < 128
+      → slice_index indices (serpentine m.width n) ≡ 0
+
+-- so it is for each visit
+pub record AreMapped (m : Mapped) (target : ℕ → List ℕ) (indices : List ℕ) : Type 0 where
+  pub one_each : length indices ≡ length m.pixels / 4
+  pub each : (n : ℕ) → n < length m.pixels / 4 → HasTarget m (target n) indices n
+
+-- ---- ordered dithering
+
+-- a number from 0 to 255 for each place and channel
+abbrev pub threshold : ℕ → ℕ → ℕ → ℕ
+threshold column row channel = (column + 237 * row + 112 * channel) * 119 % 256
+
+-- A channel moved by the threshold's part of the amplitude, from half of it down to half of it up:
+-- by (2 * threshold - 255) * amplitude / 512, rounded down, within a byte. The 65536 and the 128
+-- keep the numbers natural.
+abbrev pub moved_channel : ℕ → ℕ → ℕ → ℕ
+moved_channel amplitude threshold value =
+    min 255 (value + (2 * threshold * amplitude + (65536 - 255 * amplitude)) / 512 - 128)
+
+-- a pixel's channel, moved
+abbrev pub ordered_channel : Mapped → ℕ → ℕ → ℕ
+ordered_channel m pixel channel =
+    moved_channel m.amplitude (threshold (pixel % m.width) (pixel / m.width) channel)
+    (slice_index m.pixels (4 * pixel + channel))
+
+-- a pixel's target in ordered dithering
+abbrev pub ordered_color : Mapped → ℕ → List ℕ
+ordered_color m pixel =
+    ordered_channel m pixel 0 ∷ ordered_channel m pixel 1 ∷ ordered_channel m pixel 2 ∷ []
+
+-- ---- error diffusion
+
+-- An error is a color's difference to its entry in each channel, in sixteenths. It is stored as its
+-- distance from the lowest one, so that it is natural. This is no error.
+abbrev pub no_error : ℕ → List ℕ
+no_error strength = 512 * strength ∷ 512 * strength ∷ 512 * strength ∷ []
+
+-- The shares of an error: 7/16 for the next pixel of the row; in the row below 3/16 for the pixel
+-- before, 5/16 for the one below, and the rest, about 1/16, for the next one.
+abbrev pub next_share : ℕ → ℕ
+next_share error = 7 * error / 16
+
+abbrev pub before_share : ℕ → ℕ
+before_share error = 3 * error / 16
+
+abbrev pub below_share : ℕ → ℕ
+below_share error = 5 * error / 16
+
+abbrev pub rest_share : ℕ → ℕ
+rest_share error = error - next_share error - before_share error - below_share error
+
+-- the error of the visit that is `back` visits before, where there is one
+abbrev pub error_back : Mapped → List (List ℕ) → ℕ → List ℕ
+error_back m errors back = slice_index_or errors back (no_error m.strength)
+
+-- the error of the pixel before a step of its row
+abbrev pub error_before : Mapped → List (List ℕ) → ℕ → List ℕ
+error_before m errors step =
+    if step == 0 then no_error m.strength else error_back m errors 0
+
+-- The errors of the row above are one row of steps back, which went the other way: that of the
+-- pixel above the one before, of the one above, and of the one above the next.
+abbrev pub error_behind : Mapped → List (List ℕ) → ℕ → List ℕ
+error_behind m errors step =
+    if step == 0 then no_error m.strength else error_back m errors (2 * step - 1)
+
+abbrev pub error_above : Mapped → List (List ℕ) → ℕ → List ℕ
+error_above m errors step = error_back m errors (2 * step)
+
+abbrev pub error_beyond : Mapped → List (List ℕ) → ℕ → List ℕ
+error_beyond m errors step =
+    if step + 1 == m.width then no_error m.strength else error_back m errors (2 * step + 1)
+
+-- what the pixel at a step of its row receives in a channel
+abbrev pub received : Mapped → List (List ℕ) → ℕ → ℕ → ℕ
+received m errors step channel =
+    next_share (slice_index (error_before m errors step) channel)
+    + before_share (slice_index (error_behind m errors step) channel)
+    + below_share (slice_index (error_above m errors step) channel)
+    + rest_share (slice_index (error_beyond m errors step) channel)
+
+-- a channel in sixteenths with what is received, from 0 to 16 * 255
+abbrev pub with_received : ℕ → ℕ → ℕ → ℕ
+with_received strength value received = min 4080 (16 * value + received - 512 * strength)
+
+-- the channel of a visit with what its pixel receives, after the errors of earlier visits
+abbrev pub sixteenths : Mapped → List (List ℕ) → ℕ → ℕ → ℕ
+sixteenths m errors n channel =
+    with_received m.strength (slice_index m.pixels (4 * serpentine m.width n + channel))
+    (received m errors (n % m.width) channel)
+
+-- sixteenths as a channel, rounded half up
+abbrev pub rounded_sixteenths : ℕ → ℕ
+rounded_sixteenths value = (value + 8) / 16
+
+-- the target of a visit
+abbrev pub target_of_visit : Mapped → List (List ℕ) → ℕ → List ℕ
+target_of_visit m errors n =
+    rounded_sixteenths (sixteenths m errors n 0) ∷ rounded_sixteenths (sixteenths m errors n 1)
+    ∷ rounded_sixteenths (sixteenths m errors n 2) ∷ []
+
+-- what is passed on in a channel: `strength` eighths of the difference to the entry, rounded down
+abbrev pub passed_on : ℕ → ℕ → ℕ → ℕ
+passed_on strength value entry = (value + 4096 - 16 * entry) * strength / 8
+
+-- the error of a visit in a channel, if its pixel has this entry
+abbrev pub channel_error : Mapped → List (List ℕ) → ℕ → List ℕ → ℕ → ℕ
+channel_error m errors n entry channel =
+    passed_on m.strength (sixteenths m errors n channel) (slice_index entry channel)
+
+-- the error of a visit whose pixel is opaque
+abbrev pub opaque_error : Mapped → List (List ℕ) → ℕ → List ℕ → List ℕ
+opaque_error m errors n entry =
+    channel_error m errors n entry 0 ∷ channel_error m errors n entry 1
+    ∷ channel_error m errors n entry 2 ∷ []
+
+-- the error of a visit: a transparent pixel has none
+abbrev pub visit_error : Mapped → List ℕ → List (List ℕ) → ℕ → List ℕ
+visit_error m indices errors n =
+    if nat_le 128 (slice_index m.pixels (4 * serpentine m.width n + 3))
+    then opaque_error m errors n
+    (slice_index_or m.colors (slice_index indices (serpentine m.width n)) [])
+    else no_error m.strength
+
+-- the errors of the first n visits, the newest first
+unfoldable pub errors_of : Mapped → List ℕ → ℕ → List (List ℕ)
+errors_of m indices zero = []
+errors_of m indices (suc n) =
+    visit_error m indices (errors_of m indices n) n ∷ errors_of m indices n
+
+-- ---- all kinds
+
+-- a strength in eighths
+abbrev pub eighths : ℕ → ℕ
+eighths strength = max 1 (min strength 8)
+
+-- the mean squared error of a palette over the opaque pixels, rounded down
+abbrev pub mean_error : List (List ℕ) → List ℕ → ℕ
+mean_error colors pixels = summed_error colors pixels / max 1 (opaque_pixels pixels (λ _. 1))
+
+-- the squared distance of a pixel's color to the entry of its index, 0 for a transparent pixel
+abbrev pub pixel_index_error : List (List ℕ) → List ℕ → List ℕ → ℕ → ℕ
+pixel_index_error colors pixels indices pixel =
+    if nat_lt (slice_index pixels (4 * pixel + 3)) 128 then 0
+    else entry_distance colors (color_at pixels pixel) (slice_index indices pixel)
+
+-- the summed squared error of palette indices, over all pixels
+abbrev pub index_error : List (List ℕ) → List ℕ → List ℕ → ℕ
+index_error colors pixels indices =
+    sum_to (pixel_index_error colors pixels indices) (length pixels / 4)
+
+-- the tolerance for a palette
+abbrev pub tolerance_of : Tolerance → List (List ℕ) → List ℕ → ℕ
+tolerance_of (Squared tolerance) colors pixels = tolerance
+tolerance_of Auto colors pixels =
+    if summed_error colors pixels == 0 then 0 else max 12 (mean_error colors pixels)
+
+-- the square root of a number, rounded down, but at most so much
+unfoldable pub root : ℕ → ℕ → ℕ
+root number zero = 0
+root number (suc n) = if nat_le (suc n * suc n) number then suc n else root number n
+
+-- the amplitude for a palette
+abbrev pub amplitude_of : Amplitude → List (List ℕ) → List ℕ → ℕ
+amplitude_of (Levels amplitude) colors pixels = amplitude
+amplitude_of AutoAmplitude colors pixels = root (mean_error colors pixels) 255
+
+-- how many eighths of an error a kind of dithering passes on
+abbrev pub strength_of : Dither → ℕ
+strength_of Off = 0
+strength_of (Ordered amplitude) = 0
+strength_of (Diffusion strength) = eighths strength
+
+-- how far apart it moves a channel
+abbrev pub pattern_of : Dither → List (List ℕ) → List ℕ → ℕ
+pattern_of Off colors pixels = 0
+pattern_of (Ordered amplitude) colors pixels = amplitude_of amplitude colors pixels
+pattern_of (Diffusion strength) colors pixels = 0
+
+-- an image that is mapped
+abbrev pub mapped_of : Mapping → ℕ → List ℕ → List (List ℕ) → Mapped
+mapped_of mapping width pixels colors = record {
+  width = width;
+  pixels = pixels;
+  colors = colors;
+  strength = strength_of mapping.dither;
+  amplitude = pattern_of mapping.dither colors pixels;
+  tolerance = tolerance_of mapping.tolerance colors pixels;
+}
+
+-- the target of each visit
+abbrev pub target_of : Dither → Mapped → List ℕ → ℕ → List ℕ
+target_of Off m indices n = color_at m.pixels (serpentine m.width n)
+target_of (Ordered amplitude) m indices n = ordered_color m (serpentine m.width n)
+target_of (Diffusion strength) m indices n = target_of_visit m (errors_of m indices n) n
+
+-- each pixel has the index for its target
+abbrev pub HaveTargets : Mapping → ℕ → List ℕ → List (List ℕ) → List ℕ → Type 0
+HaveTargets mapping width pixels colors indices =
+    AreMapped (mapped_of mapping width pixels colors)
+    (target_of mapping.dither (mapped_of mapping width pixels colors) indices) indices
+
+-- the indices are those of the pixels in the palette
+abbrev pub AreDithered : Mapping → ℕ → List ℕ → List (List ℕ) → List ℕ → Type 0
+AreDithered mapping width pixels colors indices =
+    HaveTargets mapping width (source_pixels mapping.dither colors pixels) colors indices

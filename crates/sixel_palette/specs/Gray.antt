@@ -1,0 +1,45 @@
+-- The grays of a picture, which error diffusion maps to a palette of grays. No gray repays the
+-- error of a hue. The brightness is the luma of ITU-R BT.601, in 256ths.
+use Rattle.std.specs.Prelude.{ℕ, zero, suc, ◌+◌, ◌*◌, ◌/◌, ◌==◌, ◌&&◌, Bool, true, false, List, []}
+use Rattle.std.specs.Prelude.{◌∷◌, length, if◌then◌else◌, slice_index, slice_index_or}
+use Rattle.sixel_base.specs.Picture.{joined}
+use Rattle.sixel_palette.specs.Palette.{color_at}
+use Rattle.sixel_palette.specs.declared.dither.Dither.{Dither}
+use Rattle.sixel_palette.specs.declared.dither.Dither.TheVariants.{Off, Diffusion, Ordered}
+
+-- the channels of a color are equal
+abbrev pub is_gray : List ℕ → Bool
+is_gray c = (slice_index c 0 == slice_index c 1) && (slice_index c 1 == slice_index c 2)
+
+-- so are those of each of the first n colors
+unfoldable pub are_gray : List (List ℕ) → ℕ → Bool
+are_gray colors zero = true
+are_gray colors (suc n) = are_gray colors n && is_gray (slice_index_or colors n [])
+
+-- the brightness of a color, rounded down
+abbrev pub brightness : List ℕ → ℕ
+brightness c = (77 * slice_index c 0 + 150 * slice_index c 1 + 29 * slice_index c 2) / 256
+
+-- a color in gray, and the bytes of a pixel
+abbrev pub gray_color : List ℕ → List ℕ
+gray_color c = brightness c ∷ brightness c ∷ brightness c ∷ []
+
+abbrev pub gray_pixel : List ℕ → ℕ → List ℕ
+gray_pixel pixels pixel =
+    brightness (color_at pixels pixel) ∷ brightness (color_at pixels pixel)
+    ∷ brightness (color_at pixels pixel) ∷ slice_index pixels (4 * pixel + 3) ∷ []
+
+-- an image in gray
+abbrev pub gray_pixels : List ℕ → List ℕ
+gray_pixels pixels = joined (gray_pixel pixels) (length pixels / 4)
+
+-- error diffusion in a palette of grays maps the grays of an image
+abbrev pub maps_grays : Dither → List (List ℕ) → Bool
+maps_grays Off colors = false
+maps_grays (Ordered amplitude) colors = false
+maps_grays (Diffusion strength) colors = are_gray colors (length colors)
+
+-- the pixels that are mapped
+abbrev pub source_pixels : Dither → List (List ℕ) → List ℕ → List ℕ
+source_pixels dither colors pixels =
+    if maps_grays dither colors then gray_pixels pixels else pixels

@@ -1,0 +1,141 @@
+//! The summed squared error of a palette, and the tolerance and the amplitude that follow from it.
+
+ghost use Rattle.std.specs.Prelude.{◌≡◌, ◌*◌, ◌/◌, ◌≤◌, max};
+ghost use Rattle.sixel_palette.specs.Palette.{AreIndices, no_entry};
+ghost use Rattle.sixel_palette.specs.Refined.{opaque_pixels, summed_error};
+ghost use Rattle.sixel_palette.specs.Dithering.{amplitude_of, root, tolerance_of};
+ghost use Rattle.sixel_palette.specs.inside.PaletteError.{IsErrorOf, IsKnown};
+
+use crate::dither::Amplitude;
+use crate::dithering::mapped::MappedImage;
+use crate::mapping::Tolerance;
+use crate::palette::colors::is_opaque;
+use crate::palette::distance::distance;
+
+/// The summed squared error of a palette, and the number of opaque pixels.
+#[derive(Clone, Copy)]
+struct PaletteError {
+    sum: u128,
+    pixels: u64,
+}
+
+/// Returns the tolerance for the palette of an image.
+pub fn tolerance_of(
+    image: &MappedImage<'_>,
+    nearest: &[u8],
+    known: Option<u64>,
+    tolerance: Tolerance,
+) -> u32
+    requires nearest { AreIndices image.now.pixels.now image.now.colors.now nearest.now }
+    requires known { IsKnown image.now.colors.now image.now.pixels.now known }
+    ensures { result ≡ tolerance_of tolerance image.now.colors.now image.now.pixels.now }
+{
+    match tolerance {
+        Tolerance::Squared(squared) => squared,
+        Tolerance::Auto => {
+            let error = palette_error(image, nearest, known);
+            if error.sum == 0 {
+                0
+            } else {
+                error.mean().max(12)
+            }
+        }
+    }
+}
+
+/// Returns the amplitude for the palette of an image.
+pub fn amplitude_of(
+    image: &MappedImage<'_>,
+    nearest: &[u8],
+    known: Option<u64>,
+    amplitude: Amplitude,
+) -> u8
+    requires nearest { AreIndices image.now.pixels.now image.now.colors.now nearest.now }
+    requires known { IsKnown image.now.colors.now image.now.pixels.now known }
+    ensures { result ≡ amplitude_of amplitude image.now.colors.now image.now.pixels.now }
+{
+    match amplitude {
+        Amplitude::Levels(levels) => levels,
+        Amplitude::Auto => root(palette_error(image, nearest, known).mean()),
+    }
+}
+
+/// Returns the error of the palette.
+fn palette_error(image: &MappedImage<'_>, nearest: &[u8], known: Option<u64>) -> PaletteError
+    requires nearest { AreIndices image.now.pixels.now image.now.colors.now nearest.now }
+    requires known { IsKnown image.now.colors.now image.now.pixels.now known }
+    ensures { IsErrorOf image.now.colors.now image.now.pixels.now result }
+{
+    PaletteError {
+        sum: summed_error(image, nearest, known),
+        pixels: opaque_pixels(image.pixels),
+    }
+}
+
+/// Returns the summed squared error of the palette, which may be known.
+fn summed_error(image: &MappedImage<'_>, nearest: &[u8], known: Option<u64>) -> u128
+    requires nearest { AreIndices image.now.pixels.now image.now.colors.now nearest.now }
+    requires known { IsKnown image.now.colors.now image.now.pixels.now known }
+    ensures { result ≡ summed_error image.now.colors.now image.now.pixels.now }
+{
+    if let Some(sum) = known {
+        return u128::from(sum);
+    }
+    let mut sum = 0;
+    for pixel in 0..nearest.len() {
+        if is_opaque(image.pixels, pixel) {
+            let entry = image.colors[usize::from(nearest[pixel])];
+            sum += u128::from(distance(entry, image.color(pixel)));
+        }
+    }
+    sum
+}
+
+/// Returns the number of opaque pixels.
+fn opaque_pixels(pixels: &[u8]) -> u64
+    ensures { result ≡ opaque_pixels pixels.now (λ _. 1) }
+{
+    let mut count = 0;
+    for pixel in 0..pixels.len() / 4 {
+        if is_opaque(pixels, pixel) {
+            count += 1;
+        }
+    }
+    count
+}
+
+impl PaletteError {
+    /// Returns the mean squared error of an opaque pixel, rounded down.
+    ///
+    /// It bisects, because a division of 128 bits would call a function that C libraries lack.
+    fn mean(&self) -> u32
+        requires small { self.now.sum ≤ no_entry * self.now.pixels }
+        ensures { result ≡ self.now.sum / max 1 self.now.pixels }
+    {
+        let pixels = u128::from(self.pixels.max(1));
+        let mut mean = 0;
+        let mut above: u32 = 0x40000;
+        'halves: while above - mean > 1 {
+            let middle = mean + (above - mean) / 2;
+            if u128::from(middle) * pixels <= self.sum {
+                mean = middle;
+            } else {
+                above = middle;
+            }
+        }
+        mean
+    }
+}
+
+/// Returns the square root of a number, rounded down, but at most 255.
+fn root(number: u32) -> u8
+    ensures { result ≡ root number 255 }
+{
+    for less in 0..255 {
+        let root: u32 = 255 - less;
+        if root * root <= number {
+            return root as u8;
+        }
+    }
+    0
+}
