@@ -13,14 +13,15 @@ struct terminal {
     icysixel sixel; /* zeroed, and created with the first image */
     enum { TEXT, ESCAPE, PARAMETERS, PAYLOAD, SKIPPED } state;
     int32_t parameters[3], count; /* the third one stands for all after it */
-    size_t rows; /* rows of cells that are reserved for the open image */
+    size_t rows;    /* rows of cells that are reserved for the open image */
+    uint32_t error; /* the last error of an image that was shown, or 0 */
 };
 
 /* Opens an image with the parameters that the parser has read. */
 static uint32_t begin_image(struct terminal *term)
 {
     const int32_t *p = term->parameters;
-    term->rows = 0;
+    term->rows = term->error = 0;
     if (icysixel_is_empty(&term->sixel)) {
         uint32_t code = icysixel_new(&term->sixel);
         if (code != ICYSIXEL_OK) return code;
@@ -57,11 +58,12 @@ static uint32_t end_image(struct terminal *term)
     return ICYSIXEL_OK;
 }
 
-/* Shows an error once: an allocation failed. */
-static void show_error(uint32_t code)
+/* Shows the error of an image once: an allocation failed. */
+static void show_error(struct terminal *term, uint32_t code)
 {
     char text[64];
-    if (code == ICYSIXEL_OK || code == ICYSIXEL_STREAM_FAILED) return;
+    if (code == ICYSIXEL_OK || code == term->error) return;
+    term->error = code;
     icysixel_strerror(code, text, sizeof text);
     printf("[%s]", text);
 }
@@ -70,10 +72,10 @@ static void show_error(uint32_t code)
 static size_t read_payload(struct terminal *term, const uint8_t *bytes, size_t length)
 {
     icysixel_fed fed = {0};
-    show_error(icysixel_feed(&term->sixel, bytes, length, &fed));
+    show_error(term, icysixel_feed(&term->sixel, bytes, length, &fed));
     reserve_rows(term, icysixel_get_drawn_height(&term->sixel));
     if (fed.status == ICYSIXEL_COMPLETE) {
-        show_error(end_image(term));
+        show_error(term, end_image(term));
         term->state = TEXT; /* the terminator is not consumed: the parser reads it */
     }
     return fed.consumed;
@@ -96,7 +98,7 @@ static void parse(struct terminal *term, uint8_t byte)
     } else if (term->state == PARAMETERS && byte == 'q') {
         uint32_t code = begin_image(term);
         term->state = code == ICYSIXEL_OK ? PAYLOAD : SKIPPED;
-        show_error(code);
+        show_error(term, code);
     } else if (term->state == PARAMETERS) {
         term->state = SKIPPED; /* a DCS sequence that is not SIXEL */
     } else if (term->state == TEXT) {

@@ -55,7 +55,7 @@ static uint32_t make_session(icysixel *h, int kind, icysixel_shape *shape)
     for (size_t at = 0; code == ICYSIXEL_OK && at < length; at += 7)
         code = icysixel_feed(h, inputs[kind].at + at, length - at < 7 ? length - at : 7, &fed);
     if (code == ICYSIXEL_OK) return icysixel_finish(h, shape);
-    check_failed(h, kind == OF_DCS ? ICYSIXEL_DCS_STREAM_FAILED : ICYSIXEL_STREAM_FAILED);
+    check_failed(h, code);
     return code;
 }
 
@@ -96,7 +96,7 @@ static uint32_t make_rows(icysixel *h, int kind, struct bytes *made)
     icysixel_begin_payload(h, 9, 1);
     for (size_t at = 0, from = 0; at < length; at += fed.consumed, from = final) {
         uint32_t code = icysixel_feed_band(h, payload + at, length - at, &fed);
-        if (code != ICYSIXEL_OK) return check_failed(h, ICYSIXEL_STREAM_FAILED), (void)kind, code;
+        if (code != ICYSIXEL_OK) return check_failed(h, code), (void)kind, code;
         final = icysixel_get_rows_so_far(h);
         OK(icysixel_copy_rows(h, from, final - from, &layout, rows[from], (18 - from) * 520));
         OK(icysixel_release_rows(h, final));

@@ -22,7 +22,7 @@ _Static_assert(sizeof(icysixel) == 16 && sizeof(icysixel_fed) == 16 && sizeof(ic
 #define IS_RED(pixels, count) are_rows(pixels, count, RED, 4)
 
 enum {
-    OK = ICYSIXEL_OK, BAD = ICYSIXEL_MALFORMED, FAILED = ICYSIXEL_STREAM_FAILED,
+    OK = ICYSIXEL_OK, BAD = ICYSIXEL_MALFORMED,
     SMALL = ICYSIXEL_BUFFER_TOO_SMALL, STRIDE = ICYSIXEL_BAD_STRIDE, NO_SIZE = ICYSIXEL_NO_SIZE,
     MISMATCH = ICYSIXEL_BUFFER_MISMATCH, COLORS = ICYSIXEL_COLOR_COUNT,
 };
@@ -131,15 +131,16 @@ static void test_progress(void)
     CHECK(!icysixel_is_receiving(h) && icysixel_get_rows_so_far(h) == 0);
 }
 
-/* A feed that fails writes which bytes belong to the image. Without an image it writes nothing. */
+/* A feed that fails writes which bytes belong to the image, and later ones return its error.
+ * Without an image it writes nothing. */
 static void test_failed_feeds(void)
 {
     static const struct { const char *chunk; uint32_t code; size_t consumed; uint32_t status; }
     chunks[] = {
         {"~!65536~", BAD, 8, ICYSIXEL_MORE},
-        {"~-\033", ICYSIXEL_DCS_STREAM_FAILED, 3, ICYSIXEL_MORE},
-        {"\\text", ICYSIXEL_DCS_STREAM_FAILED, 1, ICYSIXEL_COMPLETE},
-        {"text", ICYSIXEL_DCS_STREAM_FAILED, 0, ICYSIXEL_COMPLETE},
+        {"~-\033", BAD, 3, ICYSIXEL_MORE},
+        {"\\text", BAD, 1, ICYSIXEL_COMPLETE},
+        {"text", BAD, 0, ICYSIXEL_COMPLETE},
     };
     icysixel_begin_dcs(h);
     RETURNS(OK, FEED("\033Pq"));
@@ -420,7 +421,7 @@ static void test_new_on_full_handle(void)
     RETURNS(OK, icysixel_new(h));
 }
 
-/* An error is kept until the session is closed, and leaves no image. */
+/* An error is returned again until the image is closed, and leaves no image. */
 static void test_errors(void)
 {
     RETURNS(NO_SESSION, FEED("~"));
@@ -428,7 +429,7 @@ static void test_errors(void)
     RETURNS(OK, DECODE(red));
     icysixel_begin_payload(h, -1, -1);
     CHECK(FEED("!9~!65536~") == BAD && icysixel_in_payload(h) == 0);
-    CHECK(icysixel_is_receiving(h) == 1 && icysixel_finish(h, &shape) == FAILED && !HAS_IMAGE);
+    CHECK(icysixel_is_receiving(h) == 1 && icysixel_finish(h, &shape) == BAD && !HAS_IMAGE);
     CHECK(DECODE(red) == OK && DECODE("!65536~") == BAD && !HAS_IMAGE);
 }
 

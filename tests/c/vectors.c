@@ -101,7 +101,6 @@ static void try_session(const struct vector *vector, const struct registers *aft
     icysixel_shape shape = {0};
     uint32_t seed = (uint32_t)first;
     size_t at = others == 0 ? 0 : first;
-    uint32_t failed = vector->is_payload ? ICYSIXEL_STREAM_FAILED : ICYSIXEL_DCS_STREAM_FAILED;
     if (vector->is_payload) icysixel_begin_payload(&decoder, vector->p1, vector->p2);
     else icysixel_begin_dcs(&decoder);
     uint32_t code = feed(&decoder, vector, 0, at);
@@ -113,7 +112,7 @@ static void try_session(const struct vector *vector, const struct registers *aft
         at += length;
     }
     if (code != ICYSIXEL_OK) {
-        check_failed(&decoder, failed);
+        check_failed(&decoder, code);
     } else {
         code = icysixel_finish(&decoder, &shape);
         CHECK(vector->fails_at >= vector->data.length);

@@ -1,29 +1,24 @@
 -- What is known of the bytes of an image once a beginning of them was fed.
-use Rattle.std.proofs.Common.{◌≡◌, ℕ, ◌≤◌, true, List, [], ◌++◌, refl, ap, sym, ◌∙◌, inl}
-use Rattle.std.proofs.Common.{inr, subst, arith, Option, Some, None}
-use Rattle.std.specs.Prelude.{◌&&◌, if◌then◌else◌, nat_lt, is_none, is_some, length, Result, Ok}
+use Rattle.std.proofs.Common.{◌≡◌, ℕ, ◌≤◌, true, List, [], ◌++◌, refl, ap, sym, ◌∙◌, ⊎_elim, arith}
+use Rattle.std.proofs.Common.{inl, inr, subst, Some, None}
+use Rattle.std.specs.Prelude.{◌&&◌, nat_lt, length, Result, Ok, if◌then◌else◌, is_none}
 use Rattle.std.specs.Prelude.{IfErr}
 use Rattle.std.proofs.lemmas.List.{append-nil, append_assoc}
 use Rattle.std.proofs.lemmas.Bool.Decides.{nat_tests}
 use Rattle.sixel_base.specs.declared.error.SixelError.{SixelError}
-use Rattle.sixel_base.specs.Fault.{Faults, Incomplete}
+use Rattle.sixel_base.specs.Fault.{Faults}
 use Rattle.sixel_base.specs.Bytes.{front, first_terminator}
-use Rattle.sixel_base.specs.History.{history_of}
-use Rattle.sixel_base.specs.Lenient.{fault as reported}
 use Rattle.sixel_base.specs.Settings.{Settings}
-use Rattle.sixel_base.specs.Status.{status_of}
 use Rattle.sixel_base.specs.Dcs.{can_finish, dcs_fault, dcs_growths, dcs_in_payload, dcs_status}
 use Rattle.sixel_base.specs.Dcs as strings
 use Rattle.sixel_base.specs.declared.status.SixelFeedResult.{SixelFeedResult}
 use Rattle.sixel_base.specs.declared.status.SixelDcsFeedResult.{SixelDcsFeedResult}
-use Rattle.sixel_decoder.specs.DcsCalls.{IsFed}
-use Rattle.sixel_decoder.specs.PayloadCalls as payloads
+use Rattle.sixel_decoder.specs.FedImages.{IsFed}
 use Rattle.sixel_decoder.specs.ImageEnds.{Extends, Passes}
-use Rattle.sixel_decoder.specs.Session.{Session, DcsSession}
 use Rattle.sixel_decoder.specs.declared.image_end.SequenceEnd.{SequenceEnd}
 use Rattle.icy_sixel.specs.ReceiverCalls.{IsCounted}
-use Rattle.icy_sixel.specs.inside.Receiving.{reception_of}
-use Rattle.icy_sixel.specs.declared.receiver.Open.TheVariants as opened
+use Rattle.sixel_decoder.specs.Reception.{Reception}
+use Rattle.sixel_decoder.specs.declared.received.Received.{Received}
 use Rattle.sixel_decoder.specs.declared.received.Status.TheVariants.{Payload, Dcs}
 use Rattle.sixel_base.specs.Limits.{Limit}
 use Rattle.icy_sixel.specs.Receiver.{Form, Nothing, OfPayload, OfString, count, status, fault}
@@ -46,8 +41,7 @@ rejoined before chunk after left rest bytes fed split joined = grind (arith, app
 -- ---- what a beginning is rejected for is what all bytes are rejected for
 
 refused : (e : SixelError) (limit : Limit) (form : Form) (fed left bytes : List ℕ) (n : ℕ)
-    → fed ++ left ≡ bytes
-    → Faults e (nat_lt n (growths form fed)) (fault limit form fed)
+    → fed ++ left ≡ bytes → Faults e (nat_lt n (growths form fed)) (fault limit form fed)
     → Faults e (nat_lt 0 (growths form bytes)) (fault limit form bytes)
 refused e limit form fed left bytes n joined is =
     grind (arith, nat_tests, Faults-along, frame_refused, string_refused)
@@ -76,50 +70,46 @@ ended : (limit : Limit) (form : Form) (fed left : List ℕ) → is_over form fed
 ended limit Nothing fed left over = absurd cc
 ended limit (OfPayload settings) fed left over =
     let t = terminator_of (first_terminator fed) over in
-    let carried : front fed ≡ front (fed ++ left) = sym (front_ended fed left t.0 t.1) in
+    let carried = front_ended fed left t.0 t.1 in
     record {
       same = fed_images.ended limit (OfPayload settings) fed left over;
-      ends = ap (λ w. reported limit (history_of w)) carried;
-      wants = ap (λ w. is_none (reported limit (history_of w))) carried;
+      ends = rw carried refl;
+      wants = rw carried refl;
     }
 ended limit OfString fed left over =
-    let finishes : can_finish limit fed ≡ can_finish limit (fed ++ left) =
-    ended_finishes limit fed over ∙ sym (ended_finishes limit (fed ++ left)
-    (ap strings.has_ended (status_ended fed left over) ∙ over)) in
+    let now = ended_finishes limit fed over in
+    let later = ended_finishes limit (fed ++ left) (rw (status_ended fed left over) over) in
     record {
       same = fed_images.ended limit OfString fed left over;
-      ends = ap (λ b. if b then None else Some Incomplete) finishes;
-      wants = finishes;
+      ends = rw (now, later) refl;
+      wants = rw (now, later) refl;
     }
 
 -- where no byte is left all were fed
 all_fed : (fed left bytes : List ℕ) → fed ++ left ≡ bytes → left ≡ [] → fed ≡ bytes
-all_fed fed left bytes joined none = sym (append-nil fed) ∙ (ap (λ w. fed ++ w) (sym none) ∙ joined)
+all_fed fed left bytes joined none = grind (arith, append-nil)
 
 pub same : (limit : Limit) (form : Form) (fed bytes : List ℕ) → IsWhole form fed bytes
     → IsSame limit form fed bytes
 same limit form fed bytes whole =
-    elim whole.over [
-      | inl none ↦
-          subst (IsSame limit form fed) (all_fed fed whole.left bytes whole.joined none)
-          (record {
-            same = record { counted = refl; stands = refl; faults = refl; grows = refl };
-            ends = refl;
-            wants = refl;
-          })
-      | inr over ↦ subst (IsSame limit form fed) whole.joined (ended limit form fed whole.left over)
-    ]
+    ⊎_elim (λ none.
+    let all = all_fed fed whole.left bytes whole.joined none in
+    rw all (record {
+      same = record { counted = refl; stands = refl; faults = refl; grows = refl };
+      ends = refl;
+      wants = refl;
+    }))
+    (λ over. rw whole.joined at (ended limit form fed whole.left over)) whole.over
 
 -- the bytes of a payload that sixels and commands come from
 pub front_whole : (settings : Settings) (fed bytes : List ℕ)
     → IsWhole (OfPayload settings) fed bytes → front fed ≡ front bytes
 front_whole settings fed bytes whole =
-    elim whole.over [
-      | inl none ↦ ap front (all_fed fed whole.left bytes whole.joined none)
-      | inr over ↦
-          let t = terminator_of (first_terminator fed) over in
-          sym (front_ended fed whole.left t.0 t.1) ∙ ap front whole.joined
-    ]
+    ⊎_elim (λ none. ap front (all_fed fed whole.left bytes whole.joined none))
+    (λ over.
+    let t = terminator_of (first_terminator fed) over in
+    rw whole.joined at (sym (front_ended fed whole.left t.0 t.1)))
+    whole.over
 
 -- ---- statuses and counts
 
@@ -134,35 +124,26 @@ count_fits form bytes = grind (arith, nat_tests, count-fits, dcs_count-fits)
 
 -- ---- which bytes belong to an image
 
-pub payload_counted : (old new : Session) (chunk : List ℕ) (fed : SixelFeedResult)
+pub payload_counted : (old new : Reception) (settings : Settings) (chunk : List ℕ)
+    (fed : SixelFeedResult) → old.form ≡ OfPayload settings → new.form ≡ old.form
     → new.bytes ≡ old.bytes ++ chunk → Passes old.bytes (old.bytes ++ chunk) fed
     → fed.consumed ≤ length chunk
-    → IsCounted (reception_of (opened.Payload old)) (reception_of (opened.Payload new)) chunk
-    (record { consumed = fed.consumed; status = Payload fed.status })
-payload_counted old new chunk fed bytes passes within = grind (arith, nat_tests)
+    → IsCounted old new chunk (record { consumed = fed.consumed; status = Payload fed.status })
+payload_counted old new settings chunk fed form same bytes passes within = grind (arith, nat_tests)
 
 -- a feed that succeeds consumes them, too
-pub payload_fed_counted : (old new : Session) (chunk : List ℕ) (fed : SixelFeedResult)
-    → payloads.IsFed old new chunk (Ok fed)
-    → IsCounted (reception_of (opened.Payload old)) (reception_of (opened.Payload new)) chunk
-    (record { consumed = fed.consumed; status = Payload fed.status })
-payload_fed_counted old new chunk fed is = grind (arith, nat_tests)
+pub payload_fed_counted : (old new : Reception) (settings : Settings) (chunk : List ℕ)
+    (fed : Received) → old.form ≡ OfPayload settings → IsFed old new chunk (Ok fed)
+    → IsCounted old new chunk fed
+payload_fed_counted old new settings chunk fed form is = grind (arith, nat_tests)
 
-pub string_counted : (old new : DcsSession) (end : SequenceEnd) (chunk : List ℕ)
-    (fed : SixelDcsFeedResult) → new.bytes ≡ old.bytes ++ chunk → Extends end old.bytes chunk fed
-    → IsCounted (reception_of (opened.ControlString old)) (reception_of (opened.ControlString new))
-    chunk (record { consumed = fed.consumed; status = Dcs fed.status })
-string_counted old new end chunk fed bytes is = grind (arith, nat_tests)
+pub string_counted : (old new : Reception) (end : SequenceEnd) (chunk : List ℕ)
+    (fed : SixelDcsFeedResult) → old.form ≡ OfString → new.form ≡ old.form
+    → new.bytes ≡ old.bytes ++ chunk → Extends end old.bytes chunk fed
+    → IsCounted old new chunk (record { consumed = fed.consumed; status = Dcs fed.status })
+string_counted old new end chunk fed form same bytes is = grind (arith, nat_tests)
 
-pub string_fed_counted : (old new : DcsSession) (chunk : List ℕ) (fed : SixelDcsFeedResult)
-    → IsFed old new chunk (Ok fed)
-    → IsCounted (reception_of (opened.ControlString old)) (reception_of (opened.ControlString new))
-    chunk (record { consumed = fed.consumed; status = Dcs fed.status })
-string_fed_counted old new chunk fed is =
-    let was = accepted_same old.decoder.pixel_limit old.bytes (is.sound is.ok.0) in
-    let now = accepted_same old.decoder.pixel_limit new.bytes is.faultless in
-    record {
-      count = omega (arith, was.0, now.0, is.consumed);
-      within = is.within;
-      status = is.status ∙ ap Dcs (sym now.1);
-    }
+pub string_fed_counted : (old new : Reception) (chunk : List ℕ) (fed : Received)
+    → old.form ≡ OfString → IsFed old new chunk (Ok fed) → IsCounted old new chunk fed
+string_fed_counted old new chunk fed form is =
+    grind (arith, nat_tests, form, is, accepted_same)

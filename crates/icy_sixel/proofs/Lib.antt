@@ -2,9 +2,9 @@ pub mod Bands
 pub mod Chunks
 pub mod ClippedImages
 pub mod FinalRows
-pub mod OneShotImages
 pub mod Outcomes
 pub mod RegisterRange
 pub mod Steps
+pub mod StoredErrors
 pub mod TransparentImages
 pub mod WholeImages

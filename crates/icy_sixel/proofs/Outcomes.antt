@@ -1,21 +1,17 @@
 -- What a step comes to, by what the calls that it makes ensure.
-use Rattle.std.proofs.Common.{◌≡◌, ℕ, ◌++◌, List, sym, ◌∙◌, subst}
+use Rattle.std.proofs.Common.{◌≡◌, ℕ, ◌++◌, List, None, arith}
 use Rattle.std.proofs.lemmas.List.{append-nil}
-use Rattle.std.proofs.Common.{Some, None}
-use Rattle.std.specs.Prelude.{Bool, IsTrue, nat_lt, ◌||◌, if◌then◌else◌, is_none, Result, Ok, Err}
+use Rattle.std.proofs.Common.{None}
+use Rattle.std.specs.Prelude.{nat_lt, ◌||◌, if◌then◌else◌, is_none, Result, Ok, Err}
 use Rattle.std.specs.Prelude.{MatchResult, IfOk, IfErr, OnOk, OnErr}
 use Rattle.sixel_base.specs.declared.error.SixelError.{SixelError}
-use Rattle.sixel_base.specs.Fault.{Faults, Incomplete}
+use Rattle.sixel_base.specs.Fault.{Faults}
 use Rattle.sixel_base.specs.Decoder.{IsSetAs, origin_of}
 use Rattle.sixel_base.specs.declared.state.DecoderState.{DecoderState}
-use Rattle.sixel_base.specs.History.{history_of}
-use Rattle.sixel_base.specs.Payload.{Image, image_of}
-use Rattle.sixel_base.specs.Lenient.{effective}
-use Rattle.sixel_base.specs.Stroke.{registers}
+use Rattle.sixel_base.specs.Payload.{Image}
 use Rattle.sixel_base.specs.Dcs.{dcs_status, has_ended}
 use Rattle.sixel_base.specs.OneShot.{Found, IsDecodedAs, IsFoundImage, AreFoundRegisters}
 use Rattle.sixel_base.specs.Limits.{Limit}
-use Rattle.sixel_base.specs.OneShot as one_shot
 use Rattle.icy_sixel.specs.declared.script.End.{End}
 use Rattle.icy_sixel.specs.declared.script.End.TheVariants.{Finish}
 use Rattle.icy_sixel.specs.declared.script.Outcome.{Outcome}
@@ -32,7 +28,6 @@ use Rattle.sixel_decoder.specs.OneShotCalls.{IsDecoded}
 use Rattle.sixel_decoder.proofs.ParserSteps.{Faults-along}
 use Rattle.sixel_decoder.proofs.PayloadFaults.{or_right, payload_refused}
 use Rattle.icy_sixel.proofs.Chunks.{same, front_whole}
-use Rattle.std.proofs.Common.{arith}
 use Rattle.std.proofs.lemmas.Bool.Decides.{nat_tests}
 
 -- ---- a session that is rejected as it is fed
@@ -45,8 +40,7 @@ fed_fails : (e : SixelError) (limit : Limit) (form : Form) (bytes : List ℕ)
 fed_fails e limit form bytes refused = grind (arith, Faults-along, payload_refused, or_right)
 
 pub fails : (e : SixelError) (before after : DecoderState) (form : Form) (bytes : List ℕ)
-    (ending : End)
-    → Faults e (nat_lt 0 (growths form bytes)) (fault before.pixel_limit form bytes)
+    (ending : End) → Faults e (nat_lt 0 (growths form bytes)) (fault before.pixel_limit form bytes)
     → after ≡ before
     → IsSessionOutcome before (meaning before.pixel_limit form bytes) ending (Failed e) after
 fails e before after form bytes ending refused kept = grind (arith, nat_tests, fed_fails)
@@ -79,17 +73,9 @@ drawn_whole : (before : DecoderState) (form : Form) (fed bytes : List ℕ) (imag
     × AreFoundRegisters before (found form bytes) after
 drawn_whole before Nothing fed bytes image after whole decoded = absurd decoded.1
 drawn_whole before (OfPayload settings) fed bytes image after whole decoded =
-    let carried = front_whole settings fed bytes whole in (
-      subst (λ w. image ≡ image_of (origin_of before settings)
-          (effective before.pixel_limit (history_of w))) carried decoded.1,
-      subst (λ w. after ≡ registers before.registers (effective before.pixel_limit (history_of w)))
-          carried decoded.2,
-    )
+    let all = rw (front_whole settings fed bytes whole) at decoded in (all.1, all.2)
 drawn_whole before OfString fed bytes image after whole decoded =
-    let all =
-    subst (λ (w : List ℕ). IsDecodedAs before (one_shot.found w) image after)
-    (followed_whole fed bytes whole) decoded in
-    (all.1, all.2)
+    let all = rw (followed_whole fed bytes whole) at decoded in (all.1, all.2)
 
 pub finishes : (answer : Result SixelImage SixelError) (outcome : Outcome)
     (before after : DecoderState) (form : Form) (fed bytes : List ℕ) (consumed : ℕ)
@@ -111,23 +97,14 @@ pub finishes : (answer : Result SixelImage SixelError) (outcome : Outcome)
 finishes (Ok image) outcome before after form fed bytes consumed status is whole sound counted
     stands decoded ends refused set kept =
     let limit : Limit = before.pixel_limit in
-    let ended : end_fault limit form bytes ≡ None =
-    sym (same limit form fed bytes whole).ends ∙ ends in
-    let drawn =
-    drawn_whole before form fed bytes (image_value image) after.registers whole
-    (decoded whole.left) in
-    subst (λ (w : Outcome). IsSessionOutcome before (meaning limit form bytes) Finish w after)
-    (sym is)
-    (end_sound limit form bytes sound ended, counted, stands, drawn.0, drawn.1, set)
+    let ended = rw (same limit form fed bytes whole).ends at ends in
+    let drawn = drawn_whole before form fed bytes _ _ whole (decoded whole.left) in
+    rw is (end_sound limit form bytes sound ended, counted, stands, drawn.0, drawn.1, set)
 finishes (Err e) outcome before after form fed bytes consumed status is whole sound counted stands
     decoded ends refused set kept =
-    let limit : Limit = before.pixel_limit in
-    let one = same limit form fed bytes whole in
-    let here : Faults e (end_wants limit form bytes) (end_fault limit form bytes) =
-    rw (sym one.wants, sym one.ends) refused in
-    subst (λ (w : Outcome). IsSessionOutcome before (meaning limit form bytes) Finish w after)
-    (sym is)
-    (end_fails e limit form bytes sound here, kept)
+    let one = same before.pixel_limit form fed bytes whole in
+    let here = rw (one.wants, one.ends) at refused in
+    rw is (end_fails e before.pixel_limit form bytes sound here, kept)
 
 -- ---- what is decoded at once
 

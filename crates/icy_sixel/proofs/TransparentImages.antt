@@ -1,20 +1,17 @@
 -- A transparent background changes the pixels that no sixel covers, and nothing else.
-use Rattle.std.proofs.Common.{◌≡◌, ℕ, Bool, true, List, [], ◌∷◌, refl, ap}
-use Rattle.std.proofs.Common.{sym, ◌∙◌, subst}
+use Rattle.std.proofs.Common.{◌≡◌, ℕ, Bool, true, List, [], ◌∷◌, refl, arith}
 use Rattle.sixel_base.specs.Decoder.{origin_of, with_transparent}
-use Rattle.sixel_base.specs.History.{Token, Sixel, Repeat, Raster, Color, Return, Newline, Skip}
+use Rattle.sixel_base.specs.History.{Sixel, Repeat, Raster, Color, Return, Newline, Skip}
 use Rattle.sixel_base.specs.History.{History}
-use Rattle.sixel_base.specs.Lenient.{fault, tolerated}
+use Rattle.sixel_base.specs.Lenient.{fault}
 use Rattle.sixel_base.specs.Limits.{Limit}
 use Rattle.sixel_base.specs.OneShot.{Found, Payload, NoPayload, AreFoundRegisters, IsFoundImage}
 use Rattle.sixel_base.specs.OneShot.{found_fault}
 use Rattle.sixel_base.specs.Payload.{Image, image_of, tokens}
 use Rattle.sixel_base.specs.Stroke.{Origin, pixel}
-use Rattle.sixel_base.specs.TokenFaults.{fault_of, first_fault}
 use Rattle.sixel_base.specs.declared.state.DecoderState.{DecoderState}
 use Rattle.sixel_canvas.proofs.Pictures.{picture_same}
 use Rattle.icy_sixel.specs.TransparentImages.{IsCleared, drawn_pixel, drawn_pixel_of}
-use Rattle.std.proofs.Common.{arith}
 use Rattle.std.proofs.lemmas.Bool.Decides.{nat_tests}
 
 abbrev set : Limit → Bool → Limit
@@ -42,13 +39,7 @@ pixel-set : (o : Origin) (h : History) (column row : ℕ)
     → pixel (record o { pixel_limit = set o.pixel_limit true }) h column row
     ≡ drawn_pixel o h column row
 pixel-set o [] column row = refl
-pixel-set o (Sixel bits ∷ h) column row = grind (arith, nat_tests, pixel-set o h column row)
-pixel-set o (Repeat _ ∷ h) column row = pixel-set o h column row
-pixel-set o (Raster _ ∷ h) column row = pixel-set o h column row
-pixel-set o (Color _ ∷ h) column row = pixel-set o h column row
-pixel-set o (Return ∷ h) column row = pixel-set o h column row
-pixel-set o (Newline ∷ h) column row = pixel-set o h column row
-pixel-set o (Skip _ ∷ h) column row = pixel-set o h column row
+pixel-set o (token ∷ h) column row = grind (arith, nat_tests, pixel-set o h column row)
 
 cleared_of : (o : Origin) (h : History)
     → IsCleared (drawn_pixel o h) (image_of o h)
@@ -60,11 +51,6 @@ pub cleared_is : (decoder : DecoderState) (payload : Found) (image clear : Image
     → IsFoundImage (with_transparent decoder true) payload clear
     → IsCleared (drawn_pixel_of decoder payload) image clear
 cleared_is decoder (Payload settings bytes) image clear is is_clear =
-    let o : Origin = origin_of decoder settings in
-    let h : History = tokens decoder.pixel_limit bytes in
-    let other : Origin = origin_of (with_transparent decoder true) settings in
-    subst (λ (i : Image). IsCleared (drawn_pixel o h) i clear) (sym is)
-    (subst (λ (c : Image). IsCleared (drawn_pixel o h) (image_of o h) c)
-    (sym (is_clear ∙ ap (image_of other) (tokens-set decoder.pixel_limit true bytes)))
-    (cleared_of o h))
+    rw (is, is_clear, tokens-set decoder.pixel_limit true bytes)
+    (cleared_of (origin_of decoder settings) (tokens decoder.pixel_limit bytes))
 cleared_is decoder (NoPayload fault) image clear is is_clear = absurd is

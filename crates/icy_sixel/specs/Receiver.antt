@@ -1,6 +1,6 @@
 -- What contracts see of a receiver: its decoder, and the image that is open. The bytes of an image
 -- mean what they mean in a session, of a payload or of a DCS sequence. Chunks are not mentioned.
-use Rattle.std.specs.Prelude.{ℕ, true, List, []}
+use Rattle.std.specs.Prelude.{ℕ, true, List, [], None}
 use Rattle.sixel_base.specs.Bytes.{first_terminator}
 use Rattle.sixel_base.specs.Bytes as own
 use Rattle.sixel_base.specs.Decoder.{new_decoder}
@@ -30,6 +30,7 @@ no_image = record {
   start = new_decoder;
   bytes = [];
   is_refused = true;
+  failure = None;
   writes = 0;
   room = 0;
   paints = 0;

@@ -1,6 +1,7 @@
 -- What the calls of a receiver do, by the receiver before and after. Each field is one fact. The
 -- facts are those of a payload session or a DCS session, in the words that Receiver has for both.
 use Rattle.std.specs.Prelude.{ℕ, ◌≡◌, ◌+◌, ◌≤◌, List, length, Result, Ok, Err, OnErr}
+use Rattle.std.specs.Prelude.{MatchResult}
 use Rattle.std.specs.Result.{result_map_both}
 use Rattle.sixel_base.specs.declared.error.SixelError.{SixelError}
 use Rattle.sixel_base.specs.Decoder.{IsSetAs}
@@ -45,6 +46,9 @@ pub record IsFed (old new : Receiver) (chunk : List ℕ)
   -- what the chunk does to the image
   pub fed : fed_images.IsFed old.image new.image chunk
       (result_map_both (λ received. received) (λ failed. failed.error) result)
+  -- an error is stored, so each later feed of the image returns it again
+  pub failure : MatchResult result (λ _. new.image.failure ≡ old.image.failure)
+      (λ failed. images.IsStored new.image.failure failed.error)
   -- whether the feed fails or not, faults have no effect on which bytes belong to the image
   pub counted : IsCounted old.image new.image chunk (received result)
 

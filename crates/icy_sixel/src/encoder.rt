@@ -1,6 +1,6 @@
-//! The SIXEL output of an image, by [`sixel_encoder`].
+//! The SIXEL output of an image, by [`sixel_encoder`], and dithering, by [`sixel_palette`].
 
-pub use sixel_encoder::{
-    Amplitude, Dither, EncodeOptions, Mapping, TextForm, Tolerance, one_drawing, palette_indices,
-    sixel_encode, sixel_encode_default,
-};
+pub use sixel_encoder::{EncodeOptions, TextForm, one_drawing, sixel_encode, sixel_encode_default};
+pub use sixel_palette::dither::{Amplitude, Dither};
+pub use sixel_palette::dithering::palette_indices;
+pub use sixel_palette::mapping::{Mapping, Tolerance};

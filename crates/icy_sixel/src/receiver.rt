@@ -14,6 +14,7 @@ ghost use Rattle.icy_sixel.specs.Receiver.{OfPayload, OfString, found, idle, is_
 ghost use Rattle.icy_sixel.specs.ReceiverCalls.{IsAborted, IsBegun, IsFed, IsFinished, whole_of};
 ghost use Rattle.icy_sixel.specs.inside.Receiving.{reception_of};
 
+mod failure;
 mod progress;
 mod received_image;
 mod rows;
@@ -24,6 +25,7 @@ use crate::decoder::{
 };
 use crate::script::Status;
 use crate::sixel_image::SixelImage;
+use failure::{Failure, first_error, stored_error};
 pub use received_image::{Height, ReceivedImage};
 pub use rows::{BandStatus, ReceivedBand, band_len, stable_rows};
 use sixel_base::{Result, SixelError};
@@ -83,6 +85,7 @@ enum Open {
 pub struct SixelReceiver {
     decoder: SixelDecoder,
     open: Open,
+    failure: Option<Failure>,
 }
 
 impl Model for SixelReceiver {
@@ -110,6 +113,7 @@ impl SixelReceiver {
         Self {
             decoder,
             open: Open::Nothing,
+            failure: None,
         }
     }
 
@@ -158,9 +162,9 @@ impl SixelReceiver {
     /// Reads a chunk of the open image, and does not consume what follows the image.
     ///
     /// The results are those of the sessions, by [`SixelStreamDecoder::feed`] and
-    /// [`SixelDcsStreamDecoder::feed`]. Chunk boundaries have no effect. After an error each feed
-    /// fails until another image is begun. If no image is open, the error is
-    /// `SixelError::InvalidData("stream decoder has failed")`.
+    /// [`SixelDcsStreamDecoder::feed`]. Chunk boundaries have no effect. But after an error each
+    /// feed returns that error again, until another image is begun. If no image is open, the error
+    /// is `SixelError::InvalidData("stream decoder has failed")`.
     ///
     /// Errors have no effect on which bytes belong to the image. A feed that fails reports how many
     /// bytes of the chunk are the image's own, and whether the image has ended. So a host drops
@@ -173,17 +177,23 @@ impl SixelReceiver {
         ensures { IsFed self.old self.new piece.now result }
     {
         match &mut self.open {
-            Open::Nothing => Err(FailedFeed {
-                error: SixelError::stream_failed(),
-                consumed: 0,
-                status: Status::Payload(SixelFeedStatus::NeedMoreData),
-            }),
+            Open::Nothing => {
+                let mut error = SixelError::stream_failed();
+                stored_error(&mut self.failure, true, &mut error);
+                Err(FailedFeed {
+                    error,
+                    consumed: 0,
+                    status: Status::Payload(SixelFeedStatus::NeedMoreData),
+                })
+            }
             Open::Payload(reader) => {
                 let terminator = reader.terminator();
+                let has_failed = reader.has_failed();
                 match reader.feed(piece) {
                     Ok(fed) => Ok(Received::of_payload(fed)),
-                    Err(error) => {
+                    Err(mut error) => {
                         let fed = payload_end(terminator, piece);
+                        stored_error(&mut self.failure, has_failed, &mut error);
                         Err(FailedFeed {
                             error,
                             consumed: fed.consumed,
@@ -194,10 +204,12 @@ impl SixelReceiver {
             }
             Open::ControlString(reader) => {
                 let end = reader.end();
+                let has_failed = reader.has_failed();
                 match reader.feed(piece) {
                     Ok(fed) => Ok(Received::of_sequence(fed)),
-                    Err(error) => {
+                    Err(mut error) => {
                         let fed = string_end(end, piece);
+                        stored_error(&mut self.failure, has_failed, &mut error);
                         Err(FailedFeed {
                             error,
                             consumed: fed.consumed,
@@ -242,7 +254,8 @@ impl SixelReceiver {
     ///
     /// The open command is closed first. Released rows are not among the pixels. No pixel is
     /// copied. An error closes the image too, and leaves the decoder unchanged. The errors are
-    /// those of the sessions. If no image is open, it is that of [`feed`](Self::feed).
+    /// those of the sessions, but after a failed feed it is the error of that feed again. If no
+    /// image is open, it is that of [`feed`](Self::feed).
     pub fn finish(&mut self) -> Result<ReceivedImage>
         ensures finished { IsFinished (whole_of self.old.image) self.old self.new result }
         ensures first { IfOk result (λ image.
@@ -250,14 +263,24 @@ impl SixelReceiver {
         ensures report { IfOk result (λ image. received_report image ≡ found_report
             self.old.image.start (found self.old.image.form self.old.image.bytes)) }
     {
+        let failure = self.failure.take();
         let open = mem::replace(&mut self.open, Open::Nothing);
+        let has_failed = open.has_failed();
         let picture = match open {
             Open::Nothing => Err(SixelError::stream_failed()),
             Open::Payload(reader) => reader.finish(),
             Open::ControlString(reader) => reader.finish(),
-        }?;
-        self.decoder.state.registers = picture.registers;
-        Ok(ReceivedImage::from_picture(picture))
+        };
+        match picture {
+            Ok(picture) => {
+                self.decoder.state.registers = picture.registers;
+                Ok(ReceivedImage::from_picture(picture))
+            }
+            Err(mut error) => {
+                first_error(failure, has_failed, &mut error);
+                Err(error)
+            }
+        }
     }
 
     /// Closes the image as [`finish`](Self::finish) does, and returns it whole.
@@ -294,6 +317,7 @@ impl SixelReceiver {
         ensures image { self.new.image ≡ reception_of image }
     {
         self.open = image;
+        self.failure = None;
     }
 }
 

@@ -192,8 +192,8 @@ enum icysixel_code {
     ICYSIXEL_BAD_HEADER = 15,        /* the header has an invalid byte: another DCS sequence */
     ICYSIXEL_MISSING_COMMAND = 16,   /* the data end in the header; from icysixel_decode only */
     ICYSIXEL_INCOMPLETE = 17,        /* the DCS sequence has no terminator yet */
-    ICYSIXEL_STREAM_FAILED = 18,     /* an earlier feed of this payload failed */
-    ICYSIXEL_DCS_STREAM_FAILED = 19, /* an earlier feed of this sequence failed */
+    ICYSIXEL_STREAM_FAILED = 18,     /* no call returns it */
+    ICYSIXEL_DCS_STREAM_FAILED = 19, /* no call returns it */
     /* about palettes */
     ICYSIXEL_COLOR_COUNT = 20, /* the number of colors is not 1 to 256 */
     ICYSIXEL_INDEX_RANGE = 21, /* the palette index of an opaque pixel is past the palette */
@@ -291,8 +291,8 @@ void icysixel_begin_payload(icysixel *handle, int32_t p1, int32_t p2);
 /* Reads a chunk of the open image. A chunk can end anywhere, and chunk boundaries have no effect on
  * the image. After the end of the image a feed consumes nothing and returns the same status again.
  * The errors are ICYSIXEL_NO_SESSION if no image is open, those of the data so far, and
- * ICYSIXEL_OUT_OF_MEMORY. After an error each feed and finish of the image returns
- * ICYSIXEL_STREAM_FAILED for a payload and ICYSIXEL_DCS_STREAM_FAILED for a DCS sequence.
+ * ICYSIXEL_OUT_OF_MEMORY. After an error each feed and finish of the image returns that error
+ * again.
  *
  * Errors have no effect on which bytes belong to the image. If an image is open, a feed that fails
  * writes the number of bytes consumed and the status, too. So the caller goes on to feed until the

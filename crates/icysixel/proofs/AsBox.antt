@@ -1,7 +1,8 @@
 -- A handle and its parts own what a box of the state owns.
-use mir.Syntax.{impl, tnil, dnil}
-use mathlib.Core.List.{[]}
-use denote.Signature.{Slot, plain}
+use Rattle.icysixel.proofs.Steps
+use Steps.{◌≡◌, true, [], Option, Some, arith, nat_tests, impl, tnil, dnil, Slot, plain}
+use Rattle.std.specs.Prelude.{is_some}
+use Rattle.std.proofs.alloc.Calls.{Al}
 use Rattle.std_alloc.proofs.BoxSteps.Form.{Bx}
 use Rattle.std_heap.specs.contracts.Global as Heap
 use Rattle.std_heap.specs.contracts.GlobalAllocator.TheImpl.{ghosts, dict}
@@ -11,18 +12,18 @@ use Rattle.icysixel.proofs.state.State.TheLaws as state
 use Rattle.icysixel.specs.contracts.handle.parts.Parts as Parts
 use Rattle.icysixel.specs.contracts.handle.Handle as Handle
 
-abbrev pub E : Bx
-E = record {
-  row = State.the_row;
-  laws = state.the_row_laws;
-  al = record {
-    row = Heap.the_row;
-    laws = heap.the_row_laws;
-    g = ghosts;
-    d = dict;
-    drops = impl [] tnil dnil;
-  };
+-- the allocator that an export has
+abbrev pub al : Al
+al = record {
+  row = Heap.the_row;
+  laws = heap.the_row_laws;
+  g = ghosts;
+  d = dict;
+  drops = impl [] tnil dnil;
 }
+
+abbrev pub E : Bx
+E = record { row = State.the_row; laws = state.the_row_laws; al = al }
 
 abbrev pub FromParts : Slot 0
 FromParts = plain (λ _. Parts.the_row State.the_row Heap.the_row ghosts)
@@ -32,3 +33,8 @@ FromHandle = plain (λ _. Handle.the_row)
 
 abbrev pub FromHeap : Slot 0
 FromHeap = plain (λ _. Heap.the_row)
+
+-- the state that a handle has
+pub some_of : (o : Option State.the_row.Denot) → is_some o ≡ true
+    → (x : State.the_row.Denot) × (o ≡ Some x)
+some_of o held = grind (arith, nat_tests)

@@ -5,7 +5,7 @@ pub mod Conversion
 pub mod Dense
 pub mod Ended
 pub mod Gathered
-pub mod Known
 pub mod MissingCommand
+pub mod Steps
 pub mod Stored
 pub mod Witnesses

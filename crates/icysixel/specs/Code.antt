@@ -2,7 +2,7 @@
 -- are this library's own, and include/icysixel.h names them. 8 is out of memory, 9 an overflow, and
 -- the codes from 10 on are errors of sizes and data.
 use Rattle.std.specs.Prelude.{◌≡◌, ℕ, nat_le, ℤ, pos, negsuc, Bool, IsTrue, if◌then◌else◌, ◌⊎◌}
-use Rattle.std.specs.Prelude.{List, Option, Some, None, IsSomeAnd, codes}
+use Rattle.std.specs.Prelude.{Option, Some, None, IsSomeAnd}
 use Rattle.sixel_base.specs.CallFault.{CallFault, Exactly, ColorCount, IndexRange, RowsNotFinal}
 use Rattle.sixel_base.specs.CallFault.{RowsReleased, ShortStride}
 use Rattle.sixel_base.specs.Fault.{Fault, text_of, Malformed, TooLarge, MissingCommand, BadHeader}
@@ -43,30 +43,14 @@ IsCodeOf code error.NoSixelData = code ≡ 12
 IsCodeOf code (error.InvalidData text) =
     (fault : Fault) → text_of fault ≡ Some text.now → code ≡ fault_code fault
 
--- the code of a fault of a call on an image and a palette; FinalRows has the codes of rows
+-- the code of a fault of a call on an image, a palette or rows
 abbrev pub IsCallCode : ℕ → CallFault → Type 0
 IsCallCode code (Exactly error) = IsCodeOf code error
 IsCallCode code ColorCount = code ≡ 20
 IsCallCode code IndexRange = code ≡ 21
-IsCallCode code RowsNotFinal = ⊥
-IsCallCode code RowsReleased = ⊥
-IsCallCode code ShortStride = ⊥
-
--- a text of an error of invalid data: that of a fault, of a wrong palette or of a wrong index
-abbrev pub IsFaultText : List ℕ → Type 0
-IsFaultText text =
-    ((fault : Fault) × (text_of fault ≡ Some text))
-    ⊎ ((text ≡ codes "number of colors is not 1 to 256")
-    ⊎ (text ≡ codes "palette index out of range"))
-
--- an error whose text, if it has one, is that of a fault
-abbrev pub IsKnown : SixelError → Type 0
-IsKnown error.OutOfMemory = Unit {0}
-IsKnown error.IntegerOverflow = Unit {0}
-IsKnown (error.InvalidDimensions width height) = Unit {0}
-IsKnown (error.BufferSizeMismatch expected actual) = Unit {0}
-IsKnown error.NoSixelData = Unit {0}
-IsKnown (error.InvalidData text) = IsFaultText text.now
+IsCallCode code RowsNotFinal = code ≡ 22
+IsCallCode code RowsReleased = code ≡ 23
+IsCallCode code ShortStride = code ≡ 7
 
 -- a parameter of a DCS sequence: a number outside of 0 to 65535 means an absent one
 abbrev pub given : ℤ → Option ℕ

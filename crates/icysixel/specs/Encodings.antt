@@ -19,13 +19,13 @@ use Rattle.sixel_encoder.specs.Form.{IsFormText}
 use Rattle.sixel_encoder.specs.IndexedDrawing.{IsPaletteText, IsTextOf, index_range_fault}
 use Rattle.sixel_encoder.specs.IndexedDrawing.{indexed_drawing}
 use Rattle.sixel_encoder.specs.RefinedText.{IsRefinedText}
-use Rattle.sixel_encoder.specs.declared.dither.Amplitude.TheVariants as amplitude
-use Rattle.sixel_encoder.specs.declared.dither.Dither.{Dither}
-use Rattle.sixel_encoder.specs.declared.dither.Dither.TheVariants.{Off, Diffusion, Ordered}
+use Rattle.sixel_palette.specs.declared.dither.Amplitude.TheVariants as amplitude
+use Rattle.sixel_palette.specs.declared.dither.Dither.{Dither}
+use Rattle.sixel_palette.specs.declared.dither.Dither.TheVariants.{Off, Diffusion, Ordered}
 use Rattle.sixel_encoder.specs.declared.form.TextForm.{TextForm}
 use Rattle.sixel_encoder.specs.declared.form.TextForm.TheVariants.{Plain, Compact}
-use Rattle.sixel_encoder.specs.declared.mapping.Mapping.{Mapping}
-use Rattle.sixel_encoder.specs.declared.mapping.Tolerance.TheVariants.{Auto, Squared}
+use Rattle.sixel_palette.specs.declared.mapping.Mapping.{Mapping}
+use Rattle.sixel_palette.specs.declared.mapping.Tolerance.TheVariants.{Auto, Squared}
 use Rattle.icysixel.specs.Code.{IsCallCode, IsCodeOf}
 use Rattle.icysixel.specs.Formats.{is_rgba, pixel_len, rgba_pixels}
 use Rattle.icysixel.specs.Rows.{has_gaps, rows_of, stride_of, wanted}

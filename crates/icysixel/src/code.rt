@@ -3,7 +3,7 @@
 ghost use Rattle.std.specs.Prelude.{◌≡◌, ◌≢◌, Bool, Option, Some, codes};
 ghost use Rattle.sixel_base.specs.CallFault.{CallFault, IsCallFault};
 ghost use Rattle.sixel_base.specs.Fault.{Fault, Faults, IsFault, text_of};
-ghost use Rattle.icysixel.specs.Code.{IsCallCode, IsCodeOf, IsFaultText, IsKnown, IsTold};
+ghost use Rattle.icysixel.specs.Code.{IsCallCode, IsCodeOf, IsTold};
 ghost use Rattle.icysixel.specs.Code.{fault_code, status_code, status_byte};
 
 use icy_sixel::script::Status;
@@ -80,7 +80,6 @@ pub enum FeedStatus {
 
 /// The code of an error.
 pub fn code_of(error: &SixelError) -> u32
-    requires { IsKnown error.now }
     ensures fault { (fault : Fault) → IsFault error.now fault → result ≡ fault_code fault }
     ensures told { (may_want : Bool) (found : Option Fault) → Faults error.now may_want found
         → IsTold result may_want found }
@@ -99,16 +98,17 @@ pub fn code_of(error: &SixelError) -> u32
     }
 }
 
-/// The code of invalid data: one for each text that such an error can have.
+/// The code of invalid data, by their text: that of malformed data, unless it is another one.
 fn text_code(text: &str) -> u32
-    requires { IsFaultText text.now }
     ensures fault { (fault : Fault) → text_of fault ≡ Some text.now → result ≡ fault_code fault }
     ensures count { text.now ≡ codes "number of colors is not 1 to 256" → result ≡ 20 }
     ensures index { text.now ≡ codes "palette index out of range" → result ≡ 21 }
+    ensures not_final { text.now ≡ codes "rows are not final" → result ≡ 22 }
+    ensures released { text.now ≡ codes "rows were released" → result ≡ 23 }
+    ensures stride { text.now ≡ codes "stride is shorter than a row" → result ≡ 7 }
     ensures refused { result ≢ 0 }
 {
     match text {
-        error::MALFORMED => Code::Malformed as u32,
         error::TOO_LARGE => Code::TooLarge as u32,
         error::BAD_HEADER => Code::BadHeader as u32,
         error::MISSING_COMMAND => Code::MissingCommand as u32,
@@ -117,7 +117,10 @@ fn text_code(text: &str) -> u32
         error::DCS_STREAM_FAILED => Code::DcsStreamFailed as u32,
         error::COLOR_COUNT => Code::ColorCount as u32,
         error::INDEX_RANGE => Code::IndexRange as u32,
-        _ => unreachable!(),
+        error::ROWS_NOT_FINAL => Code::RowsNotFinal as u32,
+        error::ROWS_RELEASED => Code::RowsReleased as u32,
+        error::SHORT_STRIDE => Code::BadStride as u32,
+        _ => Code::Malformed as u32,
     }
 }
 

@@ -2,7 +2,7 @@
 
 ghost use Rattle.std.specs.Prelude.{◌≡◌, ◌≢◌, ◌/◌, ◌<◌, ◌≤◌, Some, None, drop, length, take};
 ghost use Rattle.sixel_base.specs.CallFault.{CallFault};
-ghost use Rattle.sixel_encoder.specs.Dithering.{AreDithered, indices_fault};
+ghost use Rattle.sixel_palette.specs.Dithering.{AreDithered, indices_fault};
 ghost use Rattle.icysixel.specs.Code.{IsCallCode};
 ghost use Rattle.icysixel.specs.Encodings.{mapping_of};
 

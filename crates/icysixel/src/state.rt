@@ -1,10 +1,9 @@
 //! The state behind a handle: a receiver, the stored image and the stored text.
 
-ghost use Rattle.std.specs.Prelude.{◌≡◌, ◌≢◌, None, IfErr};
+ghost use Rattle.std.specs.Prelude.{◌≡◌, ◌≢◌, None};
 ghost use Rattle.sixel_base.specs.Decoder.{new_decoder};
 ghost use Rattle.icy_sixel.specs.Receiver.{idle};
 ghost use Rattle.icy_sixel.specs.declared.receiver.received_image.Height.TheVariants.{Bands};
-ghost use Rattle.icysixel.specs.Code.{IsKnown};
 ghost use Rattle.icysixel.specs.Encodings.{IsTextStored};
 ghost use Rattle.icysixel.specs.Heights.{IsStored};
 
@@ -57,7 +56,6 @@ impl State {
         is_complete: bool,
         shape: &mut Shape,
     ) -> u32
-        requires { IfErr answer IsKnown }
         ensures stored { IsStored self.old.height is_complete answer self.new.image shape.new
             result }
         ensures told { result ≢ 0 → shape.new ≡ shape.old }

@@ -1,6 +1,6 @@
 //! The codes and statuses of the library, by their names in `icysixel.h`.
 
-use crate::error::{self, SixelError};
+use crate::error::{self, Result, SixelError};
 
 pub(crate) const OK: u32 = 0;
 pub(crate) const NO_SESSION: u32 = 2;
@@ -31,6 +31,17 @@ pub(crate) const COMPLETE: u32 = 1;
 pub(crate) const CANCELLED: u32 = 2;
 /// The image needs more data, and rows of it have become final.
 pub(crate) const ROWS: u32 = 4;
+
+/// The result of a feed of a session, which after an error returns that it has failed.
+pub(crate) fn session_result(
+    answer: std::result::Result<(), u32>,
+    has_failed: &mut bool,
+    failed: u32,
+) -> Result<()> {
+    let code = if *has_failed { Err(failed) } else { answer };
+    *has_failed = code.is_err();
+    code.map_err(error_of)
+}
 
 /// The error of decoding that a code means.
 pub(crate) fn error_of(code: u32) -> SixelError {

@@ -139,8 +139,9 @@ impl SixelReceiver {
     ///
     /// # Errors
     ///
-    /// Those of [`SixelStreamDecoder::feed`] and [`SixelDcsStreamDecoder::feed`]. If no image is
-    /// open, it is `InvalidData` with `stream decoder has failed`.
+    /// Those of [`SixelStreamDecoder::feed`] and [`SixelDcsStreamDecoder::feed`], but after an
+    /// error each feed returns that error again. If no image is open, it is `InvalidData` with
+    /// `stream decoder has failed`.
     ///
     /// Errors have no effect on which bytes belong to the image. A feed that fails reports how many
     /// bytes of the chunk are the image's own, and whether the image has ended. So a host drops
@@ -173,8 +174,9 @@ impl SixelReceiver {
     ///
     /// # Errors
     ///
-    /// Those of the sessions, and if no image is open that of [`feed`](Self::feed). An error closes
-    /// the image too, and leaves the decoder unchanged.
+    /// Those of the sessions, but after a failed feed its error again. If no image is open, it is
+    /// that of [`feed`](Self::feed). An error closes the image too, and leaves the decoder
+    /// unchanged.
     pub fn finish(&mut self) -> Result<ReceivedImage> {
         self.open = Open::Nothing;
         self.decoder.handle().finish()

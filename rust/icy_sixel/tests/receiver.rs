@@ -220,13 +220,13 @@ fn errors_close_the_image() {
     receiver.begin_dcs();
     assert_eq!(receiver.feed(b"x"), Err(failed(SixelError::NoSixelData, 1, DCS_MORE)));
     assert!(receiver.is_receiving());
-    let ended = failed(invalid(DCS_STREAM_FAILED), 1, Status::Dcs(Dcs::Complete));
+    let ended = failed(SixelError::NoSixelData, 1, Status::Dcs(Dcs::Complete));
     assert_eq!(receiver.feed(b"\x9cx"), Err(ended));
-    assert_eq!(receiver.finish(), Err(invalid(DCS_STREAM_FAILED)));
+    assert_eq!(receiver.finish(), Err(SixelError::NoSixelData));
     assert!(!receiver.is_receiving());
     receiver.begin_dcs();
     assert_eq!(receiver.feed(b"\x1bPq!2~"), Err(failed(invalid(TOO_LARGE), 6, DCS_MORE)));
-    let ended = failed(invalid(DCS_STREAM_FAILED), 1, Status::Dcs(Dcs::Cancelled(0x18)));
+    let ended = failed(invalid(TOO_LARGE), 1, Status::Dcs(Dcs::Cancelled(0x18)));
     assert_eq!(receiver.feed_band(b"\x18-"), Err(ended));
     receiver.begin_dcs();
     assert!(receiver.feed(b"\x1bPq~").is_ok());

@@ -210,7 +210,11 @@ impl Input {
             Ok(receiver.feed(chunk).map(|fed| (fed.consumed, fed.status))?)
         });
         assert_eq!(received, fed);
-        assert_eq!(receiver.finish().and_then(ReceivedImage::into_image), outcome);
+        let image = receiver.finish().and_then(ReceivedImage::into_image);
+        match &fed {
+            Ok(_) => assert_eq!(image, outcome),
+            Err(error) => assert_eq!(image, Err(error.clone())),
+        }
         assert_eq!(registers(receiver.decoder()), registers(&decoder));
 
         if fed.is_err() {

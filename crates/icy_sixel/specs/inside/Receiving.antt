@@ -1,18 +1,37 @@
 -- What contracts see of a receiver, by its parts: the record of the session inside, in the words of
--- both forms. This library's own.
+-- both forms, and the error that is stored. This library's own.
+use Rattle.std.specs.Prelude.{Option, Some, None}
+use Rattle.std.specs.Option.{option_map}
+use Rattle.sixel_base.specs.Fault.{Fault, Malformed, TooLarge, BadHeader}
+use Rattle.sixel_base.specs.Fault.{StreamFailed, DcsStreamFailed, Incomplete, NoIntroducer}
+use Rattle.sixel_base.specs.Fault.{Overflow}
 use Rattle.sixel_decoder.specs.Reception.{Reception, of_payload, of_sequence}
 use Rattle.icy_sixel.specs.Receiver.{Receiver, no_image}
 use Rattle.icy_sixel.specs.declared.receiver.Open.{Open}
 use Rattle.icy_sixel.specs.declared.receiver.Open.TheVariants as opened
 use Rattle.icy_sixel.specs.declared.receiver.SixelReceiver.TheInside.{Inside}
+use Rattle.icy_sixel.specs.declared.receiver.failure.Failure.{Failure}
+use Rattle.icy_sixel.specs.declared.receiver.failure.Failure.TheVariants as failures
 
 abbrev pub reception_of : Open → Reception
 reception_of opened.Nothing = no_image
 reception_of (opened.Payload reader) = of_payload reader
 reception_of (opened.ControlString reader) = of_sequence reader
 
+-- the fault of an error that is stored, where a failed allocation is none
+abbrev pub fault_of : Failure → Option Fault
+fault_of failures.Malformed = Some Malformed
+fault_of failures.TooLarge = Some TooLarge
+fault_of failures.BadHeader = Some BadHeader
+fault_of failures.StreamFailed = Some StreamFailed
+fault_of failures.DcsStreamFailed = Some DcsStreamFailed
+fault_of failures.Incomplete = Some Incomplete
+fault_of failures.NoIntroducer = Some NoIntroducer
+fault_of failures.Overflow = Some Overflow
+fault_of failures.OutOfMemory = None
+
 abbrev pub receiver_of : Inside → Receiver
 receiver_of receiver = record {
   decoder = receiver.decoder;
-  image = reception_of receiver.open;
+  image = record (reception_of receiver.open) { failure = option_map fault_of receiver.failure };
 }

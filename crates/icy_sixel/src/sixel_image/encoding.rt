@@ -7,9 +7,10 @@ ghost use Rattle.sixel_base.specs.Limits.{Limit};
 use crate::sixel_image::{BackgroundMode, SixelImage};
 use sixel_base::{Result, SixelError};
 use sixel_encoder::{
-    EncodeOptions, Mapping, Source, TextForm, encode_in_palette, encode_refined, encode_source,
+    EncodeOptions, Source, TextForm, encode_in_palette, encode_refined, encode_source,
     encode_with_indices, one_drawing,
 };
+use sixel_palette::mapping::Mapping;
 use std::alloc::Global;
 
 impl SixelImage {

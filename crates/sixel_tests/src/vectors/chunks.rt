@@ -156,7 +156,7 @@ impl Input {
                     count = if is_there { failing } else { count };
                     write!(found, "\t{count} rejected")?;
                     push_error(found, &error)?;
-                    self.check_failed(session)?;
+                    self.check_failed(session, error)?;
                     return Ok((count, 0));
                 }
             }
@@ -168,12 +168,14 @@ impl Input {
         Ok((count, drawn_height))
     }
 
-    /// Checks that a session fails for good.
-    fn check_failed(&self, mut session: Session<'_>) -> Result<()> {
-        let failed = Some(SixelError::InvalidData(match self.form {
-            Form::Payload(_) => "stream decoder has failed",
-            Form::Dcs => "DCS stream decoder has failed",
-        }));
+    /// Checks that a session fails for good, a receiver with its first error.
+    fn check_failed(&self, mut session: Session<'_>, first: SixelError) -> Result<()> {
+        let is_receiver = matches!(session, Session::Receiver(_));
+        let failed = Some(match (is_receiver, self.form) {
+            (true, _) => first,
+            (false, Form::Payload(_)) => SixelError::InvalidData("stream decoder has failed"),
+            (false, Form::Dcs) => SixelError::InvalidData("DCS stream decoder has failed"),
+        });
         ensure(session.feed(b"").err() == failed, "an empty feed")?;
         ensure(session.feed(&self.bytes).err() == failed, "a feed")?;
         let is_idle = session.is_idle() && session.drawn_height() == 0;

@@ -1,6 +1,6 @@
 //! The session that decodes one DCS sequence in chunks.
 
-use crate::codes::{CANCELLED, COMPLETE, MORE, error_of};
+use crate::codes::{CANCELLED, COMPLETE, DCS_STREAM_FAILED, MORE, error_of, session_result};
 use crate::decoder::SixelDecoder;
 use crate::error::Result;
 use crate::ffi::Fed;
@@ -22,12 +22,13 @@ use crate::status::{SixelDcsFeedResult, SixelDcsFeedStatus};
 #[must_use = "a session gives its image by `finish`"]
 pub struct SixelDcsStreamDecoder<'a> {
     owner: &'a mut SixelDecoder,
+    has_failed: bool,
 }
 
 impl<'a> SixelDcsStreamDecoder<'a> {
     /// The session of the DCS sequence that the decoder has begun.
     pub(crate) fn new(owner: &'a mut SixelDecoder) -> Self {
-        Self { owner }
+        Self { owner, has_failed: false }
     }
 
     /// Reads a chunk up to the DCS sequence's end; what follows is left to the caller.
@@ -44,7 +45,7 @@ impl<'a> SixelDcsStreamDecoder<'a> {
     /// - after an error `InvalidData` with `DCS stream decoder has failed`
     pub fn feed(&mut self, chunk: &[u8]) -> Result<SixelDcsFeedResult> {
         let (fed, answer) = self.owner.handle().feed(chunk);
-        answer.map_err(error_of)?;
+        session_result(answer, &mut self.has_failed, DCS_STREAM_FAILED)?;
         Ok(SixelDcsFeedResult { consumed: fed.consumed, status: string_status(fed) })
     }
 
@@ -97,6 +98,9 @@ impl<'a> SixelDcsStreamDecoder<'a> {
     /// - `InvalidData` with `DCS stream decoder has failed` after a failed feed
     /// - `OutOfMemory` if an allocation fails
     pub fn finish(self) -> Result<SixelImage> {
+        if self.has_failed {
+            return Err(error_of(DCS_STREAM_FAILED));
+        }
         self.owner.handle().finish()?.into_image()
     }
 

@@ -1,6 +1,6 @@
 //! The session that decodes one payload in chunks.
 
-use crate::codes::{MORE, error_of};
+use crate::codes::{MORE, STREAM_FAILED, error_of, session_result};
 use crate::decoder::SixelDecoder;
 use crate::error::Result;
 use crate::ffi::Fed;
@@ -15,12 +15,13 @@ use crate::status::{SixelFeedResult, SixelFeedStatus};
 #[must_use = "a session gives its image by `finish`"]
 pub struct SixelStreamDecoder<'a> {
     owner: &'a mut SixelDecoder,
+    has_failed: bool,
 }
 
 impl<'a> SixelStreamDecoder<'a> {
     /// The session of the payload that the decoder has begun.
     pub(crate) fn new(owner: &'a mut SixelDecoder) -> Self {
-        Self { owner }
+        Self { owner, has_failed: false }
     }
 
     /// Reads a chunk up to its first terminator, which is left to the caller.
@@ -35,7 +36,7 @@ impl<'a> SixelStreamDecoder<'a> {
     /// [`InvalidData`](crate::SixelError::InvalidData) with `stream decoder has failed`.
     pub fn feed(&mut self, chunk: &[u8]) -> Result<SixelFeedResult> {
         let (fed, answer) = self.owner.handle().feed(chunk);
-        answer.map_err(error_of)?;
+        session_result(answer, &mut self.has_failed, STREAM_FAILED)?;
         Ok(SixelFeedResult { consumed: fed.consumed, status: payload_status(fed) })
     }
 
@@ -78,6 +79,9 @@ impl<'a> SixelStreamDecoder<'a> {
     ///
     /// Those of [`feed`](Self::feed), and `OutOfMemory`. They leave the decoder unchanged.
     pub fn finish(self) -> Result<SixelImage> {
+        if self.has_failed {
+            return Err(error_of(STREAM_FAILED));
+        }
         self.owner.handle().finish()?.into_image()
     }
 

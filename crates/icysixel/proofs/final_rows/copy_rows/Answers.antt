@@ -1,4 +1,4 @@
-use Rattle.std.proofs.Common.{◌≡◌, ◌∙◌, ℕ, List, Option, ap, refl}
+use Rattle.std.proofs.Common.{◌≡◌, ℕ, List, Option, refl}
 use Rattle.std.proofs.Common.{Ok, Err, Result, arith, unwrap_or}
 use Rattle.sixel_base.specs.declared.error.SixelError.{SixelError}
 use Rattle.icy_sixel.specs.FinalRows.{AreRowsCopied, RowLayout}
@@ -26,10 +26,8 @@ pub returns-in-Ok-clause-copied : goal.returns-in-Ok-clause-copied
 returns-in-Ok-clause-copied c =
     let image = c.args.state.now.receiver.image in
     let same : c.row_layout.result ≡ layout_of (columns_so_far image) c.args.layout.now =
-    c.row_layout.ensures
-    ∙ ap (λ (n : ℕ). layout_of n c.args.layout.now)
-    (ap (λ (p : ℕ × ℕ). p.0) c.unwrap_or-width.ensures)
-    ∙ layout_is image c.size_so_far.result c.args.layout.now c.size_so_far.ensures in
+    rw (c.row_layout.ensures, c.unwrap_or-width.ensures)
+    (layout_is image _ c.args.layout.now c.size_so_far.ensures) in
     record {
       closed = λ shut. absurd (grind (arith, shut));
       opened = λ _. record {
@@ -44,10 +42,8 @@ pub returns-in-Err-clause-copied : goal.returns-in-Err-clause-copied
 returns-in-Err-clause-copied c =
     let image = c.args.state.now.receiver.image in
     let same : c.row_layout.result ≡ layout_of (columns_so_far image) c.args.layout.now =
-    c.row_layout.ensures
-    ∙ ap (λ (n : ℕ). layout_of n c.args.layout.now)
-    (ap (λ (p : ℕ × ℕ). p.0) c.unwrap_or-width.ensures)
-    ∙ layout_is image c.size_so_far.result c.args.layout.now c.size_so_far.ensures in
+    rw (c.row_layout.ensures, c.unwrap_or-width.ensures)
+    (layout_is image _ c.args.layout.now c.size_so_far.ensures) in
     record {
       closed = λ shut. absurd (grind (arith, shut));
       opened = λ _. record {

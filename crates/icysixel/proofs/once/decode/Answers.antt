@@ -2,8 +2,5 @@ use Rattle.icysixel.proofs.once.decode.Goals as goal
 use Rattle.std.proofs.Common.{arith}
 use Rattle.std.proofs.lemmas.Bool.Decides.{nat_tests}
 
-pub store-requires : goal.store-requires
-store-requires c = grind (arith, nat_tests)
-
 pub returns-clause-decoded : goal.returns-clause-decoded
 returns-clause-decoded c = grind (arith, nat_tests)

@@ -1,12 +1,11 @@
-use Rattle.std.proofs.Common.{◌≡◌, ℕ, ◌+◌, ◌/◌, ◌<◌, ◌≤◌, List, length, map, refl, sym, ap}
+use Rattle.std.proofs.Common.{◌≡◌, ℕ, ◌+◌, ◌<◌, ◌≤◌, List, length, map, sym, ap}
 use Rattle.std.proofs.Common.{◌∙◌, take, ⊎_elim, arith}
-use Rattle.std.specs.Prelude.{◌==◌, ◌||◌, Some, nat_lt}
+use Rattle.std.specs.Prelude.{Some}
 use Rattle.std.proofs.lemmas.Bool.{cases_lt}
 use Rattle.std.proofs.lemmas.Bool.Decides.{nat_tests}
 use Rattle.std.proofs.lemmas.List.{length-append, length-map, length_push}
 use Rattle.sixel_base.specs.CallFault.{ColorCount, color_count_fault}
 use Rattle.sixel_palette.specs.Refined.{AreOnTop, register_color}
-use Rattle.icysixel.proofs.Calls.{refined_known}
 use Rattle.icysixel.proofs.refined.icysixel_refine_palette.Goals as goal
 
 -- there is at most one witness more than there are entries
@@ -15,17 +14,12 @@ witnesses-le : (Member : List ℕ → Type 0) (max_colors : ℕ)
     → AreOnTop Member max_colors base entries witnesses
     → length witnesses ≤ length entries + 1
 witnesses-le Member max_colors base entries witnesses h =
+    let joined = length-append base (map register_color h.tops) in
     let size : length entries ≡ length base + length h.tops =
-    rw h.whole
-    (omega (
-      arith,
-      length-append base (map register_color h.tops),
-      length-map h.tops register_color,
-    )) in
+    rw h.whole (omega (arith, length-map h.tops register_color)) in
     ⊎_elim (λ (some : 0 < length h.tops).
-    let last = h.some some in omega (arith, ap length last.2, length_push h.tops last.0, size))
-    (λ (none : length h.tops ≤ 0). omega (arith, ap length (h.none (omega arith))))
-    (cases_lt 0 (length h.tops))
+    let last = h.some some in rw last.2 (omega (arith, length_push h.tops last.0)))
+    (λ none. rw (h.none (omega arith)) (omega arith)) (cases_lt 0 (length h.tops))
 
 -- a number of colors without a fault is at most 256
 count-le : (most : ℕ) → ¬ (color_count_fault most ≡ Some ColorCount) → most ≤ 256
@@ -49,14 +43,6 @@ write_refined-requires-clause-witnesses c =
       c.min.ensures,
       c.from.ensures,
     )
-
-pub code_of-requires : goal.code_of-requires
-code_of-requires c =
-    let most = c.args.max_colors in
-    let whole = c.buffers_code-code.ensures.whole c.if-code.false in
-    refined_known c.in-Err.error (length c.args.pixels.now / 4) most (most == 0 || nat_lt 256 most)
-    refl (λ e. c.in-Err.ensures.colors whole e) (λ e. c.in-Err.ensures.area whole e)
-    (λ e. c.in-Err.ensures.memory whole e)
 
 pub returns-in-Ok-clause-refined : goal.returns-in-Ok-clause-refined
 returns-in-Ok-clause-refined c = λ _. record {

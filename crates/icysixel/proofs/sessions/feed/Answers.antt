@@ -1,5 +1,4 @@
-use Rattle.std.proofs.Common.{◌≡◌, ◌∙◌, ℕ, List, [], ◌∷◌, length, refl, ap, subst, arith}
-use Rattle.std.proofs.Common.{rules}
+use Rattle.std.proofs.Common.{◌≡◌, ◌∙◌, ℕ, List, [], ◌∷◌, length, refl, ap, subst, arith, rules}
 use Rattle.std.specs.Prelude.{slice_index}
 use Rattle.icy_sixel.specs.Receiver.{Receiver}
 use Rattle.icysixel.specs.Feed.{IsFed}

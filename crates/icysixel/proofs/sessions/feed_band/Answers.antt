@@ -1,5 +1,4 @@
-use Rattle.std.proofs.Common.{arith, subst}
-use Rattle.icysixel.specs.Feed.{IsFed}
+use Rattle.std.proofs.Common.{arith}
 use Rattle.icysixel.proofs.sessions.feed_band.Goals as goal
 use Rattle.icysixel.proofs.sessions.feed_band.Goals.{then-code, else-code}
 use Rattle.icysixel.proofs.sessions.feed_band.Goals.{else-goes_on-via-else-goes_on}
@@ -11,9 +10,7 @@ pub returns-then-before-rows_so_far-clause-fed : goal.returns-then-before-rows_s
 returns-then-before-rows_so_far-clause-fed c =
     record {
       fed = c.feed-code.new.fed;
-      is_fed =
-          subst (λ band. IsFed c.args.state.now c.feed-code.new.state band c.feed-code.new.fed
-          c.feed-code.result) c.band_len.ensures.band c.feed-code.ensures.fed;
+      is_fed = rw c.band_len.ensures.band at c.feed-code.ensures.fed;
       reported = λ ok. elim c.if-code.branch [
         | then-code w ↦ grind arith
         | else-code w ↦ grind arith
@@ -28,9 +25,7 @@ pub returns-else-goes_on-clause-fed : goal.returns-else-goes_on-clause-fed
 returns-else-goes_on-clause-fed c =
     record {
       fed = c.feed-code.new.fed;
-      is_fed =
-          subst (λ band. IsFed c.args.state.now c.feed-code.new.state band c.feed-code.new.fed
-          c.feed-code.result) c.band_len.ensures.band c.feed-code.ensures.fed;
+      is_fed = rw c.band_len.ensures.band at c.feed-code.ensures.fed;
       reported = λ ok. elim c.if-code.branch [
         | then-code w ↦ elim c.else-goes_on.branch [
           | else-goes_on-via-then-goes_on+else-before-rows_so_far v ↦ grind arith

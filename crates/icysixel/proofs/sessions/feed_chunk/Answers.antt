@@ -1,10 +1,6 @@
 use Rattle.std.proofs.Common.{arith}
-use Rattle.icysixel.proofs.Known.{received_known}
 use Rattle.icysixel.proofs.sessions.feed_chunk.Goals as goal
 use Rattle.std.proofs.lemmas.Bool.Decides.{nat_tests}
-
-pub code_of-requires : goal.code_of-requires
-code_of-requires c = received_known c.in-Err.field-0.error _ _ _ _ c.in-Err.ensures.fed.error
 
 pub returns-in-Ok-clause-fed : goal.returns-in-Ok-clause-fed
 returns-in-Ok-clause-fed c = grind (arith, nat_tests)

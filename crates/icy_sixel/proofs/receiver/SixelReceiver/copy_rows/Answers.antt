@@ -9,6 +9,7 @@ use Rattle.sixel_decoder.specs.FinalRows.{found_pixel}
 use Rattle.sixel_decoder.specs.Reception.{HasNoPayload, IsPayloadOf}
 use Rattle.icy_sixel.specs.FinalRows.{rows_so_far}
 use Rattle.icy_sixel.specs.Receiver.{Receiver, Reception}
+use Rattle.icy_sixel.proofs.StoredErrors.{lent_stored, none_stored}
 use Rattle.icy_sixel.proofs.receiver.SixelReceiver.copy_rows.Goals as goal
 use Rattle.icy_sixel.proofs.receiver.SixelReceiver.copy_rows.Goals.{in-Some, in_default}
 
@@ -25,7 +26,8 @@ returns-clause-copied c =
       pixels = elim c.match-payload.branch [
         | in-Some w ↦
             let payload = w.in-Some.payload.now in
-            let is = subst (IsPayloadOf payload) held w.in-Some.ensures.lent in
+            let is = subst (IsPayloadOf payload) held
+            (lent_stored payload _ _ w.in-Some.ensures.lent) in
             rw w.out-is
             (subst (λ (shown : ℕ → ℕ → List ℕ). AreCopied shown c.args.first c.args.rows
             c.args.layout c.args.out.now w.copy_rows.new.out)
@@ -33,7 +35,8 @@ returns-clause-copied c =
             ∙ sym (ap (found_pixel image.start) is.drawn))
             w.copy_rows.ensures.copied)
         | in_default w ↦
-            let lost = subst HasNoPayload held (w.in_default.ensures.none refl) in
+            let lost = subst HasNoPayload held
+            (none_stored _ _ (w.in_default.ensures.none refl)) in
             let none : rows_so_far image ≡ 0 = search (rules, lost.heading) in
             let no_row : c.args.rows ≡ 0 = grind (arith, nat_tests, above, none) in
             λ row byte inside.

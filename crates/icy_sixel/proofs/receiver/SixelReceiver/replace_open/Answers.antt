@@ -1,4 +1,4 @@
-use Rattle.std.proofs.Common.{ap, refl}
+use Rattle.std.proofs.Common.{ap, arith}
 use Rattle.icy_sixel.specs.declared.receiver.SixelReceiver.{SixelReceiver}
 use Rattle.icy_sixel.proofs.receiver.SixelReceiver.replace_open.Goals as goal
 
@@ -6,4 +6,4 @@ pub returns-clause-decoder : goal.returns-clause-decoder
 returns-clause-decoder c = ap (λ (r : SixelReceiver). r.decoder) c.self.view_is
 
 pub returns-clause-image : goal.returns-clause-image
-returns-clause-image c = refl
+returns-clause-image c = grind arith

@@ -1,10 +1,12 @@
 use Rattle.std.proofs.Common.{◌∷◌, [], Bool, Ok, refl}
 use Rattle.std.specs.Bool.{then_some}
+use Rattle.std.specs.Option.{option_map}
 use Rattle.std.specs.Prelude.{IfSome, IsTrue}
 use Rattle.sixel_decoder.specs.declared.received.Received.{Received}
 use Rattle.icy_sixel.specs.ReceiverCalls.{IsFed}
-use Rattle.icy_sixel.specs.inside.Receiving.{receiver_of}
+use Rattle.icy_sixel.specs.inside.Receiving.{fault_of, receiver_of}
 use Rattle.icy_sixel.proofs.Chunks.{payload_fed_counted, string_fed_counted}
+use Rattle.icy_sixel.proofs.StoredErrors.{fed_ok}
 use Rattle.icy_sixel.proofs.receiver.SixelReceiver.try_byte.Goals as goal
 use Rattle.icy_sixel.proofs.receiver.SixelReceiver.try_byte.Goals.{in-Payload, in-ControlString}
 use Rattle.std.proofs.Common.{arith}
@@ -16,17 +18,23 @@ fed : (c : goal.After-then_some) → IsTrue c.match-self.is_read.0
     (Ok (record { consumed = 1; status = c.match-self.is_read.1 }))
 fed c = elim c.match-self.branch [
   | in-Payload w ↦ rw (← c.self.view_is, w.in-Payload.is, w.self-inside-is, w.is_read-is) (λ is.
-      let now = w.try_byte.ensures.fed is in record {
+      let now = fed_ok _ _ (option_map fault_of c.self.inside.failure) (c.args.byte ∷ []) _
+      (w.try_byte.ensures.fed is).fed in
+      record {
         decoder = refl;
-        fed = now.fed;
-        counted = payload_fed_counted _ _ (c.args.byte ∷ []) _ now;
+        fed = now;
+        failure = refl;
+        counted = payload_fed_counted _ _ _ (c.args.byte ∷ []) _ refl now;
       })
   | in-ControlString w ↦
       rw (← c.self.view_is, w.in-ControlString.is, w.self-inside-is, w.is_read-is) (λ is.
-      let now = w.try_byte-in-ControlString.ensures.fed is in record {
+      let now = fed_ok _ _ (option_map fault_of c.self.inside.failure) (c.args.byte ∷ []) _
+      (w.try_byte-in-ControlString.ensures.fed is) in
+      record {
         decoder = refl;
         fed = now;
-        counted = string_fed_counted _ _ (c.args.byte ∷ []) _ now;
+        failure = refl;
+        counted = string_fed_counted _ _ (c.args.byte ∷ []) _ refl now;
       })
 ]
 

@@ -1,4 +1,4 @@
-use Rattle.std.proofs.Common.{◌≡◌, List, ℕ, sym, refl}
+use Rattle.std.proofs.Common.{◌≡◌, List, ℕ, sym, refl, arith}
 use Rattle.std.specs.Prelude.{All, IfErr, IfOk, MatchOption, OnOk, Result, Err, string_bytes, ◌<◌}
 use Rattle.sixel_base.specs.declared.error.SixelError.{SixelError}
 use Rattle.sixel_base.specs.declared.error.SixelError.TheVariants.{OutOfMemory}
@@ -7,10 +7,9 @@ use Rattle.sixel_encoder.specs.Compact.{IsCompactText}
 use Rattle.sixel_encoder.specs.declared.form.TextForm.TheVariants.{Compact}
 use Rattle.sixel_encoder.specs.Encoding.{image_fault}
 use Rattle.icy_sixel.specs.ImageView.{image_value}
-use Rattle.sixel_encoder.proofs.EncodedText.{hidden-written, one_string-written}
-use Rattle.sixel_encoder.proofs.EncodedText.{read_back-written, short-written}
+use Rattle.sixel_encoder.proofs.EncodedText.{hidden-written, one_string-written, read_back-written}
+use Rattle.sixel_encoder.proofs.EncodedText.{short-written}
 use Rattle.icy_sixel.proofs.sixel_image.SixelImage.encode_compact.Goals as goal
-use Rattle.std.proofs.Common.{arith}
 use Rattle.std.proofs.lemmas.Bool.Decides.{nat_tests}
 
 -- what is ensured of a compact output
@@ -35,31 +34,27 @@ returns-clause-text c = (told c).text
 
 pub returns-clause-hidden : goal.returns-clause-hidden
 returns-clause-hidden c = λ other bytes same also.
-    hidden-written Compact string_bytes c.encode_source.result (image_value c.args.self.now) other
-    c.args.options.now.max_colors bytes
+    hidden-written Compact string_bytes _ _ other _ bytes
     (λ drawing another fits is of.
     c.one_drawing.ensures _ other _ drawing another fits (sym same) is of)
     (told c).bytes_of (told c).text also
 
 pub returns-clause-short : goal.returns-clause-short
 returns-clause-short c = λ plain also.
-    short-written Compact string_bytes c.encode_source.result (image_value c.args.self.now)
-    c.args.options.now.max_colors plain
+    short-written Compact string_bytes _ _ _ plain
     (λ drawing another fits is of.
     c.one_drawing.ensures _ (image_value c.args.self.now) _ drawing another fits refl is of)
     (told c).bytes_of (told c).text also
 
 pub returns-clause-one_string : goal.returns-clause-one_string
 returns-clause-one_string c = λ limit room.
-    one_string-written Compact string_bytes c.encode_source.result limit
-    (image_value c.args.self.now) c.args.options.now.max_colors
-    (told c).refused (told c).bytes_of (told c).text room
+    one_string-written Compact string_bytes _ limit _ _ (told c).refused (told c).bytes_of
+    (told c).text room
 
 pub returns-clause-readable : goal.returns-clause-readable
 returns-clause-readable c = grind (arith, nat_tests)
 
 pub returns-clause-read_back : goal.returns-clause-read_back
 returns-clause-read_back c = λ decoder reads.
-    read_back-written Compact string_bytes c.encode_source.result decoder
-    (image_value c.args.self.now) c.args.options.now.max_colors
-    (told c).refused (told c).bytes_of (told c).text reads
+    read_back-written Compact string_bytes _ decoder _ _ (told c).refused (told c).bytes_of
+    (told c).text reads

@@ -1,115 +1,47 @@
 -- `none` makes a null pointer with no capacity, beside which nothing is owned.
-use Rattle.std.proofs.Common.{lit<, arith}
-use mathlib.Core.Path.{refl, sym, subst}
-use mathlib.Core.List.{List, [], ◌∷◌, ◌++◌}
-use seplogic.Ra.Ura.{Ura}
-use lib.Dec.{T}
-use mir.Syntax.{w64}
-use Prim.Native.Nat.{◌^◌}
-use mir.Val.{Val, vint, vstruct, vnil, vcons, has_ty, WT}
-use base.Logic.{SProp, ent, emp, id⊢}
-use base.Fml.{ftrue, fsep}
-use prog.Memory.{Memory}
-use prog.Routine.{Routine}
-use prog.Wp.{WpFn, Tables}
-use types.Logic.{Logic}
-use contract.Monad.{Fun}
-use contract.Running.{tables, tables_of}
-use sound.WpLaws.{WpFn-mono}
-use types.Kit.{Item, ‵, raw, ◌⊛◌, ◌$◌, ◌∵◌, !, qed, by, move, drop, use1, join, split, fsplit}
-use types.Kit.{fjoin, fpack, feq_i, flt_i, suffices, done}
-use types.Part.{agg}
-use types.Run.{no_more, and_then, of_opd, lit, returns, enter}
-use types.ByLocal.{alloc_all, pass_all, free_all, look_at, get, sets}
-use denote.Exit.{yes}
-use denote.RattleType.{Valss}
-use denote.Builtin.{RawPtr, usize}
-use denote.RawPtr.{null_ptr, ptr_val}
-use denote.Struct.Struct.{within}
-use denote.Struct.Owning.{shape, to}
-use denote.Signature.{type_at}
-use denote.Steps.{nothing}
-use denote.Triple.Spec.{triple_of}
-use denote.Triple.Table.{entered}
-use denote.Triple.Walked.{says, Stays, stay_dropped, walk_of, ends_at, Goes-dropped, walk_Meets}
-use Rattle.std.proofs.alloc.Calls.{α, handle_tells}
-use Rattle.std_alloc.proofs.VecSteps.El.{vec_ty}
-use Rattle.std_alloc.proofs.ResultValues.{and_tt}
-use Rattle.std_heap.specs.contracts.Global as Heap
+use Rattle.icysixel.proofs.Steps
+use Steps.{[], ◌∷◌, refl, lit<, w64, arith, proved, emp, raw, ◌$◌, ◌∵◌, !, qed, drop, join, fjoin}
+use Steps.{suffices, done, agg, no_more, and_then, of_opd, lit, returns, enter, alloc_all, pass_all}
+use Steps.{free_all, look_at, get, sets, yes, null_ptr, nothing, on_entry, says, Stays}
+use Steps.{stay_dropped, walk_of, ends_at, Goes-dropped}
+use mir.Val.{Fits}
+use Rattle.std_heap.proofs.Global.TheLaws as heap
+use Rattle.icysixel.proofs.AsBox.{FromHeap as From}
+use Rattle.icysixel.proofs.AsBytes.{fields_in}
 use Rattle.icysixel.specs.contracts.bytes.Bytes as Bytes
-use Rattle.icysixel.proofs.AsBytes.{E, FromHeap as From}
+use Rattle.icysixel.proofs.bytes.Bytes.TheLaws as laws
 use Rattle.icysixel.specs.contracts.bytes.Bytes.none as F
-use Rattle.icysixel.specs.contracts.bytes.Bytes.none.Key.{name as #self}
-use Rattle.icysixel.proofs.bytes.Bytes.none.Statement as stated
+use Rattle.icysixel.proofs.bytes.Bytes.none.Statement.{statement}
 use Rattle.icysixel.proofs.bytes.Bytes.none.Code as code
 
 abbrev stayed : Stays (F.ended).signature.params (F.ended).kept
 stayed = (stay_dropped From yes, tt)
 
-module _ {M : Type 1} {𝓤 : Ura M} (𝓛 : Logic 𝓤) (at_mem : Memory → SProp 𝓤) (run : Routine → Fun 𝓤)
-    (𝓣 : Tables 𝓤 𝓛.H) where
-  open 𝓛 use {H}
-
-  walk : (z : (walk_of 𝓛 F.ended stayed (F.clauses 𝓛 at_mem run)).Ghost)
-      → ent 𝓤 ((walk_of 𝓛 F.ended stayed (F.clauses 𝓛 at_mem run)).pre z)
-      (WpFn 𝓤 H 𝓣.C 𝓣.Λ code.function (z.0.4.0 ++ [])
-      ((walk_of 𝓛 F.ended stayed (F.clauses 𝓛 at_mem run)).post z))
-  walk z =
-      let Post = (walk_of 𝓛 F.ended stayed (F.clauses 𝓛 at_mem run)).post z in
-      let a : Heap.the_row.Denot = z.0.3.0 in
-      let To = type_at (F.signature).result tt in
-      let made : To.Denot = record {
-        at = null_ptr;
-        len = 0;
-        capacity = 0;
-        alloc = a;
-        items = [];
-        fit = (refl, omega arith);
-      } in
-      qed 𝓛 ((‵ ftrue ⊛ ‵ (fsep (Heap.the_row.own_val a z.0.4.0) ftrue)) ∷ raw (emp 𝓤) ∷ []) ∵ split
-      ! $ drop ! $ fsplit ! $
-      handle_tells E.al ! a z.0.4.0 (λ hv eh fa. move ! (1 ∷ 2 ∷ []) $ drop ! $ drop ! $
-      let w : Val =
-      vstruct
-      (vcons (ptr_val null_ptr) (vcons (vint w64 0) (vcons (vint w64 0) (vcons hv vnil)))) in
-      let typed : T (has_ty (vec_ty E) w) × WT w = (
-        and_tt (has_ty (α E.al) hv) fa.0,
-        (
-          record { fits = lit< tt },
-          (record { fits = lit< tt }, (record { fits = lit< tt }, (fa.1, tt))),
-        ),
-      ) in
-      let Γ : List (Item 𝓤) = ‵ (Heap.the_row.own_val a (hv ∷ [])) ∷ [] in
-      by ! (subst
-      (λ (us : List Val). ent 𝓤 (types.Kit.⋆ 𝓛 Γ) (WpFn 𝓤 H 𝓣.C 𝓣.Λ code.function (us ++ []) Post))
-      (sym eh)
-      (qed 𝓛 Γ ∵ enter ! 𝓣.C 𝓣.Λ code.function (hv ∷ []) _ $ alloc_all ! (λ ls. pass_all ! refl
-      (fa, tt) $
-      sets ! (of_opd ! (lit ! tt)) refl (tt, record { fits = lit< tt }) $
-      sets ! (agg ! (and_then ! (get ! refl)
-      (and_then ! (lit ! tt) (and_then ! (lit ! tt) (and_then ! (get ! refl) (no_more !)))))) refl
-      typed $ returns ! (look_at ! 0 refl) $ free_all ! refl $
-      nothing ! $ nothing ! $ move ! (2 ∷ 0 ∷ []) $ fjoin ! $ flt_i ! 0 (2 ^ 64) (lit< tt) $ feq_i !
-      (List Val) (vint w64 0 ∷ []) (vint w64 0 ∷ []) refl $ fjoin ! $ fjoin ! $
-      flt_i ! 0 (2 ^ 64) (lit< tt) $ feq_i ! (List Val) (vint w64 0 ∷ []) (vint w64 0 ∷ []) refl $
-      fjoin ! $ fjoin ! $
-      feq_i ! (List Val) (ptr_val null_ptr ∷ []) (ptr_val null_ptr ∷ []) refl $ fjoin ! $
-      feq_i ! (List Val) (w ∷ []) (w ∷ []) refl $ fjoin ! $
-      fpack ! (Valss (RawPtr ∷ usize ∷ usize ∷ (Heap.the_field).row ∷ []))
-      (within (shape Bytes.the_type) (to Bytes.the_type made) (w ∷ []))
-      (ptr_val null_ptr ∷ [], (vint w64 0 ∷ [], (vint w64 0 ∷ [], (hv ∷ [], tt)))) $ fjoin ! $
-      use1 𝓛 (‵ (To.own_val made (w ∷ []))) (id⊢ 𝓤 _) $
-      suffices ! _ (ends_at 𝓛 F.ended stayed (F.clauses 𝓛 at_mem run) z w made (tt, tt) (tt, tt)) $
-      says ! (refl, refl) $
-      nothing ! $ nothing ! $ fjoin ! $ join ! $ nothing ! $ join ! $ done !))))
-
-pub none_spec : {M : Type 1} → stated.statement M
-unfolding tables_of
+pub none_spec : {M : Type 1} → statement M
 none_spec 𝓤 𝓛 𝓜 𝓡 wired =
-    let 𝓣 : Tables 𝓤 𝓛.H = tables_of 𝓤 𝓛.H 𝓜 (tables 𝓤 𝓛.H 𝓜 𝓡 𝓡.env) in
-    entered 𝓤 𝓛.H (triple_of 𝓛 F.signature (F.spec 𝓛 𝓜.mem 𝓡.returns)) 𝓣.C 𝓣.Λ #self code.function
-    (code.unfolded 𝓤 𝓛.H 𝓜 𝓡 wired)
-    (walk_Meets 𝓛 F.ended stayed (Goes-dropped 𝓛 0 From yes (λ κs x f. refl), tt)
-    (F.clauses 𝓛 𝓜.mem 𝓡.returns) (WpFn 𝓤 𝓛.H 𝓣.C 𝓣.Λ code.function)
-    (WpFn-mono 𝓤 𝓛.H 𝓛.laws 𝓣 code.function)
-    (walk 𝓛 𝓜.mem 𝓡.returns 𝓣))
+    let c = F.clauses 𝓛 𝓜.mem 𝓡.returns in
+    let W = walk_of 𝓛 F.ended stayed c in
+    proved 𝓛 F.ended stayed c 𝓜 𝓡 (Goes-dropped 𝓛 0 From yes (λ κs x f. refl), tt)
+    F.Key.name code.function (code.unfolded 𝓤 𝓛.H 𝓜 𝓡 wired)
+    (λ κs. (λ h. heap.lowered h ∷ [], tt)) (λ κs. (heap.lowers.val_is, tt))
+    (λ κs qs bounds a g are.
+    let z : W.Ghost = ((κs, qs, bounds, a, (heap.lowered a.0 ∷ [], tt)), tt) in
+    let made : Bytes.the_row.Denot = record {
+      at = null_ptr;
+      len = 0;
+      capacity = 0;
+      alloc = a.0;
+      items = [];
+      fit = (refl, omega arith);
+    } in
+    let zero : Fits w64 0 = record { fits = lit< tt } in
+    qed 𝓛 (raw (on_entry 𝓛 F.signature κs qs a z.0.4) ∷ raw (emp 𝓤) ∷ []) ∵ drop ! $ drop ! $
+    enter ! _ _ _ _ _ $ alloc_all ! (λ l. pass_all ! refl ((tt, ((tt, tt), tt)), tt) $
+    sets ! (of_opd ! (lit ! tt)) refl (tt, zero) $
+    sets ! (agg ! (and_then ! (get ! refl)
+    (and_then ! (lit ! tt) (and_then ! (lit ! tt) (and_then ! (get ! refl) (no_more !)))))) refl
+    (tt, (zero, (zero, (zero, (((tt, tt), tt), tt))))) $
+    returns ! (look_at ! 0 refl) $ free_all ! refl $
+    suffices ! _ (ends_at 𝓛 F.ended stayed c z (laws.lowered made) made (tt, tt) (tt, tt)) $
+    says ! (refl, refl) $ nothing ! $ fields_in ! made (lit< tt) (lit< tt) $ fjoin ! $
+    nothing ! $ nothing ! $ fjoin ! $ join ! $ nothing ! $ join ! $ done !))

@@ -1,8 +1,5 @@
-use Rattle.icysixel.proofs.Calls.{colors_known, failed_by_code}
+use Rattle.icysixel.proofs.Calls.{failed_by_code}
 use Rattle.icysixel.proofs.encoding.Encoding.text_of_image.Goals as goal
-
-pub code_of-requires : goal.code_of-requires
-code_of-requires c = colors_known _ _ c.args.self.now _ _ c.in-Err.error c.in-Err.ensures.fault
 
 pub returns-in-Err-clause-colors : goal.returns-in-Err-clause-colors
 returns-in-Err-clause-colors c =

@@ -1,4 +1,4 @@
-use Rattle.std.proofs.Common.{◌≡◌, ◌∙◌, sym, arith, refl}
+use Rattle.std.proofs.Common.{◌≡◌, ◌∙◌, None, sym, arith, refl}
 use Rattle.sixel_decoder.specs.FinishedImages.{shown_whole}
 use Rattle.sixel_decoder.specs.FinalRows.{found_pixel}
 use Rattle.sixel_decoder.specs.Reception.{of_sequence, found}
@@ -24,6 +24,6 @@ returns-clause-finished c =
     ] in
     let none : picture.first_row ≡ 0 = omega (arith, is.first, stored) in
     finished_as (shown_whole image) (λ p. p.registers) image_value (λ _. picture.registers) image
-    picture _
+    None picture _
     (whole_picture (found_pixel image.start (found image.form image.bytes)) picture none
     ∙ sym c.from_picture.ensures.image) refl is.finished
