@@ -1,7 +1,7 @@
 -- What is drawn of the image of a file, and what a call on it reports.
 use Rattle.std.proofs.Common.{◌≡◌, Option, None, Ok}
 use Rattle.std.proofs.Common.{List, ℕ, Result}
-use Rattle.sixel.specs.netpbm.Image.{Rgba}
+use Rattle.sixel_base.specs.Payload.{Image}
 use Rattle.sixel.specs.declared.netpbm.error.NetpbmError.{NetpbmError}
 use Rattle.sixel_base.specs.CallFault.{CallFault, FailsBy}
 use Rattle.sixel.specs.Drawing.{painting_read}
@@ -14,7 +14,7 @@ pub no_call_fault : {X : Type 0} (fault : Option CallFault) (x : X) → FailsBy 
 no_call_fault fault x by = grind (arith, nat_tests)
 
 -- the colors and the image of two files that were read
-pub both_read : (palette : Result (List (List ℕ)) NetpbmError) (image : Result Rgba NetpbmError)
-    (colors : List (List ℕ)) (drawn : Rgba) → palette ≡ Ok colors → image ≡ Ok drawn
+pub both_read : (palette : Result (List (List ℕ)) NetpbmError) (image : Result Image NetpbmError)
+    (colors : List (List ℕ)) (drawn : Image) → palette ≡ Ok colors → image ≡ Ok drawn
     → painting_read palette image ≡ Ok (record { colors = colors; image = drawn })
 both_read palette image colors drawn read_colors read_image = grind (arith, nat_tests)

@@ -10,7 +10,7 @@ use Rattle.sixel_palette.specs.declared.palette.refined.RefinedPalette.{RefinedP
 use Rattle.sixel_palette.proofs.PaletteOne.{refined_same}
 use Rattle.sixel_encoder.specs.IndexedDrawing.{IsPaletteText}
 use Rattle.sixel_encoder.specs.RefinedText.{IsRefinedText}
-use Rattle.sixel_encoder.specs.declared.mapping.Mapping.{Mapping}
+use Rattle.sixel_palette.specs.declared.mapping.Mapping.{Mapping}
 use Rattle.sixel_encoder.specs.declared.form.TextForm.TheVariants.{Compact}
 use Rattle.sixel.specs.Spread.{AreSpread, IsSpreadText, is_flat, spread_amount, spread_entries}
 use Rattle.std.proofs.lemmas.Bool.Decides.{nat_tests}

@@ -2,7 +2,6 @@ pub mod Form
 pub mod netpbm
 pub mod Number
 pub mod Options
-pub mod Output
 pub mod Words
 pub mod Ending
 pub mod Sequences

@@ -1,17 +1,17 @@
--- Which options the arguments after `draw` state: pairs of a name and a value, of which the last
--- one of a name counts. `-c` and `-p` contradict each other. Names of files follow the options.
--- They are this program's own.
-use Rattle.std.specs.Prelude.{◌≡◌, ◌≢◌, ◌⊎◌, ◌^◌, ◌<◌, ◌≤◌, ◌+◌, ◌∷◌, [], List, ℕ, codes, Option}
-use Rattle.std.specs.Prelude.{IfSome, MatchOption, None, Some, cond, drop, take}
-use Rattle.std.specs.Option.{unwrap_or}
+-- What the arguments after `draw` state: pairs of an option, whose name begins with `-`, and a
+-- value, of which the last one of a name counts, and then names of files. `-c` and `-p` contradict
+-- each other. They are this program's own.
+use Rattle.std.specs.Prelude.{◌∷◌, [], List, ℕ, codes, Option, None, Some, option_map, nat_lt}
+use Rattle.std.specs.Prelude.{if◌then◌else◌, Result, Ok, Err, Bool, false, ◌||◌}
+use Rattle.std.specs.Option.{ok_or, unwrap_or}
+use Rattle.std.specs.Str.{bytes_eq}
 use Rattle.std.specs.Str.Parse.{starts_with_minus}
-use Rattle.sixel_encoder.specs.declared.dither.Amplitude.TheVariants as amplitudes
-use Rattle.sixel_encoder.specs.declared.dither.Dither.{Dither}
-use Rattle.sixel_encoder.specs.declared.dither.Dither.TheVariants as dithers
-use Rattle.sixel_encoder.specs.declared.mapping.Mapping.{Mapping}
-use Rattle.sixel_encoder.specs.declared.mapping.Tolerance.{Tolerance}
-use Rattle.sixel_encoder.specs.declared.mapping.Tolerance.TheVariants.{Auto, Squared}
-use Rattle.sixel.specs.Number.{IsNumber}
+use Rattle.sixel_palette.specs.declared.dither.Amplitude.TheVariants as amplitudes
+use Rattle.sixel_palette.specs.declared.dither.Dither.{Dither}
+use Rattle.sixel_palette.specs.declared.dither.Dither.TheVariants as dithers
+use Rattle.sixel_palette.specs.declared.mapping.Mapping.{Mapping}
+use Rattle.sixel_palette.specs.declared.mapping.Tolerance.TheVariants.{Auto, Squared}
+use Rattle.sixel.specs.Number.{number_within}
 use Rattle.sixel.specs.declared.draw_options.DitherKind.{DitherKind}
 use Rattle.sixel.specs.declared.draw_options.DitherKind.TheVariants.{Off, Diffusion, Ordered}
 use Rattle.sixel.specs.declared.draw_options.DrawOptions.{DrawOptions}
@@ -19,24 +19,7 @@ use Rattle.sixel.specs.declared.draw_options.DrawPalette.{DrawPalette}
 use Rattle.sixel.specs.declared.draw_options.TheConstants.{MAX_DISTANCE}
 use Rattle.sixel.specs.declared.draw_options.DrawPalette.TheVariants.{Standard, Refined, File}
 use Rattle.sixel.specs.declared.option_fault.OptionFault.{OptionFault}
-use Rattle.sixel.specs.declared.option_fault.OptionFault.TheVariants.{Unknown, NoValue, Colors}
-use Rattle.sixel.specs.declared.option_fault.OptionFault.TheVariants.{Dither as NoDither, Palettes}
-use Rattle.sixel.specs.declared.option_fault.OptionFault.TheVariants.{Strength}
-use Rattle.sixel.specs.declared.option_fault.OptionFault.TheVariants.{Tolerance as NoTolerance}
-
--- how many arguments precede the names of files: options and their values
-abbrev pub option_count : List (List ℕ) → ℕ
-option_count [] = 0
-option_count (name ∷ []) = cond (starts_with_minus name) 1 0
-option_count (name ∷ value ∷ rest) = cond (starts_with_minus name) (2 + option_count rest) 0
-
--- the options of the arguments after `draw`, and their values
-abbrev pub options_of : List (List ℕ) → List (List ℕ)
-options_of words = take (option_count words) words
-
--- the names of files after them
-abbrev pub files_of : List (List ℕ) → List (List ℕ)
-files_of words = drop (option_count words) words
+use Rattle.sixel.specs.declared.option_fault.OptionFault.TheVariants as faults
 
 -- a palette, a strength and a tolerance that no option states, and diffusion
 abbrev pub default_options : DrawOptions
@@ -74,139 +57,105 @@ mapping_of options = record {
   tolerance = options.tolerance;
 }
 
--- `-c` with this value changes the palette to this one
-abbrev pub IsCounted : DrawPalette → List ℕ → DrawPalette → Type 0
-IsCounted palette value Standard = ⊥
-IsCounted palette value (Refined max_colors) =
-    (palette ≢ File) × IsNumber value max_colors × (max_colors < 2 ^ 16)
-IsCounted palette value File = ⊥
+-- what is wrong with the arguments, and with which one
+pub data Wrong : Type 0 where
+  Unknown : List ℕ → Wrong
+  NoValue : List ℕ → Wrong
+  Colors : List ℕ → Wrong
+  NoDither : List ℕ → Wrong
+  Strength : Wrong
+  NoTolerance : List ℕ → Wrong
+  Palettes : Wrong
 
--- `-p` changes the palette to this one
-abbrev pub IsOfFile : DrawPalette → DrawPalette → Type 0
-IsOfFile Standard changed = changed ≡ File
-IsOfFile (Refined max_colors) changed = ⊥
-IsOfFile File changed = changed ≡ File
+abbrev pub wrong_of : OptionFault → Wrong
+wrong_of (faults.Unknown name) = Unknown name.now
+wrong_of (faults.NoValue name) = NoValue name.now
+wrong_of (faults.Colors value) = Colors value.now
+wrong_of (faults.Dither value) = NoDither value.now
+wrong_of faults.Strength = Strength
+wrong_of (faults.Tolerance value) = NoTolerance value.now
+wrong_of faults.Palettes = Palettes
 
--- the value of `-d` for this kind of dithering
-abbrev pub IsKind : List ℕ → DitherKind → Type 0
-IsKind value Off = value ≡ codes "none"
-IsKind value Diffusion = value ≡ codes "diffusion"
-IsKind value Ordered = value ≡ codes "ordered"
+-- a result of the code, by what its error says
+abbrev pub told : {A : Type 0} → Result A OptionFault → Result A Wrong
+told (Ok x) = Ok x
+told (Err fault) = Err (wrong_of fault)
 
--- the value of `-s` for this strength
-abbrev pub IsStrength : List ℕ → Option ℕ → Type 0
-IsStrength value None = ⊥
-IsStrength value (Some strength) = IsNumber value strength × (1 ≤ strength) × (strength ≤ 255)
+-- the palette of `-c` with this value, after that of the options before
+abbrev pub counted : DrawPalette → List ℕ → Result DrawPalette Wrong
+counted File value = Err Palettes
+counted _ value = ok_or (option_map Refined (number_within 0 65535 value)) (Colors value)
 
--- the value of `-t` for this tolerance
-abbrev pub IsTolerance : List ℕ → Tolerance → Type 0
-IsTolerance value Auto = ⊥
-IsTolerance value (Squared distance) =
-    IsNumber value distance × (distance ≤ MAX_DISTANCE)
+-- the palette of `-p`
+abbrev pub of_file : DrawPalette → Result DrawPalette Wrong
+of_file (Refined max_colors) = Err Palettes
+of_file _ = Ok File
 
--- an option with this value changes the options to these
-abbrev pub IsOption : DrawOptions → List ℕ → List ℕ → DrawOptions → Type 0
-IsOption options name value changed =
-    ((name ≡ codes "-c") × IsCounted options.palette value changed.palette
-    × (changed.kind ≡ options.kind) × (changed.strength ≡ options.strength)
-    × (changed.tolerance ≡ options.tolerance))
-    ⊎ ((name ≡ codes "-p") × IsOfFile options.palette changed.palette
-    × (changed.kind ≡ options.kind) × (changed.strength ≡ options.strength)
-    × (changed.tolerance ≡ options.tolerance))
-    ⊎ ((name ≡ codes "-d") × IsKind value changed.kind
-    × (changed.palette ≡ options.palette) × (changed.strength ≡ options.strength)
-    × (changed.tolerance ≡ options.tolerance))
-    ⊎ ((name ≡ codes "-s") × IsStrength value changed.strength
-    × (changed.palette ≡ options.palette) × (changed.kind ≡ options.kind)
-    × (changed.tolerance ≡ options.tolerance))
-    ⊎ ((name ≡ codes "-t") × IsTolerance value changed.tolerance
-    × (changed.palette ≡ options.palette) × (changed.kind ≡ options.kind)
-    × (changed.strength ≡ options.strength))
+-- the kind of dithering of this name
+abbrev pub kind_of : List ℕ → Result DitherKind Wrong
+kind_of name =
+    if bytes_eq name (codes "none") then Ok Off
+    else (if bytes_eq name (codes "diffusion") then Ok Diffusion
+    else (if bytes_eq name (codes "ordered") then Ok Ordered else Err (NoDither name)))
 
--- options after the last argument: their strength is one of their kind of dithering
-abbrev pub IsEnd : DrawOptions → DrawOptions → Type 0
-IsEnd options stated =
-    (options ≡ stated)
-    × IfSome options.strength (λ strength. strength ≤ max_strength options.kind)
+-- what follows from a result without an error
+abbrev pub and_then : {A B : Type 0} → (A → Result B Wrong) → Result A Wrong → Result B Wrong
+and_then next (Ok x) = next x
+and_then next (Err wrong) = Err wrong
 
--- these arguments change the options to those that are stated
-abbrev pub AreOptions : DrawOptions → List (List ℕ) → DrawOptions → Type 0
-AreOptions options [] stated = IsEnd options stated
-AreOptions options (name ∷ []) stated = ⊥
-AreOptions options (name ∷ value ∷ rest) stated =
-    (changed : DrawOptions) × IsOption options name value changed × AreOptions changed rest stated
+-- the options after one of this name with this value
+abbrev pub with_option : DrawOptions → List ℕ → List ℕ → Result DrawOptions Wrong
+with_option options name value =
+    if bytes_eq name (codes "-c")
+    then and_then (λ it. Ok (record options { palette = it })) (counted options.palette value)
+    else (if bytes_eq name (codes "-p")
+    then and_then (λ it. Ok (record options { palette = it })) (of_file options.palette)
+    else (if bytes_eq name (codes "-d")
+    then and_then (λ it. Ok (record options { kind = it })) (kind_of value)
+    else (if bytes_eq name (codes "-s")
+    then and_then (λ it. Ok (record options { strength = Some it }))
+    (ok_or (number_within 1 255 value) Strength)
+    else (if bytes_eq name (codes "-t")
+    then and_then (λ it. Ok (record options { tolerance = Squared it }))
+    (ok_or (number_within 0 MAX_DISTANCE value) (NoTolerance value))
+    else Err (Unknown name)))))
 
--- the value of the last `-p` of these options, or the path before them if there is none
-abbrev pub IsLastPath : Option (List ℕ) → List (List ℕ) → Option (List ℕ) → Type 0
-IsLastPath path [] last = path ≡ last
-IsLastPath path (name ∷ []) last = path ≡ last
-IsLastPath path (name ∷ value ∷ rest) last =
-    ((name ≡ codes "-p") × IsLastPath (Some value) rest last)
-    ⊎ ((name ≢ codes "-p") × IsLastPath path rest last)
+-- what is wrong with a last argument without a value
+abbrev pub last_wrong : List ℕ → Wrong
+last_wrong name =
+    if bytes_eq name (codes "-c") || bytes_eq name (codes "-p") || bytes_eq name (codes "-d")
+    || bytes_eq name (codes "-s") || bytes_eq name (codes "-t")
+    then NoValue name else Unknown name
 
--- ---- faults
+-- options, the value of the last `-p`, and the names of files
+pub record Stated : Type 0 where
+  pub options : DrawOptions
+  pub path : Option (List ℕ)
+  pub files : List (List ℕ)
 
--- no option has this name
-abbrev pub IsUnknown : List ℕ → Type 0
-IsUnknown name =
-    (name ≢ codes "-c") × (name ≢ codes "-p") × (name ≢ codes "-d") × (name ≢ codes "-s")
-    × (name ≢ codes "-t")
+-- a strength is at most that of the kind of dithering
+abbrev pub is_strong : DrawOptions → Option ℕ → Bool
+is_strong options None = false
+is_strong options (Some strength) = nat_lt (max_strength options.kind) strength
 
--- why `-c` with this value does not change the palette
-abbrev pub IsCountFault : DrawPalette → List ℕ → OptionFault → Type 0
-IsCountFault palette value (Colors text) =
-    (text.now ≡ value) × ((number : ℕ) → number < 2 ^ 16 → ¬ IsNumber value number)
-IsCountFault palette value Palettes = palette ≡ File
-IsCountFault palette value fault = ⊥
+-- nothing is left but names of files
+abbrev pub ended : DrawOptions → Option (List ℕ) → List (List ℕ) → Result Stated Wrong
+ended options path files =
+    if is_strong options options.strength then Err Strength
+    else Ok (record { options = options; path = path; files = files })
 
--- why `-p` does not change the palette
-abbrev pub IsFileFault : DrawPalette → OptionFault → Type 0
-IsFileFault palette fault = (fault ≡ Palettes) × (max_colors : ℕ) × (palette ≡ Refined max_colors)
+-- the path after an option
+abbrev pub path_after : Option (List ℕ) → List ℕ → List ℕ → Option (List ℕ)
+path_after path name value = if bytes_eq name (codes "-p") then Some value else path
 
--- why `-d` with this value does not change the kind of dithering
-abbrev pub IsKindFault : List ℕ → OptionFault → Type 0
-IsKindFault value (NoDither text) =
-    (text.now ≡ value) × ((kind : DitherKind) → ¬ IsKind value kind)
-IsKindFault value fault = ⊥
-
--- why `-s` with this value does not change the strength
-abbrev pub IsStrengthFault : List ℕ → OptionFault → Type 0
-IsStrengthFault value fault =
-    (fault ≡ Strength) × ((strength : Option ℕ) → ¬ IsStrength value strength)
-
--- why `-t` with this value does not change the tolerance
-abbrev pub IsToleranceFault : List ℕ → OptionFault → Type 0
-IsToleranceFault value (NoTolerance text) =
-    (text.now ≡ value) × ((tolerance : Tolerance) → ¬ IsTolerance value tolerance)
-IsToleranceFault value fault = ⊥
-
--- why an option with this value does not change the options
-abbrev pub IsFaultyOption : DrawOptions → List ℕ → List ℕ → OptionFault → Type 0
-IsFaultyOption options name value (Unknown text) = (text.now ≡ name) × IsUnknown name
-IsFaultyOption options name value fault =
-    ((name ≡ codes "-c") × IsCountFault options.palette value fault)
-    ⊎ ((name ≡ codes "-p") × IsFileFault options.palette fault)
-    ⊎ ((name ≡ codes "-d") × IsKindFault value fault)
-    ⊎ ((name ≡ codes "-s") × IsStrengthFault value fault)
-    ⊎ ((name ≡ codes "-t") × IsToleranceFault value fault)
-
--- why the options after the last argument contradict each other
-abbrev pub IsFaultyEnd : DrawOptions → OptionFault → Type 0
-IsFaultyEnd options fault =
-    (fault ≡ Strength)
-    × MatchOption options.strength ⊥ (λ strength. max_strength options.kind < strength)
-
--- why a last argument without a value is no option
-abbrev pub IsFaultyLast : List ℕ → OptionFault → Type 0
-IsFaultyLast name (Unknown text) = (text.now ≡ name) × IsUnknown name
-IsFaultyLast name (NoValue text) = (text.now ≡ name) × ¬ IsUnknown name
-IsFaultyLast name fault = ⊥
-
--- the first fault of these arguments, which do not change the options
-abbrev pub AreFaultyOptions : DrawOptions → List (List ℕ) → OptionFault → Type 0
-AreFaultyOptions options [] fault = IsFaultyEnd options fault
-AreFaultyOptions options (name ∷ []) fault = IsFaultyLast name fault
-AreFaultyOptions options (name ∷ value ∷ rest) fault =
-    IsFaultyOption options name value fault
-    ⊎ ((changed : DrawOptions) × IsOption options name value changed
-    × AreFaultyOptions changed rest fault)
+-- what these arguments state after these options and this path, or what is wrong with the first
+-- one that is wrong
+abbrev pub stated_by : DrawOptions → Option (List ℕ) → List (List ℕ) → Result Stated Wrong
+stated_by options path [] = ended options path []
+stated_by options path (name ∷ []) =
+    if starts_with_minus name then Err (last_wrong name) else ended options path (name ∷ [])
+stated_by options path (name ∷ value ∷ rest) =
+    if starts_with_minus name
+    then and_then (λ it. stated_by it (path_after path name value) rest)
+    (with_option options name value)
+    else ended options path (name ∷ value ∷ rest)

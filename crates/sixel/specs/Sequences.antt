@@ -2,7 +2,7 @@
 -- each, until one ends early or no byte is left. It follows from the meaning of DCS sequences, and
 -- does not mention chunks. The order is this program's own: each image is written before the next
 -- sequence is read, and stays written if that one is rejected.
-use Rattle.std.specs.Prelude.{◌≡◌, ◌<◌, ◌*◌, ℕ, Bool, true, false, List, [], ◌∷◌, ◌++◌, take, drop}
+use Rattle.std.specs.Prelude.{◌≡◌, ◌<◌, ◌*◌, ℕ, true, List, [], ◌∷◌, ◌++◌, length, take, drop}
 use Rattle.std.specs.Prelude.{Option, None}
 use Rattle.std.specs.Option.{option_or}
 use Rattle.sixel_base.specs.declared.error.SixelError.{SixelError}
@@ -35,11 +35,24 @@ pub record IsFedInChunks (chunk_len : ℕ) (bytes fed : List ℕ) : Type 0 where
       → dcs_status (take (fewer * chunk_len) bytes) ≡ NeedMoreData
   pub enough : dcs_status fed ≡ NeedMoreData → fed ≡ bytes
 
--- whether a sequence ended before its terminator; one that has not ended has a fault, unless the
--- decoder is lenient
-abbrev pub is_cut_short : SixelDcsFeedStatus → Bool
-is_cut_short Complete = false
-is_cut_short status = true
+-- The bytes after a sequence with this status: none if it ended before its terminator. One that has
+-- not ended has a fault, unless the decoder is lenient.
+abbrev pub rest_by : SixelDcsFeedStatus → List ℕ → List ℕ
+rest_by Complete after = after
+rest_by status after = []
+
+-- the bytes after the sequence that the bytes begin with
+abbrev pub rest_of : List ℕ → List ℕ
+rest_of bytes = rest_by (dcs_status bytes) (drop (dcs_count bytes) bytes)
+
+-- The sequence that the bytes begin with has no fault, has this image, and leaves this decoder.
+pub record HasEnded (decoder : DecoderState) (bytes : List ℕ) (image : Image) (after : DecoderState)
+    : Type 0 where
+  pub some : 0 < length bytes
+  pub faultless : sequence_fault decoder.pixel_limit bytes ≡ None
+  pub shows : IsFoundImage decoder (found bytes) image
+  pub leaves : AreFoundRegisters decoder (found bytes) after.registers
+  pub set : IsSetAs decoder after
 
 -- By this decoder, this is the output for these bytes, and so it ends.
 pub data IsSequencesOutput : DecoderState → List ℕ → List ℕ → Ending → Type 0 where
@@ -49,16 +62,9 @@ pub data IsSequencesOutput : DecoderState → List ℕ → List ℕ → Ending �
   Broken : (decoder : DecoderState) (bytes : List ℕ) (error : SixelError)
       → Faults error true (sequence_fault decoder.pixel_limit bytes)
       → IsSequencesOutput decoder bytes [] (Refused error)
-  -- the first sequence ended early: its image is the last
-  CutShort : (decoder : DecoderState) (bytes : List ℕ) (image : Image)
-      → sequence_fault decoder.pixel_limit bytes ≡ None → is_cut_short (dcs_status bytes) ≡ true
-      → IsFoundImage decoder (found bytes) image
-      → IsSequencesOutput decoder bytes (image_form image) Done
-  -- the first sequence is complete: its image, and the output for the bytes after it, by the
-  -- decoder after it
+  -- the image of the first sequence, and the output for the bytes after it, by the decoder after
+  -- it; if none are left, nothing fails
   Followed : (decoder after : DecoderState) (bytes text : List ℕ) (image : Image) (ending : Ending)
-      → sequence_fault decoder.pixel_limit bytes ≡ None
-      → dcs_status bytes ≡ Complete → IsFoundImage decoder (found bytes) image
-      → AreFoundRegisters decoder (found bytes) after.registers → IsSetAs decoder after
-      → IsSequencesOutput after (drop (dcs_count bytes) bytes) text ending
+      → HasEnded decoder bytes image after → (rest_of bytes ≡ [] → ending ≡ Done)
+      → IsSequencesOutput after (rest_of bytes) text ending
       → IsSequencesOutput decoder bytes (image_form image ++ text) ending

@@ -8,10 +8,10 @@ use Rattle.sixel_palette.specs.Refined.{IsRefined, percentage, sum_to}
 use Rattle.sixel_palette.specs.Spread.{opaque_mean, opaque_sums, spread_color}
 use Rattle.sixel_palette.specs.declared.palette.refined.RefinedPalette.{RefinedPalette}
 use Rattle.sixel_encoder.specs.IndexedDrawing.{IsPaletteText}
-use Rattle.sixel_encoder.specs.declared.dither.Dither.{Dither}
-use Rattle.sixel_encoder.specs.declared.dither.Dither.TheVariants.{Diffusion}
+use Rattle.sixel_palette.specs.declared.dither.Dither.{Dither}
+use Rattle.sixel_palette.specs.declared.dither.Dither.TheVariants.{Diffusion}
 use Rattle.sixel_encoder.specs.declared.form.TextForm.TheVariants.{Compact}
-use Rattle.sixel_encoder.specs.declared.mapping.Mapping.{Mapping}
+use Rattle.sixel_palette.specs.declared.mapping.Mapping.{Mapping}
 
 -- by how many 32nds entries are spread for this dithering and this number of colors at most
 abbrev pub spread_amount : Dither → ℕ → ℕ

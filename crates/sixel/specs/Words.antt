@@ -1,11 +1,12 @@
 -- Which arguments ask for which work, or for a notice. They are this program's own. A number is
 -- written in decimal digits alone.
-use Rattle.std.specs.Prelude.{◌≡◌, ◌^◌, ◌<◌, ◌∷◌, [], List, ℕ, codes, map, Option, None, Some}
-use Rattle.std.specs.Prelude.{String, string_bytes}
+use Rattle.std.specs.Prelude.{◌≡◌, ◌<◌, ◌∷◌, [], List, ℕ, codes, map, None, Err, Ok, Option, Result}
+use Rattle.std.specs.Prelude.{Some, String, option_and_then, option_map, string_bytes}
 use Rattle.std.specs.declared.alloc.Global.{Global}
-use Rattle.sixel.specs.Number.{IsNumber}
-use Rattle.sixel.specs.Options.{AreOptions, IsLastPath, default_options, options_of}
-use Rattle.sixel.specs.declared.draw_options.DrawOptions.{DrawOptions}
+use Rattle.sixel.specs.Number.{number_of, number_within}
+use Rattle.sixel.specs.Options.{Stated, Wrong, default_options, stated_by, wrong_of}
+use Rattle.sixel.specs.declared.draw_options.Drawing.{Drawing}
+use Rattle.sixel.specs.declared.option_fault.OptionFault.{OptionFault}
 use Rattle.sixel.specs.declared.notice.Notice.{Notice}
 use Rattle.sixel.specs.declared.notice.Notice.TheVariants.{Help, Version}
 use Rattle.sixel.specs.declared.picture_words.PictureWord.{PictureWord}
@@ -14,11 +15,6 @@ use Rattle.sixel.specs.declared.words.Word.{Word}
 use Rattle.sixel.specs.declared.words.Word.TheVariants.{Payload, Decode, Frames, Encode}
 use Rattle.sixel.specs.declared.work.Work.{Work}
 use Rattle.sixel.specs.declared.work.Work.TheVariants.{Data, Picture}
-
--- an argument is there, and is this number
-abbrev pub Gives : Option (List ℕ) → ℕ → Type 0
-Gives None number = ⊥
-Gives (Some text) number = IsNumber text number
 
 -- work on data that can be done: chunks have at least one byte
 abbrev pub IsServable : Word → Type 0
@@ -35,11 +31,12 @@ abbrev pub Asks : Word → List ℕ → Option (List ℕ) → Option (List ℕ) 
 Asks Payload word a b c = (word ≡ codes "payload") × (a ≡ None) × (b ≡ None) × (c ≡ None)
 Asks Decode word a b c = (word ≡ codes "decode") × (a ≡ None) × (b ≡ None) × (c ≡ None)
 Asks (Frames length) word a b c =
-    (word ≡ codes "frames") × (Gives a length × (length < 2 ^ 64)) × (0 < length) × (b ≡ None)
-    × (c ≡ None)
+    (word ≡ codes "frames") × (option_and_then number_of a ≡ Some length) × (0 < length)
+    × (b ≡ None) × (c ≡ None)
 Asks (Encode width height colors) word a b c =
-    (word ≡ codes "encode") × (Gives a width × (width < 2 ^ 64))
-    × (Gives b height × (height < 2 ^ 64)) × (Gives c colors × (colors < 2 ^ 16))
+    (word ≡ codes "encode") × (option_and_then number_of a ≡ Some width)
+    × (option_and_then number_of b ≡ Some height)
+    × (option_and_then (number_within 0 65535) c ≡ Some colors)
 
 -- the work that one argument asks for, with up to three more
 abbrev pub IsAskedInFour : List (List ℕ) → Word → Type 0
@@ -59,20 +56,14 @@ abbrev pub IsPictureAskedBy : List (List ℕ) → PictureWord → Type 0
 IsPictureAskedBy words Pam = words ≡ codes "pam" ∷ []
 IsPictureAskedBy [] (Draw options) = ⊥
 IsPictureAskedBy (word ∷ words) (Draw options) =
-    (word ≡ codes "draw") × AreOptions default_options (options_of words) options
+    (word ≡ codes "draw")
+    × (stated : Stated) × (stated_by default_options None words ≡ Ok stated)
+    × (options ≡ stated.options)
 
 -- the work that the arguments after the program's own name ask for
 abbrev pub IsAskedBy : List (List ℕ) → Work → Type 0
 IsAskedBy words (Data word) = IsAskedInFour words word
 IsAskedBy words (Picture word) = IsPictureAskedBy words word
-
--- the arguments after the program's own name ask for drawing, and this is the path of `-p`
-abbrev pub IsPalettePath : List (List ℕ) → List ℕ → Type 0
-IsPalettePath [] path = ⊥
-IsPalettePath (word ∷ words) path =
-    (word ≡ codes "draw")
-    × ((options : DrawOptions) × AreOptions default_options (options_of words) options)
-    × IsLastPath None (options_of words) (Some path)
 
 -- the arguments after the program's own name ask for this notice, whatever the input is
 abbrev pub IsNoticeFor : List (List ℕ) → Notice → Type 0
@@ -82,3 +73,13 @@ IsNoticeFor words Version = words ≡ codes "--version" ∷ []
 -- the bytes of each argument
 abbrev pub words_of : List (String Global) → List (List ℕ)
 words_of words = map string_bytes words
+
+-- what the code read of the arguments after `draw`, by its bytes
+abbrev pub drawing_told : Result Drawing OptionFault → Result Stated Wrong
+drawing_told (Ok it) =
+    Ok (record {
+      options = it.options;
+      path = option_map (λ path. path.now) it.path;
+      files = words_of it.files.now;
+    })
+drawing_told (Err fault) = Err (wrong_of fault)

@@ -1,8 +1,9 @@
 -- What the program writes for its work and the bytes of its input, and how it ends: as the
 -- definitions of the data's meaning say, or with out of memory, which may come before any image.
 -- The order is this program's own: an image is written once it is whole.
-use Rattle.std.specs.Prelude.{◌≡◌, ◌⊎◌, ℕ, true, List, [], ◌++◌, Option, None, Some, Result, Ok}
-use Rattle.std.specs.Prelude.{Err, String, string_bytes}
+use Rattle.std.specs.Prelude.{◌≡◌, ◌⊎◌, ℕ, true, List, [], ◌++◌, IfSome, Option, None, Some, Result}
+use Rattle.std.specs.Prelude.{Ok, Err, String, string_bytes}
+use Rattle.std.specs.Io.KnownBytes.{Appends, Keeps}
 use Rattle.std.specs.declared.alloc.Global.{Global}
 use Rattle.sixel_base.specs.declared.error.SixelError.TheVariants.{OutOfMemory}
 use Rattle.sixel_base.specs.Decoder.{new_decoder, origin_of}
@@ -13,13 +14,14 @@ use Rattle.sixel_encoder.specs.Encoding.{image_fault, IsText, square_value}
 use Rattle.sixel_base.specs.OneShot.{no_settings, found, found_fault, IsFoundImage}
 use Rattle.sixel.specs.declared.fault.Fault.{Fault}
 use Rattle.sixel.specs.declared.fault.Fault.TheVariants.{Sixel, Input, Output}
-use Rattle.sixel.specs.Output.{Writes}
 use Rattle.sixel.specs.declared.words.Word.{Word}
 use Rattle.sixel.specs.declared.words.Word.TheVariants.{Payload, Decode, Frames, Encode}
 use Rattle.sixel.specs.declared.picture_fault.PictureFault.{PictureFault}
 use Rattle.sixel.specs.declared.picture_fault.PictureFault.TheVariants.{Shared, Netpbm}
 use Rattle.sixel.specs.declared.picture_words.PictureWord.{PictureWord}
 use Rattle.sixel.specs.declared.picture_words.PictureWord.TheVariants.{Pam, Draw}
+use Rattle.sixel.specs.declared.response.Response.{Response}
+use Rattle.sixel.specs.declared.response.Response.TheVariants.{Done as Completed, Usage, Failed}
 use Rattle.sixel.specs.declared.work.Work.{Work}
 use Rattle.sixel.specs.declared.work.Work.TheVariants.{Data, Picture}
 use Rattle.sixel.specs.Form.{image_form, pam_form}
@@ -28,6 +30,14 @@ use Rattle.sixel.specs.netpbm.Image.{image_of}
 use Rattle.sixel.specs.Drawing.{IsDrawOutput}
 use Rattle.sixel.specs.Options.{mapping_of}
 use Rattle.sixel.specs.Sequences.{IsSequencesOutput}
+
+-- what a writer contains grew by a text of this kind
+abbrev pub Writes : (List ℕ → Type 0) → Option (List ℕ) → Option (List ℕ) → Type 0
+Writes IsText old new = (text : List ℕ) × IsText text × Appends old new text
+
+-- an output of these bytes, and no other
+abbrev pub IsWhole : List ℕ → List ℕ → Ending → Type 0
+IsWhole bytes text ending = (text ≡ bytes) × (ending ≡ Done)
 
 -- a new decoder, and no settings
 abbrev pub fresh : Origin
@@ -95,6 +105,32 @@ ServesPicture (Ok _) IsText old new = Writes (λ text. IsText text Done) old new
 ServesPicture {A} (Err (Shared fault)) IsText old new = Serves {A = A} (Err fault) IsText old new
 ServesPicture (Err (Netpbm error)) IsText old new =
     Writes (λ text. IsText text (Unreadable error)) old new
+
+-- The same for all bytes of a reader, if they are known. If they can't be read, none is written.
+abbrev pub ServesInput : {A : Type 0} → Result A Fault → (List ℕ → List ℕ → Ending → Type 0)
+    → Option (List ℕ) → Option (List ℕ) → Option (List ℕ) → Type 0
+ServesInput (Err Input) IsText input old new = Keeps old new
+ServesInput result IsText input old new =
+    IfSome input (λ bytes. Serves result (IsText bytes) old new)
+
+-- the same for work on an image in netpbm's formats
+abbrev pub ServesPictureInput : {A : Type 0} → Result A PictureFault
+    → (List ℕ → List ℕ → Ending → Type 0)
+    → Option (List ℕ) → Option (List ℕ) → Option (List ℕ) → Type 0
+ServesPictureInput (Err (Shared Input)) IsText input old new = Keeps old new
+ServesPictureInput result IsText input old new =
+    IfSome input (λ bytes. ServesPicture result (IsText bytes) old new)
+
+-- The arguments ask for no work, or the response is that of the work that they ask for.
+abbrev pub Responds : Response → (Work → Type 0) → (Work → List ℕ → List ℕ → Ending → Type 0)
+    → Option (List ℕ) → Option (List ℕ) → Option (List ℕ) → Type 0
+Responds Usage IsAsked IsText input old new = (work : Work) → ¬ IsAsked work
+Responds Completed IsAsked IsText input old new =
+    (work : Work) × IsAsked work
+    × ServesPictureInput {A = Unit {0}} (Ok tt) (IsText work) input old new
+Responds (Failed fault) IsAsked IsText input old new =
+    (work : Work) × IsAsked work
+    × ServesPictureInput {A = Unit {0}} (Err fault) (IsText work) input old new
 
 -- An output was made: the whole of it, or none because of an error.
 abbrev pub Draws : Result (String Global) PictureFault → (List ℕ → Ending → Type 0) → Type 0

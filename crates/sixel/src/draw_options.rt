@@ -1,16 +1,13 @@
 //! The arguments of `draw`: options, each with its value, and then the names of files.
 
-ghost use Rattle.std.specs.Prelude.{◌≡◌, ◌↔◌, IfErr, Ok, Option, ℕ};
-ghost use Rattle.sixel.specs.Options.{AreFaultyOptions, AreOptions, IsCounted, IsKind, IsOfFile};
-ghost use Rattle.sixel.specs.Options.{IsCountFault, IsFaultyEnd, IsFaultyOption, IsFileFault};
-ghost use Rattle.sixel.specs.Options.{IsEnd, IsKindFault, IsOption, IsStrength, IsStrengthFault};
-ghost use Rattle.sixel.specs.Options.{default_options, dither_with, files_of, max_strength};
-ghost use Rattle.sixel.specs.Options.{IsTolerance, IsToleranceFault, mapping_of, options_of};
-ghost use Rattle.sixel.specs.Options.{standard_strength};
-ghost use Rattle.sixel.specs.Words.{words_of};
+ghost use Rattle.std.specs.Prelude.{◌≡◌, Err, None, Ok, if◌then◌else◌};
+ghost use Rattle.sixel.specs.Options.{Strength, counted, default_options, dither_with, is_strong};
+ghost use Rattle.sixel.specs.Options.{kind_of, mapping_of, max_strength, of_file, stated_by};
+ghost use Rattle.sixel.specs.Options.{standard_strength, told, with_option};
+ghost use Rattle.sixel.specs.Words.{drawing_told, words_of};
 
+use crate::number::number_within;
 use crate::option_fault::OptionFault;
-use crate::words::{number, number_of_colors};
 use icy_sixel::encoder::{Amplitude, Dither, Mapping, Tolerance};
 
 /// How `draw` encodes an image.
@@ -48,36 +45,43 @@ pub enum DitherKind {
     Ordered,
 }
 
-/// Splits the arguments after `draw` into options and the names of files.
-///
-/// An option is a name that begins with `-`, and a value. The first argument in the place of a name
-/// that does not begin with `-` is the name of a file, and so are all after it.
-pub fn split_files(words: &[String]) -> (&[String], &[String])
-    ensures options { words_of result.0.now ≡ options_of (words_of words.now) }
-    ensures files { words_of result.1.now ≡ files_of (words_of words.now) }
-{
-    let mut count = 0;
-    'options: while count < words.len() && words[count].starts_with('-') {
-        count += (words.len() - count).min(2);
-    }
-    words.split_at(count)
+/// What the arguments after `draw` state.
+#[derive(Clone, Copy)]
+pub struct Drawing<'a> {
+    pub options: DrawOptions,
+    /// The value of the last `-p`, the path of the palette file.
+    pub path: Option<&'a str>,
+    /// The names of files.
+    pub files: &'a [String],
 }
 
-/// The options that these arguments state, or the first fault of them.
-pub fn read_options(words: &[String]) -> Result<DrawOptions, OptionFault<'_>>
-    ensures stated { (options : DrawOptions)
-        → AreOptions default_options (words_of words.now) options ↔ (result ≡ Ok options) }
-    ensures faulty { IfErr result (AreFaultyOptions default_options (words_of words.now)) }
+/// Reads the arguments after `draw`: options, each with its value, and then names of files.
+///
+/// The first argument in the place of an option that does not begin with `-` is the name of a file,
+/// and so are all after it.
+pub fn read_drawing(words: &[String]) -> Result<Drawing<'_>, OptionFault<'_>>
+    ensures { drawing_told result ≡ stated_by default_options None (words_of words.now) }
 {
     let mut options = DrawOptions::standard();
+    let mut path = None;
     let mut rest = words;
     'options: while let [name, value, after @ ..] = rest {
+        if !name.starts_with('-') {
+            break;
+        }
         options = options.with(name, value)?;
+        if name.as_str() == "-p" {
+            path = Some(value.as_str());
+        }
         rest = after;
     }
     match rest {
-        [name, ..] => Err(OptionFault::of_last(name)),
-        [] => options.validated(),
+        [name] if name.starts_with('-') => Err(OptionFault::of_last(name)),
+        files => Ok(Drawing {
+            options: options.validated()?,
+            path,
+            files,
+        }),
     }
 }
 
@@ -124,9 +128,7 @@ impl DrawOptions {
 
     /// The options with that of this name changed.
     fn with<'a>(self, name: &'a str, value: &'a str) -> Result<Self, OptionFault<'a>>
-        ensures stated { (options : DrawOptions)
-            → IsOption self name.now value.now options ↔ (result ≡ Ok options) }
-        ensures faulty { IfErr result (IsFaultyOption self name.now value.now) }
+        ensures { told result ≡ with_option self name.now value.now }
     {
         match name {
             "-c" => Ok(Self {
@@ -141,22 +143,28 @@ impl DrawOptions {
                 kind: read_kind(value)?,
                 ..self
             }),
-            "-s" => Ok(Self {
-                strength: read_strength(value)?,
-                ..self
-            }),
-            "-t" => Ok(Self {
-                tolerance: read_tolerance(value)?,
-                ..self
-            }),
+            "-s" => match number_within(value, 1, 255) {
+                Some(strength) => Ok(Self {
+                    strength: Some(strength as u8),
+                    ..self
+                }),
+                None => Err(OptionFault::Strength),
+            },
+            "-t" => match number_within(value, 0, MAX_DISTANCE) {
+                Some(distance) => Ok(Self {
+                    tolerance: Tolerance::Squared(distance as u32),
+                    ..self
+                }),
+                None => Err(OptionFault::Tolerance(value)),
+            },
             _ => Err(OptionFault::Unknown(name)),
         }
     }
 
     /// These options, unless their strength is none of their kind of dithering.
     fn validated<'a>(self) -> Result<Self, OptionFault<'a>>
-        ensures stated { (options : DrawOptions) → IsEnd self options ↔ (result ≡ Ok options) }
-        ensures faulty { IfErr result (IsFaultyEnd self) }
+        ensures { told result
+            ≡ (if is_strong self self.strength then Err Strength else Ok self) }
     {
         match self.strength {
             Some(strength) if strength > self.kind.max_strength() => Err(OptionFault::Strength),
@@ -168,21 +176,18 @@ impl DrawOptions {
 impl DrawPalette {
     /// The refined palette that a value of `-c` states, which contradicts `-p`.
     fn refined(self, value: &str) -> Result<Self, OptionFault<'_>>
-        ensures stated { (palette : DrawPalette)
-            → IsCounted self value.now palette ↔ (result ≡ Ok palette) }
-        ensures faulty { IfErr result (IsCountFault self value.now) }
+        ensures { told result ≡ counted self value.now }
     {
-        match (self, number_of_colors(value)) {
+        match (self, number_within(value, 0, 65535)) {
             (Self::File, _) => Err(OptionFault::Palettes),
-            (_, Some(max_colors)) => Ok(Self::Refined(max_colors)),
+            (_, Some(max_colors)) => Ok(Self::Refined(max_colors as u16)),
             (_, None) => Err(OptionFault::Colors(value)),
         }
     }
 
     /// The palette of a file, which contradicts `-c`.
     fn of_file<'a>(self) -> Result<Self, OptionFault<'a>>
-        ensures stated { (palette : DrawPalette) → IsOfFile self palette ↔ (result ≡ Ok palette) }
-        ensures faulty { IfErr result (IsFileFault self) }
+        ensures { told result ≡ of_file self }
     {
         match self {
             Self::Standard | Self::File => Ok(Self::File),
@@ -216,38 +221,13 @@ impl DitherKind {
 
 /// The kind of dithering of this name.
 fn read_kind(name: &str) -> Result<DitherKind, OptionFault<'_>>
-    ensures stated { (kind : DitherKind) → IsKind name.now kind ↔ (result ≡ Ok kind) }
-    ensures faulty { IfErr result (IsKindFault name.now) }
+    ensures { told result ≡ kind_of name.now }
 {
     match name {
         "none" => Ok(DitherKind::Off),
         "diffusion" => Ok(DitherKind::Diffusion),
         "ordered" => Ok(DitherKind::Ordered),
         _ => Err(OptionFault::Dither(name)),
-    }
-}
-
-/// The strength that a value of `-s` states.
-fn read_strength<'a>(value: &str) -> Result<Option<u8>, OptionFault<'a>>
-    ensures stated { (strength : Option ℕ)
-        → IsStrength value.now strength ↔ (result ≡ Ok strength) }
-    ensures faulty { IfErr result (IsStrengthFault value.now) }
-{
-    match number(value) {
-        Some(strength @ 1..=255) => Ok(Some(strength as u8)),
-        _ => Err(OptionFault::Strength),
-    }
-}
-
-/// The tolerance that a value of `-t` states.
-fn read_tolerance(value: &str) -> Result<Tolerance, OptionFault<'_>>
-    ensures stated { (tolerance : Tolerance)
-        → IsTolerance value.now tolerance ↔ (result ≡ Ok tolerance) }
-    ensures faulty { IfErr result (IsToleranceFault value.now) }
-{
-    match number(value) {
-        Some(distance @ 0..=MAX_DISTANCE) => Ok(Tolerance::Squared(distance as u32)),
-        _ => Err(OptionFault::Tolerance(value)),
     }
 }
 

@@ -12,8 +12,8 @@ use crate::netpbm::read_image;
 use crate::palette_file::read_colors;
 use crate::picture_fault::PictureFault;
 use crate::spread::encode_spread;
+use icy_sixel::TextForm;
 use icy_sixel::encoder::Mapping;
-use icy_sixel::{SixelImage, TextForm};
 use std::alloc::Global;
 
 /// Returns the SIXEL output of the image of a file.
@@ -47,9 +47,8 @@ fn draw_refined(
 ) -> Result<String, PictureFault>
     ensures { Draws result (IsRefinedOutput max_colors mapping (image_of file.now)) }
 {
-    let file = read_image(alloc, file)?;
-    let max_colors = max_colors.unwrap_or(standard_limit(&file.pixels));
-    let image = SixelImage::from_rgba(file.pixels, file.width, file.height);
+    let image = read_image(alloc, file)?;
+    let max_colors = max_colors.unwrap_or(standard_limit(&image.pixels));
     let text = encode_spread(alloc, &image, max_colors, mapping)?;
     Ok(text)
 }
@@ -71,8 +70,7 @@ fn draw_in_palette(
     ensures { Draws result (IsPaletteOutput mapping palette.now (image_of file.now)) }
 {
     let colors = read_colors(alloc, palette)?;
-    let file = read_image(alloc, file)?;
-    let image = SixelImage::from_rgba(file.pixels, file.width, file.height);
+    let image = read_image(alloc, file)?;
     let text = image.encode_with_palette(alloc, &colors, mapping, TextForm::Compact)?;
     Ok(text)
 }

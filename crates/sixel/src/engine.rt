@@ -1,14 +1,9 @@
 //! The work of the program on its input, from the first byte to the output.
 
-ghost use Rattle.std.specs.Prelude.{◌≡◌, OnOk, IfSome};
-ghost use Rattle.std.specs.Io.KnownBytes.{Keeps, IsAtEnd};
-ghost use Rattle.sixel_base.specs.declared.error.SixelError.{SixelError};
-ghost use Rattle.sixel.specs.declared.fault.Fault.TheVariants.{Sixel, Input, Output};
-ghost use Rattle.sixel.specs.declared.words.Word.TheVariants.{Payload, Decode, Encode};
+ghost use Rattle.std.specs.Prelude.{OnOk};
+ghost use Rattle.std.specs.Io.KnownBytes.{IsAtEnd};
 ghost use Rattle.sixel.specs.Words.{IsServable};
-ghost use Rattle.sixel.specs.Ending.{Done, Refused};
-ghost use Rattle.sixel.specs.WorkOutput.{IsOutput, Begins, Serves};
-ghost use Rattle.sixel.specs.Output.{Writes};
+ghost use Rattle.sixel.specs.WorkOutput.{IsOutput, Serves, ServesInput};
 
 use crate::fault::Fault;
 use crate::images::write_image;
@@ -32,17 +27,8 @@ pub fn serve<R: Read, O: Write>(
     output: &mut O,
 ) -> Result<(), Fault>
     requires { IsServable word }
-    ensures done { OnOk result (IfSome (R.remaining input.old) (λ bytes.
-        Writes (λ text. IsOutput word bytes text Done)
-        (O.contents output.old) (O.contents output.new))) }
-    ensures refused { (error : SixelError) → result ≡ Err (Sixel error) →
-        IfSome (R.remaining input.old) (λ bytes.
-        Writes (λ text. IsOutput word bytes text (Refused error))
-        (O.contents output.old) (O.contents output.new)) }
-    ensures unread { result ≡ Err Input → Keeps (O.contents output.old) (O.contents output.new) }
-    ensures unwritten { result ≡ Err Output → IfSome (R.remaining input.old) (λ bytes.
-        Writes (Begins (IsOutput word bytes))
-        (O.contents output.old) (O.contents output.new)) }
+    ensures served { ServesInput result (IsOutput word) (R.remaining input.old)
+        (O.contents output.old) (O.contents output.new) }
     ensures at_end { OnOk result (IsAtEnd (R.remaining input.new)) }
 {
     let bytes = read_to_end(alloc, input, input_len(word))?;
@@ -66,50 +52,20 @@ fn run<O: Write>(alloc: Global, word: Word, bytes: &[u8], output: &mut O) -> Res
         (O.contents output.new) }
 {
     match word {
-        Word::Payload => payload(alloc, bytes, output),
-        Word::Decode => decode(alloc, bytes, output),
+        Word::Payload => {
+            let settings = DcsSettings::new(None, None, None);
+            let image = SixelImage::decode_from_dcs(alloc, bytes, settings)?;
+            write_image(alloc, &image, output)
+        }
+        Word::Decode => {
+            let image = SixelImage::decode(alloc, bytes)?;
+            write_image(alloc, &image, output)
+        }
         Word::Frames(length) => write_sequences(alloc, length, bytes, output),
-        Word::Encode(width, height, colors) => encode(
-            alloc,
-            bytes,
-            (width, height),
-            colors,
-            output,
-        ),
+        Word::Encode(width, height, max_colors) => {
+            let options = EncodeOptions { max_colors };
+            let text = sixel_encode(alloc, bytes, width, height, &options)?;
+            write_all(output, text.as_bytes())
+        }
     }
-}
-
-/// Writes the image of one payload.
-fn payload<O: Write>(alloc: Global, bytes: &[u8], output: &mut O) -> Result<(), Fault>
-    ensures { Serves result (IsOutput Payload bytes.now) (O.contents output.old)
-        (O.contents output.new) }
-{
-    let settings = DcsSettings::new(None, None, None);
-    let image = SixelImage::decode_from_dcs(alloc, bytes, settings)?;
-    write_image(alloc, &image, output)
-}
-
-/// Writes the image of the first DCS sequence, or of all bytes as one payload.
-fn decode<O: Write>(alloc: Global, bytes: &[u8], output: &mut O) -> Result<(), Fault>
-    ensures { Serves result (IsOutput Decode bytes.now) (O.contents output.old)
-        (O.contents output.new) }
-{
-    let image = SixelImage::decode(alloc, bytes)?;
-    write_image(alloc, &image, output)
-}
-
-/// Writes the SIXEL output of raw pixels in at most `max_colors` colors.
-fn encode<O: Write>(
-    alloc: Global,
-    pixels: &[u8],
-    size: (usize, usize),
-    max_colors: u16,
-    output: &mut O,
-) -> Result<(), Fault>
-    ensures { Serves result (IsOutput (Encode size.0 size.1 max_colors) pixels.now)
-        (O.contents output.old) (O.contents output.new) }
-{
-    let options = EncodeOptions { max_colors };
-    let text = sixel_encode(alloc, pixels, size.0, size.1, &options)?;
-    write_all(output, text.as_bytes())
 }

@@ -8,7 +8,7 @@ ghost use Rattle.sixel.specs.Form.{image_line, image_form};
 ghost use Rattle.sixel.specs.WorkOutput.{IsImageOutput, Serves};
 
 use crate::fault::Fault;
-use crate::write::write_all;
+use crate::write::write_parts;
 use icy_sixel::SixelImage;
 use std::alloc::Global;
 use std::io::Write;
@@ -32,7 +32,5 @@ pub fn write_image<O: Write>(alloc: Global, image: &SixelImage, output: &mut O) 
         (O.contents output.old) (O.contents output.new) }
 {
     let line = first_line(alloc, image)?;
-    write_all(output, line.as_bytes())?;
-    write_all(output, &image.pixels)?;
-    write_all(output, b"\n")
+    write_parts(output, &[line.as_bytes(), &image.pixels, b"\n"])
 }

@@ -8,6 +8,7 @@ mod fault;
 mod images;
 mod netpbm;
 mod notice;
+mod number;
 mod option_fault;
 mod palette_file;
 mod pam;
@@ -24,14 +25,13 @@ mod words;
 mod work;
 mod write;
 
-use draw_options::{read_options, split_files};
+use draw_options::{DrawOptions, Drawing, read_drawing};
 use fault::Fault;
 use notice::Notice;
 use option_fault::OptionFault;
-use palette_file::palette_path;
 use picture::write_picture;
 use picture_fault::PictureFault;
-use picture_words::{PictureWord, after_draw, read_picture_word};
+use picture_words::{PictureWord, after_draw};
 use response::{Response, respond, response_of};
 use std::fmt::Display;
 use std::process::ExitCode;
@@ -71,48 +71,41 @@ fn run(rt: &HostRuntime, words: &[String]) -> io::Result<u8> {
             &response_of(written.map_err(PictureFault::Shared)),
         );
     }
-    let palette = match palette_path(words) {
+    let Some(Ok(drawing)) = read_drawing_of(words) else {
+        return report_work(rt, words, &[]);
+    };
+    let palette = match drawing.path {
         Some(path) => match fs::read(rt, path) {
             Ok(palette) => palette,
             Err(error) => return report_file(rt, path, &error),
         },
         None => Vec::new(rt.alloc()),
     };
-    let names = file_names(words);
-    match read_picture_word(words) {
-        Some(word) if !names.is_empty() => draw_files(rt, word, &palette, names),
-        _ => {
-            let (mut input, mut output) = (rt.stdin(), rt.stdout());
-            let response = respond(rt.alloc(), words, &palette, &mut input, &mut output);
-            report(rt, words, &response)
-        }
+    if drawing.files.is_empty() {
+        return report_work(rt, words, &palette);
     }
-}
-
-/// The names of files after `draw` and its options.
-fn file_names(words: &[String]) -> &[String] {
-    match after_draw(words) {
-        Some(rest) => split_files(rest).1,
-        None => &[],
-    }
-}
-
-/// Does the work on each file. Returns the exit status, which is 1 if one of them fails.
-fn draw_files(
-    rt: &HostRuntime,
-    word: PictureWord,
-    palette: &[u8],
-    names: &[String],
-) -> io::Result<u8> {
     let mut status = 0;
-    for name in names {
-        status = status.max(draw_file(rt, word, palette, name)?);
+    for name in drawing.files {
+        status = status.max(draw_file(rt, drawing.options, &palette, name)?);
     }
     Ok(status)
 }
 
-/// Does the work on a file. Returns the exit status.
-fn draw_file(rt: &HostRuntime, word: PictureWord, palette: &[u8], name: &str) -> io::Result<u8> {
+/// What the arguments after `draw` state, if it is the first one.
+fn read_drawing_of(words: &[String]) -> Option<Result<Drawing<'_>, OptionFault<'_>>> {
+    Some(read_drawing(after_draw(words)?))
+}
+
+/// Does the work of the arguments on standard input. Returns the exit status.
+fn report_work(rt: &HostRuntime, words: &[String], palette: &[u8]) -> io::Result<u8> {
+    let (mut input, mut output) = (rt.stdin(), rt.stdout());
+    let response = respond(rt.alloc(), words, palette, &mut input, &mut output);
+    report(rt, words, &response)
+}
+
+/// Draws the image of a file. Returns the exit status.
+fn draw_file(rt: &HostRuntime, options: DrawOptions, palette: &[u8], name: &str) -> io::Result<u8> {
+    let word = PictureWord::Draw(options);
     match fs::read(rt, name) {
         Ok(file) => match write_picture(rt.alloc(), word, palette, &file, &mut rt.stdout()) {
             Ok(()) => Ok(0),
@@ -132,17 +125,11 @@ fn report_file(rt: &impl Eprint, name: &str, error: &impl Display) -> io::Result
 fn report(rt: &impl Eprint, words: &[String], response: &Response) -> io::Result<u8> {
     match response {
         Response::Done => {}
-        Response::Usage => match draw_fault(words) {
-            Some(fault) => rt.eprintln(fault)?,
-            None => rt.eprintln("usage")?,
+        Response::Usage => match read_drawing_of(words) {
+            Some(Err(fault)) => rt.eprintln(fault)?,
+            _ => rt.eprintln("usage")?,
         },
         Response::Failed(fault) => rt.eprintln(fault)?,
     }
     Ok(response.status())
-}
-
-/// What is wrong with the options of `draw`, if the arguments begin with it.
-fn draw_fault(words: &[String]) -> Option<OptionFault<'_>> {
-    let (options, _) = split_files(after_draw(words)?);
-    read_options(options).err()
 }

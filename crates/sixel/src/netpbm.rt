@@ -10,4 +10,4 @@ mod raster;
 mod words;
 
 pub use error::NetpbmError;
-pub use image::{RgbaImage, read_image};
+pub use image::read_image;

@@ -1,6 +1,7 @@
 //! What is wrong with an option of `draw`.
 
-ghost use Rattle.sixel.specs.Options.{IsFaultyLast};
+ghost use Rattle.std.specs.Prelude.{◌≡◌};
+ghost use Rattle.sixel.specs.Options.{last_wrong, wrong_of};
 
 use thiserror::Error;
 
@@ -33,7 +34,7 @@ pub enum OptionFault<'a> {
 impl<'a> OptionFault<'a> {
     /// The fault of a last argument in an option's place, which has no value.
     pub fn of_last(name: &'a str) -> Self
-        ensures { IsFaultyLast name.now result }
+        ensures { wrong_of result ≡ last_wrong name.now }
     {
         match name {
             "-c" | "-p" | "-d" | "-s" | "-t" => Self::NoValue(name),

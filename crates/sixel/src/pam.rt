@@ -8,7 +8,7 @@ ghost use Rattle.sixel.specs.Form.{pam_form, pam_header};
 ghost use Rattle.sixel.specs.WorkOutput.{IsImageOutput, Serves};
 
 use crate::fault::Fault;
-use crate::write::write_all;
+use crate::write::write_parts;
 use icy_sixel::SixelImage;
 use std::alloc::Global;
 use std::io::Write;
@@ -22,8 +22,7 @@ pub fn write_pam<O: Write>(alloc: Global, image: &SixelImage, output: &mut O) ->
         (O.contents output.old) (O.contents output.new) }
 {
     let header = header(alloc, image)?;
-    write_all(output, header.as_bytes())?;
-    write_all(output, &image.pixels)
+    write_parts(output, &[header.as_bytes(), &image.pixels])
 }
 
 /// The header of an image's PAM file, up to its pixels.

@@ -3,7 +3,7 @@
 ghost use Rattle.std.specs.Prelude.{◌≡◌, ◌∷◌, IfSome, IfNone, MatchOption, codes};
 ghost use Rattle.sixel.specs.Words.{BeginsWithDraw, IsPictureAskedBy, words_of};
 
-use crate::draw_options::{DrawOptions, read_options, split_files};
+use crate::draw_options::{DrawOptions, read_drawing};
 
 /// Work that writes or reads an image in netpbm's formats.
 #[derive(Clone, Copy)]
@@ -25,8 +25,8 @@ pub fn read_picture_word(words: &[String]) -> Option<PictureWord>
     match words {
         [word] if word.as_str() == "pam" => Some(PictureWord::Pam),
         _ => {
-            let (options, _) = split_files(after_draw(words)?);
-            Some(PictureWord::Draw(read_options(options).ok()?))
+            let drawing = read_drawing(after_draw(words)?).ok()?;
+            Some(PictureWord::Draw(drawing.options))
         }
     }
 }

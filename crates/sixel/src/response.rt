@@ -1,18 +1,10 @@
 //! How the program ends for its arguments and its input, with which exit status.
 
-ghost use Rattle.std.specs.Prelude.{◌≡◌, Err, IfSome, MatchResult};
-ghost use Rattle.std.specs.Io.KnownBytes.{Keeps};
-ghost use Rattle.sixel_base.specs.declared.error.SixelError.{SixelError};
-ghost use Rattle.sixel.specs.declared.netpbm.error.NetpbmError.{NetpbmError};
-ghost use Rattle.sixel.specs.declared.fault.Fault.TheVariants.{Sixel, Input, Output};
+ghost use Rattle.std.specs.Prelude.{◌≡◌, MatchResult};
 ghost use Rattle.sixel.specs.declared.picture_fault.PictureFault.{PictureFault};
-ghost use Rattle.sixel.specs.declared.picture_fault.PictureFault.TheVariants.{Netpbm, Shared};
 ghost use Rattle.sixel.specs.declared.response.Response.TheVariants.{Done, Usage, Failed};
-ghost use Rattle.sixel.specs.declared.work.Work.{Work};
-ghost use Rattle.sixel.specs.Ending.{Done as Whole, Refused, Unreadable};
 ghost use Rattle.sixel.specs.Words.{IsAskedBy, words_of};
-ghost use Rattle.sixel.specs.WorkOutput.{IsWorkOutput, Begins};
-ghost use Rattle.sixel.specs.Output.{Writes};
+ghost use Rattle.sixel.specs.WorkOutput.{IsWorkOutput, Responds};
 
 use crate::engine::serve;
 use crate::picture::serve_picture;
@@ -49,7 +41,7 @@ impl Response {
 
 /// Does the work of the arguments after the program's own name.
 ///
-/// The palette is the content of the file that `palette_path` names, if it names one. If the
+/// The palette is the content of the palette file, if an option names one. If the
 /// arguments ask for no work, nothing is read or written. The clauses on bytes hold if the reader
 /// reports the bytes that it has left, and the writer those that it contains.
 pub fn respond<R: Read, O: Write>(
@@ -59,29 +51,11 @@ pub fn respond<R: Read, O: Write>(
     input: &mut R,
     output: &mut O,
 ) -> Response
-    ensures usage { result ≡ Usage → (work : Work) → ¬ IsAskedBy (words_of words.now) work }
+    ensures responds { Responds result (IsAskedBy (words_of words.now))
+        (λ work. IsWorkOutput work palette.now) (R.remaining input.old)
+        (O.contents output.old) (O.contents output.new) }
     ensures untouched { result ≡ Usage
         → (output.new ≡ output.old) × (input.new ≡ input.old) }
-    ensures done { result ≡ Done → IfSome (R.remaining input.old) (λ bytes.
-        (work : Work) × IsAskedBy (words_of words.now) work
-        × Writes (λ text. IsWorkOutput work palette.now bytes text Whole)
-        (O.contents output.old) (O.contents output.new)) }
-    ensures refused { (error : SixelError) → result ≡ Failed (Shared (Sixel error))
-        → IfSome (R.remaining input.old) (λ bytes.
-        (work : Work) × IsAskedBy (words_of words.now) work
-        × Writes (λ text. IsWorkOutput work palette.now bytes text (Refused error))
-        (O.contents output.old) (O.contents output.new)) }
-    ensures unreadable { (error : NetpbmError) → result ≡ Failed (Netpbm error)
-        → IfSome (R.remaining input.old) (λ bytes.
-        (work : Work) × IsAskedBy (words_of words.now) work
-        × Writes (λ text. IsWorkOutput work palette.now bytes text (Unreadable error))
-        (O.contents output.old) (O.contents output.new)) }
-    ensures unread { result ≡ Failed (Shared Input)
-        → Keeps (O.contents output.old) (O.contents output.new) }
-    ensures unwritten { result ≡ Failed (Shared Output) → IfSome (R.remaining input.old) (λ bytes.
-        (work : Work) × IsAskedBy (words_of words.now) work
-        × Writes (Begins (IsWorkOutput work palette.now bytes))
-        (O.contents output.old) (O.contents output.new)) }
 {
     match read_work(words) {
         Some(Work::Data(word)) => {

@@ -7,29 +7,21 @@ ghost use Rattle.sixel_base.specs.Decoder.{new_decoder, IsSetAs};
 ghost use Rattle.sixel_base.specs.Fault.{Faults};
 ghost use Rattle.sixel_base.specs.Dcs.{dcs_status, dcs_count, dcs_fault, has_ended, IsSameString};
 ghost use Rattle.sixel_base.specs.Payload.{Image};
-ghost use Rattle.sixel_base.specs.declared.status.SixelDcsFeedStatus.TheVariants.{Complete};
+ghost use Rattle.sixel_base.specs.declared.status.SixelDcsFeedStatus.{SixelDcsFeedStatus};
 ghost use Rattle.icy_sixel.specs.ImageView.{image_value};
 ghost use Rattle.icy_sixel.specs.Receiver.{OfString};
 ghost use Rattle.sixel_decoder.specs.declared.received.Status.TheVariants.{Dcs};
 ghost use Rattle.sixel_base.specs.OneShot.{found, IsFoundImage, AreFoundRegisters};
-ghost use Rattle.sixel.specs.Sequences.{IsFedInChunks, IsSequencesOutput};
-ghost use Rattle.sixel.specs.Sequences.{is_cut_short, sequence_fault};
+ghost use Rattle.sixel.specs.Sequences.{HasEnded, IsFedInChunks, IsSequencesOutput, rest_by};
+ghost use Rattle.sixel.specs.Sequences.{rest_of, sequence_fault};
 ghost use Rattle.sixel.specs.Form.{image_form};
-ghost use Rattle.sixel.specs.WorkOutput.{IsImageOutput, Serves};
+ghost use Rattle.sixel.specs.WorkOutput.{Serves};
 
 use crate::fault::Fault;
 use crate::images::write_image;
 use icy_sixel::{Received, SixelDcsFeedStatus, SixelError, SixelImage, SixelReceiver, Status};
 use std::alloc::Global;
 use std::io::Write;
-
-/// A DCS sequence that has ended: its image, its length, and how it ended.
-#[derive(Drop)]
-struct Sequence {
-    image: SixelImage,
-    len: usize,
-    status: Status,
-}
 
 /// Writes the image of each DCS sequence, until one ends early or no byte is left.
 ///
@@ -45,30 +37,14 @@ pub fn write_sequences<O: Write>(
         (O.contents output.old) (O.contents output.new) }
 {
     let mut receiver = SixelReceiver::new();
-    write_each(alloc, &mut receiver, chunk_len, bytes, output)
-}
-
-/// Writes the image of each DCS sequence that a new receiver reads.
-fn write_each<O: Write>(
-    alloc: Global,
-    receiver: &mut SixelReceiver,
-    chunk_len: usize,
-    bytes: &[u8],
-    output: &mut O,
-) -> Result<(), Fault>
-    requires chunks { 0 < chunk_len }
-    requires fresh { receiver.old.decoder ≡ new_decoder }
-    ensures { Serves result (IsSequencesOutput new_decoder bytes.now)
-        (O.contents output.old) (O.contents output.new) }
-{
     let mut rest = bytes;
     'sequences: while !rest.is_empty() {
-        rest = write_sequence(alloc, receiver, chunk_len, rest, output)?;
+        rest = write_sequence(alloc, &mut receiver, chunk_len, rest, output)?;
     }
     Ok(())
 }
 
-/// Writes the image of the first DCS sequence, and returns the bytes after it.
+/// Writes the image of the first DCS sequence, and returns the bytes to read next.
 fn write_sequence<'a, O: Write>(
     alloc: Global,
     receiver: &mut SixelReceiver,
@@ -78,77 +54,35 @@ fn write_sequence<'a, O: Write>(
 ) -> Result<&'a [u8], Fault>
     requires chunks { 0 < chunk_len }
     requires some { 0 < length bytes.now }
-    ensures image { OnOk result ((image : Image)
-        × IsFoundImage receiver.old.decoder (found bytes.now) image
+    ensures written { OnOk result ((image : Image)
+        × HasEnded receiver.old.decoder bytes.now image receiver.new.decoder
         × Appends (O.contents output.old) (O.contents output.new) (image_form image)) }
-    ensures registers { OnOk result
-        (AreFoundRegisters receiver.old.decoder (found bytes.now) receiver.new.decoder.registers) }
-    ensures set { OnOk result (IsSetAs receiver.old.decoder receiver.new.decoder) }
-    ensures faultless { OnOk result
-        (sequence_fault receiver.old.decoder.pixel_limit bytes.now ≡ None) }
-    ensures complete { IfOk result (λ after. dcs_status bytes.now ≡ Complete
-        → after.now ≡ drop (dcs_count bytes.now) bytes.now) }
-    ensures cut_short { IfOk result (λ after. is_cut_short (dcs_status bytes.now) ≡ true
-        → after.now ≡ []) }
+    ensures rest { IfOk result (λ rest. rest.now ≡ rest_of bytes.now) }
     ensures stopped { OnErr result (Serves result (IsSequencesOutput receiver.old.decoder bytes.now)
         (O.contents output.old) (O.contents output.new)) }
 {
-    let sequence = read_sequence(alloc, receiver, chunk_len, bytes)?;
-    write_read(alloc, sequence, bytes, output)
-}
-
-/// Writes the image of the DCS sequence, and returns the bytes to read next.
-fn write_read<'a, O: Write>(
-    alloc: Global,
-    sequence: Sequence,
-    bytes: &'a [u8],
-    output: &mut O,
-) -> Result<&'a [u8], Fault>
-    requires { sequence.len ≤ length bytes.now }
-    ensures image { Serves result
-        (IsImageOutput image_form None (λ i. i ≡ image_value sequence.image))
-        (O.contents output.old) (O.contents output.new) }
-    ensures complete { IfOk result (λ after. sequence.status ≡ Dcs Complete
-        → after.now ≡ drop sequence.len bytes.now) }
-    ensures cut_short { IfOk result (λ after. (status : SixelDcsFeedStatus)
-        → sequence.status ≡ Dcs status → is_cut_short status ≡ true → after.now ≡ []) }
-{
-    match write_image(alloc, &sequence.image, output) {
-        Ok(()) => Ok(bytes_after(sequence.status, sequence.len, bytes)),
+    let (image, rest) = read_sequence(alloc, receiver, chunk_len, bytes)?;
+    match write_image(alloc, &image, output) {
+        Ok(()) => Ok(rest),
         Err(fault) => Err(fault),
     }
 }
 
-/// The bytes to read after a DCS sequence of `len` bytes: none if it ended early.
-fn bytes_after(status: Status, len: usize, bytes: &[u8]) -> &[u8]
-    requires { len ≤ length bytes.now }
-    ensures complete { status ≡ Dcs Complete → result.now ≡ drop len bytes.now }
-    ensures cut_short { (found : SixelDcsFeedStatus) → status ≡ Dcs found
-        → is_cut_short found ≡ true → result.now ≡ [] }
-{
-    match status {
-        Status::Dcs(SixelDcsFeedStatus::Complete) => &bytes[len..],
-        _ => &[],
-    }
-}
-
-/// Decodes the DCS sequence at the start of the bytes. Those after it are not read.
-fn read_sequence(
+/// Decodes the DCS sequence at the start of the bytes, and returns the bytes to read next.
+fn read_sequence<'a>(
     alloc: Global,
     receiver: &mut SixelReceiver,
     chunk_len: usize,
-    bytes: &[u8],
-) -> Result<Sequence, SixelError>
+    bytes: &'a [u8],
+) -> Result<(SixelImage, &'a [u8]), SixelError>
     requires chunks { 0 < chunk_len }
     requires some { 0 < length bytes.now }
-    ensures image { IfOk result (λ sequence.
-        IsFoundImage receiver.old.decoder (found bytes.now) (image_value sequence.image)) }
+    ensures image { IfOk result (λ read.
+        IsFoundImage receiver.old.decoder (found bytes.now) (image_value read.0)) }
     ensures registers { OnOk result
         (AreFoundRegisters receiver.old.decoder (found bytes.now) receiver.new.decoder.registers) }
     ensures set { OnOk result (IsSetAs receiver.old.decoder receiver.new.decoder) }
-    ensures len { IfOk result (λ sequence. sequence.len ≡ dcs_count bytes.now) }
-    ensures within { IfOk result (λ sequence. sequence.len ≤ length bytes.now) }
-    ensures status { IfOk result (λ sequence. sequence.status ≡ Dcs (dcs_status bytes.now)) }
+    ensures rest { IfOk result (λ read. read.1.now ≡ rest_of bytes.now) }
     ensures faultless { OnOk result
         (sequence_fault receiver.old.decoder.pixel_limit bytes.now ≡ None) }
     ensures refused { IfErr result (λ error. Faults error true
@@ -157,11 +91,19 @@ fn read_sequence(
     receiver.begin_dcs(alloc);
     let fed = feed_chunks(receiver, chunk_len, bytes)?;
     let image = receiver.finish_image()?;
-    Ok(Sequence {
-        image,
-        len: fed.consumed,
-        status: fed.status,
-    })
+    Ok((image, bytes_after(fed, bytes)))
+}
+
+/// The bytes to read after a DCS sequence: none if it ended early.
+fn bytes_after(sequence: Received, bytes: &[u8]) -> &[u8]
+    requires { sequence.consumed ≤ length bytes.now }
+    ensures { (status : SixelDcsFeedStatus) → sequence.status ≡ Dcs status
+        → result.now ≡ rest_by status (drop sequence.consumed bytes.now) }
+{
+    match sequence.status {
+        Status::Dcs(SixelDcsFeedStatus::Complete) => &bytes[sequence.consumed..],
+        _ => &[],
+    }
 }
 
 /// Feeds a new DCS sequence chunks of `chunk_len` bytes, until it ends.

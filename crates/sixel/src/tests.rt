@@ -1,6 +1,7 @@
 //! Test vectors, and inputs and outputs that fail.
 
-ghost use Rattle.std.specs.Prelude.{◌≤◌, IfOk};
+ghost use Rattle.std.specs.Prelude.{◌≤◌, IfOk, IfSome};
+ghost use Rattle.sixel.specs.Words.{IsServable};
 
 use crate::engine::serve;
 use crate::fault::Fault;
@@ -86,6 +87,14 @@ const IMAGES: &[u8] = b"image 1 6 9 0\n\
     image 1 6 9 0\n\
     \xff\0\0\xff\0\0\0\xff\0\0\0\xff\0\0\0\xff\0\0\0\xff\0\0\0\xff\n";
 
+/// The work that these arguments ask for.
+fn read_words(words: &str) -> Option<Word>
+    ensures { IfSome result IsServable }
+{
+    let mut words = words.split(' ');
+    read_word(words.next()?, words.next(), words.next(), words.next())
+}
+
 #[test]
 fn runs(rt: HostRuntime) -> Result<(), Fail> {
     let blue = b"image 1 6 9 0\n33\xcc\xff33\xcc\xff33\xcc\xff33\xcc\xff33\xcc\xff33\xcc\xff\n";
@@ -96,44 +105,20 @@ fn runs(rt: HostRuntime) -> Result<(), Fail> {
     let introducer = "no SIXEL data found (missing DCS introducer)";
     let length = "buffer size mismatch: expected 16 bytes, got 15";
     let sides = "invalid dimensions: 0x4";
-    let rows: [(&str, [Option<&str>; 3], &[u8], &[u8], &str); 9] = [
-        ("payload", [None; 3], b"#1~", blue, ""),
-        ("decode", [None; 3], b"\x1bPq#1~\x1b\\", blue, ""),
-        ("decode", [None; 3], b"\x1bPbad", b"", header),
-        ("frames", [Some("1"), None, None], b"", b"", ""),
-        ("frames", [Some("1"), None, None], SEQUENCES, IMAGES, ""),
-        (
-            "frames",
-            [Some("1"), None, None],
-            b"\x1bPq@\x1b\\\n",
-            black,
-            introducer,
-        ),
-        (
-            "encode",
-            [Some("3"), Some("1"), Some("2")],
-            pixels,
-            two_colors,
-            "",
-        ),
-        (
-            "encode",
-            [Some("0"), Some("4"), Some("16")],
-            b"",
-            b"",
-            sides,
-        ),
-        (
-            "encode",
-            [Some("2"), Some("2"), Some("256")],
-            &[0; 15],
-            b"",
-            length,
-        ),
+    let rows: [(&str, &[u8], &[u8], &str); 9] = [
+        ("payload", b"#1~", blue, ""),
+        ("decode", b"\x1bPq#1~\x1b\\", blue, ""),
+        ("decode", b"\x1bPbad", b"", header),
+        ("frames 1", b"", b"", ""),
+        ("frames 1", SEQUENCES, IMAGES, ""),
+        ("frames 1", b"\x1bPq@\x1b\\\n", black, introducer),
+        ("encode 3 1 2", pixels, two_colors, ""),
+        ("encode 0 4 16", b"", b"", sides),
+        ("encode 2 2 256", &[0; 15], b"", length),
     ];
-    for (word, [a, b, c], input, output, error) in rows {
-        let Some(word) = read_word(word, a, b, c) else {
-            panic!(rt; "{word}");
+    for (words, input, output, error) in rows {
+        let Some(word) = read_words(words) else {
+            panic!(rt; "{words}");
         };
         let (mut input, mut written) = (input, Vec::new(rt.alloc()));
         let failed = match serve(rt.alloc(), word, &mut input, &mut written) {
@@ -148,17 +133,17 @@ fn runs(rt: HostRuntime) -> Result<(), Fail> {
 
 #[test]
 fn usage(rt: HostRuntime) {
-    for (word, a, b, c) in [
-        ("frames", Some("0"), None, None),
-        ("frames", Some("+1"), None, None),
-        ("frames", Some("18446744073709551616"), None, None),
-        ("frames", None, None, None),
-        ("payload", Some("1"), None, None),
-        ("encode", Some("1"), Some("1"), Some("65536")),
-        ("encode", Some("1"), Some("1"), None),
-        ("Decode", None, None, None),
+    for words in [
+        "frames 0",
+        "frames +1",
+        "frames 18446744073709551616",
+        "frames",
+        "payload 1",
+        "encode 1 1 65536",
+        "encode 1 1",
+        "Decode",
     ] {
-        assert!(rt; read_word(word, a, b, c).is_none(), "{word}");
+        assert!(rt; read_words(words).is_none(), "{words}");
     }
 }
 

@@ -1,9 +1,8 @@
 //! The work that all arguments ask for.
 
-ghost use Rattle.std.specs.Prelude.{◌≡◌, IfSome, IfNone, option_map, slice_get};
-ghost use Rattle.sixel.specs.declared.picture_words.PictureWord.{PictureWord};
-ghost use Rattle.sixel.specs.declared.words.Word.{Word};
-ghost use Rattle.sixel.specs.Words.{IsAskedBy, IsAskedInFour, IsDoable, IsServable, words_of};
+ghost use Rattle.std.specs.Prelude.{IfSome, IfNone};
+ghost use Rattle.sixel.specs.declared.work.Work.{Work};
+ghost use Rattle.sixel.specs.Words.{IsAskedBy, IsDoable, words_of};
 
 use crate::picture_words::{PictureWord, read_picture_word};
 use crate::words::{Word, read_word};
@@ -25,37 +24,15 @@ pub fn read_work(words: &[String]) -> Option<Work>
     ensures usage { IfNone result ((work : Work) → ¬ IsAskedBy (words_of words.now) work) }
     ensures doable { IfSome result IsDoable }
 {
-    match read_picture_word(words) {
-        Some(word) => Some(Work::Picture(word)),
-        None => Some(Work::Data(read_few(words)?)),
+    if let Some(word) = read_picture_word(words) {
+        return Some(Work::Picture(word));
     }
-}
-
-/// The work on data that at most four arguments ask for.
-///
-/// `None` means that they are wrong.
-fn read_few(words: &[String]) -> Option<Word>
-    ensures asked { IfSome result (IsAskedInFour (words_of words.now)) }
-    ensures usage { IfNone result ((asked : Word) → ¬ IsAskedInFour (words_of words.now) asked) }
-    ensures servable { IfSome result IsServable }
-{
-    match words.len() {
-        1..=4 => read_word(
-            &words[0],
-            word_at(words, 1),
-            word_at(words, 2),
-            word_at(words, 3),
-        ),
+    let word = match words {
+        [word] => read_word(word, None, None, None),
+        [word, a] => read_word(word, Some(a), None, None),
+        [word, a, b] => read_word(word, Some(a), Some(b), None),
+        [word, a, b, c] => read_word(word, Some(a), Some(b), Some(c)),
         _ => None,
-    }
-}
-
-/// The argument at this place, if there is one.
-fn word_at(words: &[String], place: usize) -> Option<&str>
-    ensures { option_map (λ t. t.now) result ≡ slice_get (words_of words.now) place }
-{
-    match words.get(place) {
-        Some(word) => Some(word),
-        None => None,
-    }
+    };
+    Some(Work::Data(word?))
 }

@@ -4,7 +4,8 @@ use Rattle.std.specs.List.{starts_with}
 use Rattle.sixel.specs.declared.netpbm.error.NetpbmError.TheVariants.{Magic}
 use Rattle.sixel.specs.netpbm.Fields.{Read, checked, with_rest}
 use Rattle.sixel.specs.netpbm.Pam.{pam_header}
-use Rattle.sixel.specs.netpbm.Words.{after_gap, after_word, number_of, word_of}
+use Rattle.sixel.specs.Number.{number_of}
+use Rattle.sixel.specs.netpbm.Words.{after_gap, after_word, word_of}
 
 -- The header of a PPM or a PGM file after its magic number. Its numbers follow gaps. One byte, a
 -- blank, is between the last one and the pixels.

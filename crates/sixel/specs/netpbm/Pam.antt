@@ -10,12 +10,10 @@ use Rattle.sixel.specs.declared.netpbm.error.NetpbmError.{NetpbmError}
 use Rattle.sixel.specs.declared.netpbm.error.NetpbmError.TheVariants.{TupleType as WrongType}
 use Rattle.sixel.specs.declared.netpbm.error.NetpbmError.TheVariants.{Header as Malformed}
 use Rattle.sixel.specs.declared.netpbm.header.Header.{Header}
-use Rattle.sixel.specs.declared.netpbm.pam.Field.{Field}
-use Rattle.sixel.specs.declared.netpbm.pam.Field.TheVariants.{Width, Height, Depth, Maxval}
-use Rattle.sixel.specs.declared.netpbm.pam.Field.TheVariants.{TupleType}
 use Rattle.sixel.specs.declared.netpbm.pam.Fields.{Fields}
 use Rattle.sixel.specs.netpbm.Fields.{Read, checked, with_rest}
-use Rattle.sixel.specs.netpbm.Words.{after_blanks, after_word, number_of, word_of}
+use Rattle.sixel.specs.Number.{number_of}
+use Rattle.sixel.specs.netpbm.Words.{after_blanks, after_word, word_of}
 
 abbrev pub no_fields : Fields
 no_fields = record {
@@ -25,16 +23,6 @@ no_fields = record {
   maxval = None;
   tuple_depth = None;
 }
-
--- the field of this name
-abbrev pub field_of : List ℕ → Option Field
-field_of name =
-    if bytes_eq name (codes "WIDTH") then Some Width
-    else (if bytes_eq name (codes "HEIGHT") then Some Height
-    else (if bytes_eq name (codes "DEPTH") then Some Depth
-    else (if bytes_eq name (codes "MAXVAL") then Some Maxval
-    else (if bytes_eq name (codes "TUPLTYPE") then Some TupleType
-    else None))))
 
 -- the samples of a pixel of this tuple type, or 0 if it is unknown
 abbrev pub tuple_depth : List ℕ → ℕ
@@ -51,19 +39,21 @@ abbrev pub first : Option ℕ → Option ℕ → Option ℕ
 first None value = value
 first (Some _) value = None
 
--- the fields with one that was not there before
-abbrev pub with_field : Fields → Field → List ℕ → Option Fields
-with_field fields Width value =
-    option_map (λ n. record fields { width = Some n }) (first fields.width (number_of value))
-with_field fields Height value =
-    option_map (λ n. record fields { height = Some n }) (first fields.height (number_of value))
-with_field fields Depth value =
-    option_map (λ n. record fields { depth = Some n }) (first fields.depth (number_of value))
-with_field fields Maxval value =
-    option_map (λ n. record fields { maxval = Some n }) (first fields.maxval (number_of value))
-with_field fields TupleType value =
-    option_map (λ n. record fields { tuple_depth = Some n })
+-- the fields with that of this name, if it was not there before
+abbrev pub with_field : Fields → List ℕ → List ℕ → Option Fields
+with_field fields name value =
+    if bytes_eq name (codes "WIDTH")
+    then option_map (λ n. record fields { width = Some n }) (first fields.width (number_of value))
+    else (if bytes_eq name (codes "HEIGHT")
+    then option_map (λ n. record fields { height = Some n }) (first fields.height (number_of value))
+    else (if bytes_eq name (codes "DEPTH")
+    then option_map (λ n. record fields { depth = Some n }) (first fields.depth (number_of value))
+    else (if bytes_eq name (codes "MAXVAL")
+    then option_map (λ n. record fields { maxval = Some n }) (first fields.maxval (number_of value))
+    else (if bytes_eq name (codes "TUPLTYPE")
+    then option_map (λ n. record fields { tuple_depth = Some n })
     (first fields.tuple_depth (Some (tuple_depth value)))
+    else None))))
 
 -- the name of a line
 abbrev pub name_of : List ℕ → List ℕ
@@ -78,8 +68,7 @@ abbrev pub with_line : Fields → List ℕ → Option Fields
 with_line fields line =
     if length (name_of line) == 0 || starts_with nat_eq (name_of line) (codes "#") then Some fields
     else (if length (after_blanks (after_word (after_name line))) == 0
-    then option_and_then (λ field. with_field fields field (word_of (after_name line)))
-    (field_of (name_of line))
+    then with_field fields (name_of line) (word_of (after_name line))
     else None)
 
 -- whether a line is the last one of the header

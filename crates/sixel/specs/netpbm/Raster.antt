@@ -4,7 +4,7 @@
 -- one count as it.
 use Rattle.std.specs.Prelude.{ℕ, ◌+◌, ◌*◌, ◌/◌, ◌==◌, min, nat_lt, if◌then◌else◌, List, [], ◌∷◌}
 use Rattle.std.specs.Prelude.{drop, slice_index, take}
-use Rattle.std.specs.List.{flat_map, range_with_len}
+use Rattle.sixel_base.specs.Picture.{joined}
 use Rattle.sixel.specs.declared.netpbm.header.Header.{Header}
 
 -- the bytes of a pixel
@@ -41,8 +41,7 @@ pixel_at header raster pixel = take (pixel_len header) (drop (pixel * pixel_len 
 
 -- the first pixels, row by row
 abbrev pub first_pixels : Header → List ℕ → ℕ → List ℕ
-first_pixels header raster count =
-    flat_map (λ pixel. rgba header (pixel_at header raster pixel)) (range_with_len 0 count)
+first_pixels header raster = joined (λ pixel. rgba header (pixel_at header raster pixel))
 
 -- all pixels
 abbrev pub pixels_of : Header → List ℕ → List ℕ

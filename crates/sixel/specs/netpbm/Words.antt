@@ -1,8 +1,7 @@
--- The words of a header, and the numbers that they spell. Blanks and comments are those of netpbm's
+-- The words of a header. Blanks and comments are those of netpbm's
 -- pages ppm(5) and pam(5). A comment counts as its line end. So no comment is inside of a word.
-use Rattle.std.specs.Prelude.{ℕ, ◌+◌, ◌-◌, ◌*◌, ◌^◌, ◌==◌, ◌||◌, ◌&&◌, nat_lt, nat_le, Bool, true}
-use Rattle.std.specs.Prelude.{false, if◌then◌else◌, List, [], ◌∷◌, Option, None, Some}
-use Rattle.std.specs.Prelude.{option_and_then}
+use Rattle.std.specs.Prelude.{ℕ, ◌==◌, ◌||◌, Bool, true}
+use Rattle.std.specs.Prelude.{false, if◌then◌else◌, List, [], ◌∷◌}
 
 -- a space, a tab, a line feed or a carriage return
 abbrev pub blank : ℕ → Bool
@@ -37,21 +36,3 @@ word_of (byte ∷ bytes) = if blank byte then [] else byte ∷ word_of bytes
 abbrev pub after_word : List ℕ → List ℕ
 after_word [] = []
 after_word (byte ∷ bytes) = if blank byte then byte ∷ bytes else after_word bytes
-
--- a number with one more decimal digit, below 2 ^ 64
-abbrev pub with_digit : ℕ → ℕ → Option ℕ
-with_digit number byte =
-    if nat_le 48 byte && nat_le byte 57 && nat_lt (10 * number + (byte - 48)) (2 ^ 64)
-    then Some (10 * number + (byte - 48))
-    else None
-
--- the number with these decimal digits after it
-abbrev pub with_digits : ℕ → List ℕ → Option ℕ
-with_digits number [] = Some number
-with_digits number (byte ∷ bytes) =
-    option_and_then (λ n. with_digits n bytes) (with_digit number byte)
-
--- the number that decimal digits spell, below 2 ^ 64
-abbrev pub number_of : List ℕ → Option ℕ
-number_of [] = None
-number_of (byte ∷ bytes) = with_digits 0 (byte ∷ bytes)

@@ -6,7 +6,8 @@ ghost use Rattle.sixel.specs.netpbm.Header.{header_of, pnm_header};
 
 use crate::netpbm::error::NetpbmError;
 use crate::netpbm::pam::read_pam;
-use crate::netpbm::words::{number, skip_gap, split_word};
+use crate::netpbm::words::{skip_gap, split_word};
+use crate::number::number;
 
 /// The sizes of an image, and how its samples are stored.
 #[derive(Clone, Copy)]
@@ -63,9 +64,6 @@ pub fn check(
     maxval: Option<usize>,
 ) -> Result<Header, NetpbmError>
     ensures checked { result ≡ checked width height depth maxval }
-    ensures least { IfOk result (λ header. (0 < header.depth) × (0 < header.maxval)) }
-    ensures most { IfOk result (λ header. header.maxval < 65536) }
-    ensures depth { IfOk result (λ header. depth ≡ Some header.depth) }
 {
     match (width, height, depth, maxval) {
         (Some(width), Some(height), Some(depth), Some(maxval))

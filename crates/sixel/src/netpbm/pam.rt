@@ -2,39 +2,25 @@
 
 ghost use Rattle.std.specs.Prelude.{◌≡◌, [], IfOk, MatchResult, MatchOption, Ok, Err, None, Some};
 ghost use Rattle.sixel.specs.netpbm.Fields.{IsHeader};
-ghost use Rattle.sixel.specs.netpbm.Pam.{field_of, first, is_end, pam_header, read_lines};
+ghost use Rattle.sixel.specs.netpbm.Pam.{first, is_end, pam_header, read_lines};
 ghost use Rattle.sixel.specs.netpbm.Pam.{tuple_depth, header_of_fields, no_fields, with_field};
 ghost use Rattle.sixel.specs.netpbm.Pam.{with_line};
 
 use crate::netpbm::error::NetpbmError;
 use crate::netpbm::header::{Header, check};
-use crate::netpbm::words::{number, skip_blanks, split_word};
-
-/// A field of the header.
-#[derive(Clone, Copy)]
-pub enum Field {
-    /// Pixels in a row.
-    Width,
-    /// Rows.
-    Height,
-    /// Samples of a pixel.
-    Depth,
-    /// The greatest sample.
-    Maxval,
-    /// What the samples are.
-    TupleType,
-}
+use crate::netpbm::words::{skip_blanks, split_word};
+use crate::number::number;
 
 /// The fields that were read.
 #[derive(Clone, Copy)]
 pub struct Fields {
-    /// That of [`Field::Width`].
+    /// Pixels in a row.
     pub width: Option<usize>,
-    /// That of [`Field::Height`].
+    /// Rows.
     pub height: Option<usize>,
-    /// That of [`Field::Depth`].
+    /// Samples of a pixel.
     pub depth: Option<usize>,
-    /// That of [`Field::Maxval`].
+    /// The greatest sample.
     pub maxval: Option<usize>,
     /// The samples of a pixel of the tuple type, or 0 if it is unknown.
     pub tuple_depth: Option<usize>,
@@ -98,22 +84,26 @@ impl Fields {
         if !skip_blanks(rest).is_empty() {
             return None;
         }
-        self.with_field(field_of(name)?, value)
+        self.with_field(name, value)
     }
 
-    /// The fields with one that was not there before.
-    fn with_field(self, field: Field, value: &[u8]) -> Option<Self>
-        ensures { result ≡ with_field self field value.now }
+    /// The fields with that of this name, if it was not there before.
+    fn with_field(self, name: &[u8], value: &[u8]) -> Option<Self>
+        ensures { result ≡ with_field self name.now value.now }
     {
         let mut fields = self;
-        match field {
-            Field::Width => fields.width = Some(first(self.width, number(value))?),
-            Field::Height => fields.height = Some(first(self.height, number(value))?),
-            Field::Depth => fields.depth = Some(first(self.depth, number(value))?),
-            Field::Maxval => fields.maxval = Some(first(self.maxval, number(value))?),
-            Field::TupleType => {
-                fields.tuple_depth = Some(first(self.tuple_depth, Some(tuple_depth(value)))?);
-            }
+        if name == b"WIDTH".as_slice() {
+            fields.width = Some(first(self.width, number(value))?);
+        } else if name == b"HEIGHT".as_slice() {
+            fields.height = Some(first(self.height, number(value))?);
+        } else if name == b"DEPTH".as_slice() {
+            fields.depth = Some(first(self.depth, number(value))?);
+        } else if name == b"MAXVAL".as_slice() {
+            fields.maxval = Some(first(self.maxval, number(value))?);
+        } else if name == b"TUPLTYPE".as_slice() {
+            fields.tuple_depth = Some(first(self.tuple_depth, Some(tuple_depth(value)))?);
+        } else {
+            return None;
         }
         Some(fields)
     }
@@ -146,25 +136,6 @@ fn is_end(line: &[u8]) -> bool
     ensures { result ≡ is_end line.now }
 {
     split_word(skip_blanks(line)).0 == b"ENDHDR".as_slice()
-}
-
-/// The field of this name.
-fn field_of(name: &[u8]) -> Option<Field>
-    ensures { result ≡ field_of name.now }
-{
-    if name == b"WIDTH".as_slice() {
-        Some(Field::Width)
-    } else if name == b"HEIGHT".as_slice() {
-        Some(Field::Height)
-    } else if name == b"DEPTH".as_slice() {
-        Some(Field::Depth)
-    } else if name == b"MAXVAL".as_slice() {
-        Some(Field::Maxval)
-    } else if name == b"TUPLTYPE".as_slice() {
-        Some(Field::TupleType)
-    } else {
-        None
-    }
 }
 
 /// The samples of a pixel of this tuple type, or 0 if it is unknown.

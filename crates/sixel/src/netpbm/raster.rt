@@ -32,6 +32,7 @@ impl Header {
     }
 
     /// The pixels of these bytes, four bytes each.
+    #[tactic(auto, unfolding(sixel_base::specs::Picture::joined))]
     pub fn pixels(&self, alloc: Global, raster: &[u8]) -> Result<Vec<u8>, AllocError>
         requires header { IsHeader self.now }
         requires raster { raster_len self.now ≤ length raster.now }

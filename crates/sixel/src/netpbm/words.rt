@@ -1,8 +1,8 @@
-//! The words of a header, and the numbers that they spell.
+//! The words of a header.
 
 ghost use Rattle.std.specs.Prelude.{◌≡◌, ◌≤◌, length};
 ghost use Rattle.sixel.specs.netpbm.Words.{after_blanks, after_gap, after_word, blank, line_end};
-ghost use Rattle.sixel.specs.netpbm.Words.{number_of, with_digit, with_digits, word_of};
+ghost use Rattle.sixel.specs.netpbm.Words.{word_of};
 
 /// Whether the byte is a blank: a space, a tab, a line feed or a carriage return.
 pub fn is_blank(byte: u8) -> bool
@@ -60,32 +60,4 @@ pub fn split_word(bytes: &[u8]) -> (&[u8], &[u8])
         }
     }
     (bytes, &[])
-}
-
-/// The number that decimal digits spell, if it fits its type.
-pub fn number(word: &[u8]) -> Option<usize>
-    ensures { result ≡ number_of word.now }
-{
-    if word.is_empty() {
-        return None;
-    }
-    let mut number: usize = 0;
-    'digits: for byte in word {
-        number = with_digit(number, *byte)?;
-    }
-    Some(number)
-}
-
-/// Appends a decimal digit to a number.
-fn with_digit(number: usize, byte: u8) -> Option<usize>
-    ensures { result ≡ with_digit number byte }
-{
-    if !byte.is_ascii_digit() {
-        return None;
-    }
-    let digit = usize::from(byte - b'0');
-    if number > (usize::MAX - digit) / 10 {
-        return None;
-    }
-    Some(10 * number + digit)
 }

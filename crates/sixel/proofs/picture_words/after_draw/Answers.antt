@@ -1,7 +1,7 @@
 use Rattle.std.proofs.Common.{◌≡◌, ◌∷◌, ◌∙◌, ap, codes, drop, length, take, ◌-◌}
 use Rattle.std.proofs.lemmas.Bool.Decides.{Decides-eqb}
 use Rattle.std.proofs.lemmas.Slice.Eq.{slice_eq-Decides}
-use Rattle.sixel.proofs.OptionSteps.{first_word}
+use Rattle.sixel.proofs.FirstWords.{first_word}
 use Rattle.sixel.specs.Words.{words_of}
 use Rattle.sixel.proofs.picture_words.after_draw.Goals as goal
 

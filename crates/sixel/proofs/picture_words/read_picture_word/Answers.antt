@@ -1,7 +1,7 @@
 use Rattle.std.proofs.Common.{◌≡◌, ◌∷◌, [], ◌∙◌, ap, codes}
 use Rattle.std.proofs.lemmas.Bool.Decides.{Decides-eqb}
 use Rattle.std.proofs.lemmas.Slice.Eq.{slice_eq-Decides}
-use Rattle.sixel.proofs.OptionSteps.{only_word}
+use Rattle.sixel.proofs.FirstWords.{only_word}
 use Rattle.sixel.proofs.picture_words.read_picture_word.Goals as goal
 
 pub returns-in-len1-clause-asked : goal.returns-in-len1-clause-asked

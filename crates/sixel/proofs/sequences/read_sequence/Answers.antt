@@ -1,8 +1,9 @@
-use Rattle.std.proofs.Common.{◌≡◌, ◌++◌, true, ap, sym, ◌∙◌, arith, rules}
+use Rattle.std.proofs.Common.{◌≡◌, ◌++◌, true, ap, drop, sym, ◌∙◌, arith, rules}
 use Rattle.std.specs.Prelude.{if◌then◌else◌}
 use Rattle.std.proofs.lemmas.Result.{err_from_is_err_and}
 use Rattle.sixel_base.specs.Dcs.{IsSameString, can_finish, dcs_status, has_ended}
 use Rattle.sixel_decoder.specs.declared.received.Status.TheVariants.{Dcs}
+use Rattle.sixel.specs.Sequences.{rest_by}
 use Rattle.sixel.proofs.Chunks.{chunks_begin}
 use Rattle.sixel.proofs.DcsSequences.{Begins, begins_fits, finished_faultless, finishes_faultless}
 use Rattle.sixel.proofs.DcsSequences.{finishes_fed, followed_joined, refused_at_end, same_fed}
@@ -21,11 +22,11 @@ returns-in_err-image-clause-refused c =
     (rw (s.accepts, s.start, c.begin_dcs.ensures.image, s.form) at wrong))
 
 -- no row was released
-stored : (c : goal.In_ok-image) → c.feed_chunks.new.receiver.image.released ≡ 0
+stored : (c : goal.After-bytes_after) → c.feed_chunks.new.receiver.image.released ≡ 0
 stored c = c.in_ok-fed.ensures.released ∙ ap (λ i. i.released) c.begin_dcs.ensures.image
 
 -- what was fed can be finished
-finishes : (c : goal.In_ok-image)
+finishes : (c : goal.After-bytes_after)
     → can_finish c.args.receiver.now.decoder.pixel_limit c.feed_chunks.new.receiver.image.bytes
     ≡ true
 finishes c =
@@ -36,7 +37,7 @@ finishes c =
     (c.in_ok-image.ensures.finished (stored c)).finished.ended)
 
 -- the bytes of the sequence that was fed are those of the sequence that all begin with
-same : (c : goal.In_ok-image)
+same : (c : goal.After-bytes_after)
     → IsSameString c.args.receiver.now.decoder.pixel_limit c.feed_chunks.new.receiver.image.bytes
     c.args.bytes.now
 same c =
@@ -44,7 +45,7 @@ same c =
     same_fed _ _ _ (rw c.begin_dcs.ensures.image at s.over) s.chunks.enough
 
 -- and with the rest that followed they make up all bytes
-joined : (c : goal.In_ok-image) (begins : Begins c.feed_chunks.new.receiver.image.bytes
+joined : (c : goal.After-bytes_after) (begins : Begins c.feed_chunks.new.receiver.image.bytes
     c.args.bytes.now)
     → (if has_ended (dcs_status c.feed_chunks.new.receiver.image.bytes)
     then c.feed_chunks.new.receiver.image.bytes ++ begins.rest
@@ -66,15 +67,16 @@ returns-clause-registers c =
     let left = (rw (s.start, c.begin_dcs.ensures.image, s.form, joined c begins) at decoded).2 in
     search (rules, left)
 
-pub returns-clause-len : goal.returns-clause-len
-returns-clause-len c = c.in_ok-fed.ensures.consumed ∙ sym (same c).count
-
-pub returns-clause-within : goal.returns-clause-within
-returns-clause-within c =
+pub bytes_after-requires : goal.bytes_after-requires
+bytes_after-requires c =
     grind (arith, c.in_ok-fed.ensures.within, begins_fits, chunks_begin, c.in_ok-fed.ensures.chunks)
 
-pub returns-clause-status : goal.returns-clause-status
-returns-clause-status c = c.in_ok-fed.ensures.status ∙ ap Dcs (sym (same c).status)
+pub returns-clause-rest : goal.returns-clause-rest
+returns-clause-rest c =
+    let status = c.in_ok-fed.ensures.status ∙ ap Dcs (sym (same c).status) in
+    let count = c.in_ok-fed.ensures.consumed ∙ sym (same c).count in
+    c.bytes_after.ensures (dcs_status c.args.bytes.now) status
+    ∙ ap (λ n. rest_by (dcs_status c.args.bytes.now) (drop n c.args.bytes.now)) count
 
 pub returns-clause-faultless : goal.returns-clause-faultless
 returns-clause-faultless c =

@@ -1,9 +1,8 @@
-use Rattle.std.proofs.Common.{arith, length-drop, length-take, rules}
+use Rattle.std.proofs.Common.{arith, drop, length-drop, length-take, refl, rules, take}
+use Rattle.std.proofs.lemmas.List.{take-append-drop}
+use Rattle.sixel.specs.Ending.{Done}
 use Rattle.sixel.proofs.WrittenBytes.{Appends-rest}
 use Rattle.sixel.proofs.write.write_all.Goals as goal
-
-pub returns-then-done-bytes-clause-error : goal.returns-then-done-bytes-clause-error
-returns-then-done-bytes-clause-error g c = grind arith
 
 pub slice_bounds-write-count : goal.slice_bounds-write-count
 slice_bounds-write-count g c = grind arith
@@ -14,9 +13,6 @@ slice_bounds-write-start g c = grind arith
 pub overflow_add-done : goal.overflow_add-done
 overflow_add-done g c = grind arith
 
-pub returns-in-Ok-eq0 : goal.returns-in-Ok-eq0
-returns-in-Ok-eq0 g c = search rules
-
 pub writes-preserved : goal.writes-preserved
 writes-preserved g c =
     let fits = simp (length-take, length-drop) at c.in-Ok.ensures.bound in
@@ -25,5 +21,16 @@ writes-preserved g c =
       written = Appends-rest _ _ _ _ _ _ c.writes.invariant.written c.in-Ok.ensures.bytes;
     }
 
+pub returns-in-Ok-eq0 : goal.returns-in-Ok-eq0
+returns-in-Ok-eq0 g c = (
+  take c.writes.done c.args.bytes.now,
+  (drop c.writes.done c.args.bytes.now, Done, (take-append-drop _ _, refl)),
+  search rules,
+)
+
 pub returns : goal.returns
-returns g c = grind arith
+returns g c = (
+  take c.writes.done c.args.bytes.now,
+  (drop c.writes.done c.args.bytes.now, Done, (take-append-drop _ _, refl)),
+  c.writes.invariant.written,
+)

@@ -1,40 +1,23 @@
-use Rattle.std.proofs.Common.{◌≡◌, ◌+◌, ◌-◌, sym, ap, ◌∙◌, arith, drop, false, take, Some}
-use Rattle.sixel.specs.netpbm.Pam.{is_end, read_lines, with_line}
-use Rattle.sixel.proofs.NetpbmLines.{step-end, step-inside}
+use Rattle.std.proofs.Common.{◌≡◌, ◌+◌, ◌-◌, arith, drop, take}
+use Rattle.std.proofs.lemmas.Bool.Decides.{nat_tests}
+use Rattle.std.proofs.lemmas.List.{at_drop_more, get_or-drop, length-drop, take_more}
+use Rattle.sixel.specs.netpbm.Pam.{read_lines}
 use Rattle.sixel.proofs.netpbm.pam.read_fields.Goals as goal
-use Rattle.sixel.proofs.netpbm.pam.read_fields.Goals.{else-byte-eq10}
-use Rattle.sixel.proofs.netpbm.pam.read_fields.Goals.{then-byte-eq10+else-is_end+in_ok-fields}
 
 pub bytes-preserved : goal.bytes-preserved
 bytes-preserved c =
-    let fields = c.bytes.fields in
     let bytes = c.args.bytes.now in
+    let start = c.bytes.start in
     let index = c.bytes.index in
-    let line = take (index - c.bytes.start) (drop c.bytes.start bytes) in
+    let line = take (index - start) (drop start bytes) in
+    let next = at_drop_more (read_lines c.bytes.fields line) bytes index 0 c.bytes-test.true in
     elim c.if-byte-eq10.branch [
-      | then-byte-eq10+else-is_end+in_ok-fields w ↦
-          let after = w.in_ok-fields.fields in
-          let goes_on : is_end line ≡ false = cc in
-          let read : with_line fields line ≡ Some after =
-          sym w.with_line.ensures ∙ w.in_ok-fields.was in
+      | goal.then-byte-eq10+else-is_end+in_ok-fields w ↦
           let none : index + 1 - (index + 1) ≡ 0 = omega arith in
-          let rest = drop (index + 1) bytes in
-          record {
-            within = omega arith;
-            read =
-                rw (w.start-is, w.fields-is)
-                (ap
-                (λ n. read_lines after (take n rest) rest) none
-                ∙ sym (step-end fields after bytes c.bytes.start index c.bytes-test.true
-                w.if-byte-eq10.true goes_on read)
-                ∙ c.bytes.invariant.read);
-          }
-      | else-byte-eq10 w ↦ record {
-        within = omega arith;
-        read =
-            rw (w.start-is, w.fields-is)
-            (sym (step-inside fields bytes c.bytes.start index c.bytes.invariant.within
-            c.bytes-test.true w.if-byte-eq10.false)
-            ∙ c.bytes.invariant.read);
-      }
+          grind (arith, nat_tests, next)
+      | goal.else-byte-eq10 w ↦
+          let so_far : index + 1 - start ≡ (index - start) + 1 = omega arith in
+          let more =
+          take_more (drop start bytes) (index - start) 0 (simp length-drop (omega arith)) in
+          grind (arith, nat_tests, next, more, get_or-drop)
     ]
