@@ -13,7 +13,7 @@ use Rattle.sixel_base.specs.Payload.{payload_registers}
 use Rattle.sixel_base.specs.declared.status.SixelDcsFeedStatus.{SixelDcsFeedStatus}
 use Rattle.sixel_base.specs.declared.status.SixelDcsFeedStatus.TheVariants.{NeedMoreData, Complete}
 use Rattle.sixel_base.specs.declared.status.SixelDcsFeedStatus.TheVariants.{Cancelled, Interrupted}
-use Rattle.sixel_base.specs.Reach.{payload_reached_area, payload_size}
+use Rattle.sixel_base.specs.PaintedArea.{payload_painted_area, payload_size}
 use Rattle.sixel_base.specs.Decoder.{origin_of}
 use Rattle.sixel_base.specs.declared.state.DecoderState.{DecoderState}
 use Rattle.sixel_base.specs.Header.{Headed, Open, Begun, Faulty, headed, header_text, settings_of}
@@ -141,13 +141,13 @@ abbrev pub dcs_growths : List ℕ → ℕ
 dcs_growths bytes = stage_growths (stage bytes)
 
 -- how far the closed sixels of its payload reach
-abbrev pub stage_reached_area : Limit → Stage → ℕ
-stage_reached_area limit Heading = 0
-stage_reached_area limit (Failing fault) = 0
-stage_reached_area limit (Reading settings payload) = payload_reached_area limit payload
+abbrev pub stage_painted_area : Limit → Stage → ℕ
+stage_painted_area limit Heading = 0
+stage_painted_area limit (Failing fault) = 0
+stage_painted_area limit (Reading settings payload) = payload_painted_area limit payload
 
-abbrev pub dcs_reached_area : Limit → List ℕ → ℕ
-dcs_reached_area limit bytes = stage_reached_area limit (stage bytes)
+abbrev pub dcs_painted_area : Limit → List ℕ → ℕ
+dcs_painted_area limit bytes = stage_painted_area limit (stage bytes)
 
 -- whether its header is read and its payload has begun
 abbrev pub stage_in_payload : Stage → Bool

@@ -16,7 +16,7 @@ pub mod Lenient
 pub mod Payload
 pub mod Decoder
 pub mod Status
-pub mod Reach
+pub mod PaintedArea
 pub mod Header
 pub mod OneShot
 pub mod Dcs

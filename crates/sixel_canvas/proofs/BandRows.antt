@@ -1,4 +1,4 @@
--- The six rows of a band in one block of pixels: what a run, sixels of one column and a greater
+-- The six rows of a band in one buffer of pixels: what a run, sixels of one column and a greater
 -- width do to a pixel.
 use Rattle.std.proofs.Common.{◌≡◌, ℕ, ◌+◌, ◌*◌, ◌<◌, ◌≤◌, Bool, true, false, List}
 use Rattle.std.proofs.Common.{◌++◌, length, get_or, take, drop, replicate, refl, ap}

@@ -3,7 +3,7 @@ use Rattle.std.proofs.Common.{◌≡◌, ℕ, ◌+◌, ◌*◌, ◌<◌, ◌≤�
 use Rattle.std.proofs.Common.{length, get_or, refl, ap, ◌∙◌, arith}
 use Rattle.std.specs.Prelude.{nat_le, nat_lt, ◌&&◌, if◌then◌else◌}
 use Rattle.sixel_canvas.proofs.Lanes.{each_of_four, four_lanes, get_or-twice}
-use Rattle.sixel_canvas.specs.inside.Drawn.{covers_block}
+use Rattle.sixel_canvas.specs.inside.Drawn.{covers_eight}
 use Rattle.sixel_canvas.specs.inside.Band.{covers_four, mixed_at, stored}
 use Rattle.sixel_canvas.proofs.BandRows.{within_row}
 use Rattle.std.proofs.lemmas.Bool.Decides.{nat_tests}
@@ -38,7 +38,7 @@ halves_cover :
     ((j : ℕ) → j < 4 → get_or last j 0 ≡ get_or sixels (4 + j) 0) →
     y ≡ (if covers_four from first column k then color else x) →
     z ≡ (if covers_four (from + 4) last column k then color else y) →
-    z ≡ (if covers_block from sixels 0 column k then color else x)
+    z ≡ (if covers_eight from sixels 0 column k then color else x)
 halves_cover from column k sixels first last color x y z start end before after =
     grind (arith, nat_tests)
 
@@ -58,7 +58,7 @@ module _ (from column k : ℕ) (sixels : List ℕ) (long : length sixels ≡ 8) 
   pub covers_halves : (color x y z : List ℕ) →
       y ≡ (if covers_four from (four_lanes sixels 0) column k then color else x) →
       z ≡ (if covers_four (from + 4) (four_lanes sixels 4) column k then color else y) →
-      z ≡ (if covers_block from sixels 0 column k then color else x)
+      z ≡ (if covers_eight from sixels 0 column k then color else x)
   covers_halves color x y z before after =
       halves_cover from column k sixels (four_lanes sixels 0) (four_lanes sixels 4) color x y z
       first_lanes last_lanes before after
@@ -67,7 +67,7 @@ module _ (from column k : ℕ) (sixels : List ℕ) (long : length sixels ≡ 8) 
   pub covers_first : (color x y : List ℕ) →
       ((j : ℕ) → j < 4 → get_or (four_lanes sixels 4) j 0 ≡ 0) →
       y ≡ (if covers_four from (four_lanes sixels 0) column k then color else x) →
-      y ≡ (if covers_block from sixels 0 column k then color else x)
+      y ≡ (if covers_eight from sixels 0 column k then color else x)
   covers_first color x y blank before =
       covers_halves color x y y before
       (rw (blank_four (from + 4) column k (four_lanes sixels 4) blank) refl)

@@ -20,20 +20,20 @@ all_set (suc (suc (suc (suc zero)))) six = refl
 all_set (suc (suc (suc (suc (suc zero))))) six = refl
 all_set (suc (suc (suc (suc (suc (suc k)))))) six = absurd (omega (arith, six))
 
-stored_clean : (background : List ℕ) (pixels : List (List ℕ)) (cap reach : ℕ) →
-    IsBand (band_state background pixels cap reach) → (column k : ℕ) → reach ≤ column →
+stored_clean : (background : List ℕ) (pixels : List (List ℕ)) (cap extent : ℕ) →
+    IsBand (band_state background pixels cap extent) → (column k : ℕ) → extent ≤ column →
     column < cap → k < 6 → stored pixels cap background column k ≡ background
-stored_clean background pixels cap reach is column k past inside six = grind (arith, nat_tests)
+stored_clean background pixels cap extent is column k past inside six = grind (arith, nat_tests)
 
--- a band whose columns up to its reach were drawn over in background shows nothing else
-pub cleared : (background : List ℕ) (pixels new : List (List ℕ)) (cap reach : ℕ) →
-    IsBand (band_state background pixels cap reach) →
+-- a band whose columns up to its extent were drawn over in background shows nothing else
+pub cleared : (background : List ℕ) (pixels new : List (List ℕ)) (cap extent : ℕ) →
+    IsBand (band_state background pixels cap extent) →
     ((column k : ℕ) → column < cap → k < 6
     → stored new cap background column k
-    ≡ (if covers 0 reach 0 63 column k then background else stored pixels cap background column k))
+    ≡ (if covers 0 extent 0 63 column k then background else stored pixels cap background column k))
     →
     (column k : ℕ) → cell (band_state background new cap 0) column k ≡ background
-cleared background pixels new cap reach is drawn column k =
+cleared background pixels new cap extent is drawn column k =
     grind (arith, nat_tests, and_right_none, all_set, stored_clean)
 
 turned : (a b c : Bool) → (c && (a && b)) ≡ (a && b && c)
@@ -44,28 +44,28 @@ none_third a b c is = grind (arith, nat_tests)
 
 -- one row was filled between two columns
 pub row_filled :
-    (background : List ℕ) (pixels new : List (List ℕ)) (cap reach k from to : ℕ) (color : List ℕ) →
+    (background : List ℕ) (pixels new : List (List ℕ)) (cap extent k from to : ℕ) (color : List ℕ) →
     k < 6 → from ≤ to → to ≤ cap →
     ((i : ℕ)
     → get_or new i background
     ≡ filled (k * cap + from) (k * cap + to) color i (get_or pixels i background)) →
     (column j : ℕ) →
-    cell (band_state background new cap reach) column j
+    cell (band_state background new cap extent) column j
     ≡ (if nat_le from column && nat_lt column to && j == k then color
-    else cell (band_state background pixels cap reach) column j)
-row_filled background pixels new cap reach k from to color six order within change column j =
+    else cell (band_state background pixels cap extent) column j)
+row_filled background pixels new cap extent k from to color six order within change column j =
     grind (arith, nat_tests, within_row, and_right_none, turned, none_third)
 
 -- and the band stays one where the row was drawn on up to there
 pub is_filled :
-    (background : List ℕ) (pixels new : List (List ℕ)) (cap reach k from to : ℕ) (color : List ℕ) →
-    IsBand (band_state background pixels cap reach) → length new ≡ length pixels → to ≤ reach →
+    (background : List ℕ) (pixels new : List (List ℕ)) (cap extent k from to : ℕ) (color : List ℕ) →
+    IsBand (band_state background pixels cap extent) → length new ≡ length pixels → to ≤ extent →
     ((column j : ℕ)
-    → cell (band_state background new cap reach) column j
+    → cell (band_state background new cap extent) column j
     ≡ (if nat_le from column && nat_lt column to && j == k then color
-    else cell (band_state background pixels cap reach) column j)) →
-    IsBand (band_state background new cap reach)
-is_filled background pixels new cap reach k from to color is len reached shown =
+    else cell (band_state background pixels cap extent) column j)) →
+    IsBand (band_state background new cap extent)
+is_filled background pixels new cap extent k from to color is len reached shown =
     grind (arith, nat_tests)
 
 -- what is drawn on the band is drawn on the canvas

@@ -1,4 +1,4 @@
--- What a band with tags shows once the tags of a block were painted, row by row.
+-- What a band with tags shows once the tags of a tile were painted, row by row.
 use Rattle.std.proofs.Common.{◌≡◌, ℕ, ◌+◌, ◌≤◌, true}
 use Rattle.std.proofs.Common.{false, arith}
 use Rattle.std.specs.Prelude.{if◌then◌else◌}
@@ -8,13 +8,13 @@ use Rattle.sixel_canvas.specs.inside.Tags.{is_tag, no_tag}
 use Rattle.sixel_canvas.proofs.BandStates.{all_set}
 use Rattle.std.proofs.lemmas.Bool.Decides.{nat_tests}
 
--- no row of a block has a tag once all of them were taken off
-pub untagged : (old new : BandState) (block : ℕ) → new.background ≡ no_tag →
+-- no row of a tile has a tag once all of them were taken off
+pub untagged : (old new : BandState) (tile : ℕ) → new.background ≡ no_tag →
     ((column k : ℕ)
     → cell new column k
-    ≡ (if covers block (block + 1) 0 63 column k then no_tag else cell old column k)) →
-    (k : ℕ) → is_tag (cell new block k) ≡ false
-untagged old new block clear drawn k = grind (arith, nat_tests, all_set)
+    ≡ (if covers tile (tile + 1) 0 63 column k then no_tag else cell old column k)) →
+    (k : ℕ) → is_tag (cell new tile k) ≡ false
+untagged old new tile clear drawn k = grind (arith, nat_tests, all_set)
 
 pub run_from : (from to bits column k : ℕ) → covers from to 0 bits column k ≡ true → from ≤ column
 run_from from to bits column k hit = grind (arith, nat_tests)

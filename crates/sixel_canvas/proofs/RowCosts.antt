@@ -95,7 +95,7 @@ drawn_cost canvas runs n is none =
     let at_most = sum_bands writes pixels 3 canvas.bands is.sound.bands (λ line h. omega arith) in
     let room = sum_bands (λ line. line.row.room) pixels 2 canvas.bands is.sound.bands
     (λ line h. omega arith) in
-    let spread = sum_bands (λ line. line.spread) pixels 1 canvas.bands is.sound.bands
+    let appended = sum_bands (λ line. line.appended) pixels 1 canvas.bands is.sound.bands
     (λ line h. omega arith) in
     grind (arith, is.least, is.most)
 
@@ -134,11 +134,11 @@ rows_write rows is =
     (λ k d l. let line = is.rows k d l in omega (arith, line.row)) in
     omega (arith, each, six_rows rows is)
 
-pub rows_spread : (rows : List TaggedRowState) → IsRowBand rows
-    → sum_by (λ (line : TaggedRowState). line.spread) rows ≤ 6000000
-rows_spread rows is =
-    let each = sum_by-le (λ (line : TaggedRowState). line.spread) 1000000 rows
-    (λ k d l. let line = is.rows k d l in omega (arith, line.row, line.spread)) in
+pub rows_appended : (rows : List TaggedRowState) → IsRowBand rows
+    → sum_by (λ (line : TaggedRowState). line.appended) rows ≤ 6000000
+rows_appended rows is =
+    let each = sum_by-le (λ (line : TaggedRowState). line.appended) 1000000 rows
+    (λ k d l. let line = is.rows k d l in omega (arith, line.row, line.appended)) in
     omega (arith, each, six_rows rows is)
 
 -- those of all bands
@@ -149,11 +149,11 @@ band_writes_most canvas is =
     (λ k d l. rows_write _ (is.bands k d l)) in
     omega (arith, each, is.few)
 
-pub band_spread_most : (canvas : RowCanvasState) → IsRowCanvas canvas
-    → sum_by (sum_by (λ (line : TaggedRowState). line.spread)) canvas.bands ≤ 1000000000000
-band_spread_most canvas is =
-    let each = sum_by-le (sum_by (λ (line : TaggedRowState). line.spread)) 6000000 canvas.bands
-    (λ k d l. rows_spread _ (is.bands k d l)) in
+pub band_appended_most : (canvas : RowCanvasState) → IsRowCanvas canvas
+    → sum_by (sum_by (λ (line : TaggedRowState). line.appended)) canvas.bands ≤ 1000000000000
+band_appended_most canvas is =
+    let each = sum_by-le (sum_by (λ (line : TaggedRowState). line.appended)) 6000000 canvas.bands
+    (λ k d l. rows_appended _ (is.bands k d l)) in
     omega (arith, each, is.few)
 
 -- a band with rows was made

@@ -38,11 +38,11 @@ lowest_here from sixels top runs len some few =
     let all = are_drawn from (take len sixels) top runs in grind (arith, nat_tests, length-take)
 
 pub paid-sixels :
-    (cap cap' painted painted' reach reach' tagged tagged' top from len : ℕ) (sixels : List ℕ)
-    (runs : List Run) → IsPaid cap painted reach tagged top runs → 0 < len →
+    (cap cap' painted painted' extent extent' tagged tagged' top from len : ℕ) (sixels : List ℕ)
+    (runs : List Run) → IsPaid cap painted extent tagged top runs → 0 < len →
     len ≤ length sixels → cap' ≤ max cap (2 * (from + len) + 16) → painted' ≤ painted + 264 →
-    reach' ≡ max reach (from + len) → tagged' ≡ tagged →
-    IsPaid cap' painted' reach' tagged' top (with_sixels from (take len sixels) top runs)
-paid-sixels cap cap' painted painted' reach reach' tagged tagged' top from len sixels runs is some
-    few cap_is painted_is reach_is tagged_is =
+    extent' ≡ max extent (from + len) → tagged' ≡ tagged →
+    IsPaid cap' painted' extent' tagged' top (with_sixels from (take len sixels) top runs)
+paid-sixels cap cap' painted painted' extent extent' tagged tagged' top from len sixels runs is some
+    few cap_is painted_is extent_is tagged_is =
     let all = are_drawn from (take len sixels) top runs in grind (arith, nat_tests, length-take)

@@ -1,4 +1,4 @@
--- What a row with tags shows once a tag was painted, a run was painted, or its blocks were tagged.
+-- What a row with tags shows once a tag was painted, a run was painted, or its tiles were tagged.
 use Rattle.std.proofs.Common.{◌≡◌, ℕ, ◌+◌, ◌*◌, ◌/◌, ◌%◌, ◌<◌, ◌≤◌, ◌⊎◌, ◌&&◌, min, max, true}
 use Rattle.std.proofs.Common.{false, List, length, get_or, refl, ap, ◌∙◌, arith}
 use Rattle.std.specs.Prelude.{nat_lt, nat_le, if◌then◌else◌}
@@ -14,10 +14,10 @@ use Rattle.std.proofs.lemmas.Bool.Decides.{nat_tests}
 pub under_nothing : (tag pixel : List ℕ) → is_tag tag ≡ false → under tag pixel ≡ pixel
 under_nothing tag pixel none = rw none refl
 
--- a block with a tag has memory for it
-pub tagged_inside : (line : TaggedRowState) (block : ℕ) → is_tag (tag_of line block) ≡ true
-    → block < length line.tags.pixels
-tagged_inside line block is = grind (arith, nat_tests, get_or_past)
+-- a tile with a tag has memory for it
+pub tagged_inside : (line : TaggedRowState) (tile : ℕ) → is_tag (tag_of line tile) ≡ true
+    → tile < length line.tags.pixels
+tagged_inside line tile is = grind (arith, nat_tests, get_or_past)
 
 -- a row that was grown shows what it showed
 pub tagged_grown : (columns : ℕ) (line : TaggedRowState) (column : ℕ)
@@ -27,10 +27,10 @@ tagged_grown columns line column =
     ap (under (tag_of line (column / 128))) (grown_pixel columns line.row column)
 
 -- so does one that got memory for more tags
-pub tags_grown : (columns : ℕ) (line : TaggedRowState) (block : ℕ)
+pub tags_grown : (columns : ℕ) (line : TaggedRowState) (tile : ℕ)
     → line.tags.background ≡ no_tag
-    → tag_of (record line { tags = reached_to columns line.tags }) block ≡ tag_of line block
-tags_grown columns line block clear = grind (arith, nat_tests, grown_pixel)
+    → tag_of (record line { tags = reached_to columns line.tags }) tile ≡ tag_of line tile
+tags_grown columns line tile clear = grind (arith, nat_tests, grown_pixel)
 
 -- what a row shows that was painted over columns without a tag
 pub painted_untagged :
@@ -42,17 +42,17 @@ pub painted_untagged :
 painted_untagged line from to column color order held none =
     grind (arith, nat_tests, painted_inside, painted_left, painted_right, under_nothing)
 
--- what a row shows whose blocks were tagged, and whose two ends were painted
-pub tagged_blocks :
+-- what a row shows whose tiles were tagged, and whose two ends were painted
+pub tagged_tiles :
     (line : TaggedRowState) (from to first last column : ℕ) (color : List ℕ)
     → first ≡ from / 128 + min 1 (from % 128) → last ≡ to / 128 → first < last
     → to ≤ length line.row.pixels → last ≤ length line.tags.pixels → is_tag color ≡ true
     → is_tag (tag_of line (from / 128)) ≡ false → is_tag (tag_of line (to / 128)) ≡ false
     → tagged_pixel
     (tagged_row_state (painted (last * 128) to color (painted from (first * 128) color line.row))
-    (painted first last color line.tags) line.spread) column
+    (painted first last color line.tags) line.appended) column
     ≡ (if nat_le from column && nat_lt column to then color else tagged_pixel line column)
-tagged_blocks line from to first last column color first_is last_is some held tags_held visible
+tagged_tiles line from to first last column color first_is last_is some held tags_held visible
     left_none right_none =
     let back = line.row.background in
     let early = painted from (first * 128) color line.row in
@@ -63,10 +63,10 @@ tagged_blocks line from to first last column color first_is last_is some held ta
       painted_pixel from (first * 128) color line.row column back (omega arith) (omega arith),
     ) (grind (arith, nat_tests))
 
--- a block for which there is no memory has no tag
-pub none_past : (line : TaggedRowState) (block : ℕ) → length line.tags.pixels ≤ block
-    → is_tag (tag_of line block) ≡ false
-none_past line block past = ap is_tag (get_or_past line.tags.pixels block no_tag past)
+-- a tile for which there is no memory has no tag
+pub none_past : (line : TaggedRowState) (tile : ℕ) → length line.tags.pixels ≤ tile
+    → is_tag (tag_of line tile) ≡ false
+none_past line tile past = ap is_tag (get_or_past line.tags.pixels tile no_tag past)
 
 -- what a row shows that was grown and painted, over columns without a tag
 pub drawn_untagged :
@@ -83,26 +83,26 @@ drawn_untagged line row early from to column color order grown is none =
     ∙ ap (λ p. if nat_le from column && nat_lt column to then color else p)
     (tagged_grown to line column)
 
--- a row whose tag of one block was painted and taken off
-pub record IsSettled (old new : TaggedRowState) (block from to : ℕ) : Type 0 where
+-- a row whose tag of one tile was painted and taken off
+pub record IsUntagged (old new : TaggedRowState) (tile from to : ℕ) : Type 0 where
   pub outside : (column : ℕ) → (column < from) ⊎ (to ≤ column)
       → tagged_pixel new column ≡ tagged_pixel old column
-  pub settled : is_tag (tag_of new block) ≡ false
-  pub others : (other : ℕ) → (other ≡ block → ⊥) → tag_of new other ≡ tag_of old other
+  pub untagged : is_tag (tag_of new tile) ≡ false
+  pub others : (other : ℕ) → (other ≡ tile → ⊥) → tag_of new other ≡ tag_of old other
   pub len : length new.row.pixels ≡ length old.row.pixels
   pub tags_len : length new.tags.pixels ≡ length old.tags.pixels
   pub sound : IsTaggedRow new
 
-pub settled_row :
+pub untagged_row :
     (line : TaggedRowState) (tag : List ℕ) (early late tags : RowState)
-    (block from to left right : ℕ) → IsTaggedRow line → is_tag tag ≡ true
-    → tag ≡ get_or line.tags.pixels block line.tags.background → from ≤ to
-    → left ≡ max (block * 128) (min from (block * 128 + 128))
-    → right ≡ max (block * 128) (min to (block * 128 + 128))
-    → early ≡ painted (block * 128) left tag line.row
-    → late ≡ painted right (block * 128 + 128) tag early
-    → tags ≡ painted block (block + 1) no_tag line.tags → IsThrifty late → IsThrifty tags
-    → IsSettled line (tagged_row_state late tags line.spread) block from to
-settled_row line tag early late tags block from to left right is visible tag_is order left_is
+    (tile from to left right : ℕ) → IsTaggedRow line → is_tag tag ≡ true
+    → tag ≡ get_or line.tags.pixels tile line.tags.background → from ≤ to
+    → left ≡ max (tile * 128) (min from (tile * 128 + 128))
+    → right ≡ max (tile * 128) (min to (tile * 128 + 128))
+    → early ≡ painted (tile * 128) left tag line.row
+    → late ≡ painted right (tile * 128 + 128) tag early
+    → tags ≡ painted tile (tile + 1) no_tag line.tags → IsThrifty late → IsThrifty tags
+    → IsUntagged line (tagged_row_state late tags line.appended) tile from to
+untagged_row line tag early late tags tile from to left right is visible tag_is order left_is
     right_is early_is late_is tags_are late_thrifty tags_thrifty =
     grind (arith, painted_inside, painted_left, painted_length, painted_right, tagged_inside)

@@ -67,7 +67,7 @@ impl Canvas for BandCanvas {
     } };
 
     ghost paid = { λ canvas named runs. IsPaid (capacity canvas.band) canvas.band.painted
-        canvas.band.pixels.reach canvas.band.tags.reach canvas.top runs
+        canvas.band.pixels.extent canvas.band.tags.extent canvas.top runs
         × AreMoved canvas named runs };
 
     fn new(alloc: Global, background: [u8; 4]) -> BandCanvas {
@@ -119,7 +119,7 @@ impl Canvas for BandCanvas {
     }
 
     #[inline(always)]
-    fn block(
+    fn draw_eight(
         &mut self,
         from: usize,
         len: usize,
@@ -127,7 +127,7 @@ impl Canvas for BandCanvas {
         color: [u8; 4],
     ) -> Result<(), AllocError> {
         self.hold(from + len)?;
-        self.band.block(from, from + len, sixels, color);
+        self.band.draw_eight(from, from + len, sixels, color);
         Ok(())
     }
 
@@ -154,7 +154,7 @@ impl BandCanvas {
 
     /// Returns how many columns and tags were painted so far. The number saturates.
     ///
-    /// The tags of a band are painted once it moves down, as the columns of their blocks.
+    /// The tags of a band are painted once it moves down, as the columns of their tiles.
     pub fn paints(&self) -> u64
         ensures { result ≡ self.now.band.painted }
     {
@@ -188,7 +188,7 @@ impl BandCanvas {
         ensures writes { self.new.rows.moved ≡ self.old.rows.moved }
         ensures moved { (named : ℕ) (runs : List Run) → AreMoved self.old named runs
             → AreMoved self.new named runs }
-        ensures room { self.old.band.pixels.reach ≡ 0
+        ensures room { self.old.band.pixels.extent ≡ 0
             → self.old.released + self.old.rows.rows ≤ rows → self.new.rows.room ≡ 0 }
     {
         let count = rows.saturating_sub(self.released);
@@ -209,10 +209,10 @@ impl BandCanvas {
         ensures width { self.new.rows.width ≡ self.old.rows.width }
         ensures rows { self.new.rows.rows ≡ self.old.rows.rows }
         ensures expected { self.new.expected ≡ self.old.expected }
-        ensures room { self.old.band.pixels.reach ≡ 0 → self.old.rows.rows ≡ 0
+        ensures room { self.old.band.pixels.extent ≡ 0 → self.old.rows.rows ≡ 0
             → self.new.rows.room ≡ 0 }
     {
-        if self.band.reach() == 0 {
+        if self.band.extent() == 0 {
             self.rows.free_unused();
             self.held = 0;
         }
@@ -231,8 +231,8 @@ impl BandCanvas {
         ensures released { OnOk result (self.new.released ≡ self.old.released) }
         ensures capacity { OnOk result (capacity self.new.band
             ≤ max (capacity self.old.band) (2 * columns + 16)) }
-        ensures reach { OnOk result (self.new.band.pixels.reach ≡ self.old.band.pixels.reach) }
-        ensures tagged { OnOk result (self.new.band.tags.reach ≡ self.old.band.tags.reach) }
+        ensures extent { OnOk result (self.new.band.pixels.extent ≡ self.old.band.pixels.extent) }
+        ensures tagged { OnOk result (self.new.band.tags.extent ≡ self.old.band.tags.extent) }
         ensures painted { OnOk result (self.new.band.painted ≡ self.old.band.painted) }
         ensures laid { OnOk result ((width : ℕ) → columns ≤ width → IsLaidOut self.old width
             → IsLaidOut self.new width) }
@@ -257,8 +257,8 @@ impl BandCanvas {
         ensures released { OnOk result (self.new.released ≡ self.old.released) }
         ensures capacity { OnOk result (capacity self.new.band
             ≤ max (capacity self.old.band) (2 * columns + 16)) }
-        ensures reach { OnOk result (self.new.band.pixels.reach ≡ self.old.band.pixels.reach) }
-        ensures tagged { OnOk result (self.new.band.tags.reach ≡ self.old.band.tags.reach) }
+        ensures extent { OnOk result (self.new.band.pixels.extent ≡ self.old.band.pixels.extent) }
+        ensures tagged { OnOk result (self.new.band.tags.extent ≡ self.old.band.tags.extent) }
         ensures painted { OnOk result (self.new.band.painted ≡ self.old.band.painted) }
         ensures laid { OnOk result ((width : ℕ) → columns ≤ width → IsLaidOut self.old width
             → IsLaidOut self.new width) }
@@ -280,18 +280,18 @@ impl BandCanvas {
             ≡ band_canvas_shown self.old column row }
         ensures empty { (column k : ℕ) → tagged_cell self.new.band column k
             ≡ self.new.rows.background }
-        ensures reach { self.new.band.pixels.reach ≡ 0 }
+        ensures extent { self.new.band.pixels.extent ≡ 0 }
         ensures capacity { capacity self.new.band ≡ capacity self.old.band }
         ensures top { self.new.top ≤ self.old.top + 6 }
         ensures released { self.new.released ≡ self.old.released }
         ensures held { self.new.held ≡ 0 }
-        ensures tagged { self.new.band.tags.reach ≡ 0 }
+        ensures tagged { self.new.band.tags.extent ≡ 0 }
         ensures painted { self.new.band.painted
-            ≤ self.old.band.painted + 128 * self.old.band.tags.reach }
+            ≤ self.old.band.painted + 128 * self.old.band.tags.extent }
         ensures moved { (named : ℕ) (runs : List Run) → AreMoved self.old named runs
             → AreMoved self.new named runs }
     {
-        if self.band.reach() > 0 {
+        if self.band.extent() > 0 {
             let width = self.expected_width;
             let top = self.top - self.released;
             hand_out(&mut self.rows, &mut self.band, top, width);
@@ -306,7 +306,7 @@ fn hand_out(rows: &mut FinalRows, band: &mut TaggedBand, top: usize, expected_wi
     requires above { rows.old.rows ≤ top }
     requires bottom { top + 6 ≤ 1000000 }
     requires background { rows.old.background ≡ band.old.pixels.background }
-    requires stored { band.old.pixels.reach ≤ rows.old.width }
+    requires stored { band.old.pixels.extent ≤ rows.old.width }
     requires room { 4 * ((top + 6) * rows.old.width) ≤ rows.old.room }
     ensures shown { (column row : ℕ) → final rows.new column row ≡ (if nat_lt row top
         then final rows.old column row else tagged_cell band.old column (row - top)) }
@@ -317,13 +317,13 @@ fn hand_out(rows: &mut FinalRows, band: &mut TaggedBand, top: usize, expected_wi
     ensures area { stored_area rows.old ≤ stored_area rows.new }
     ensures cleared { (column k : ℕ) → tagged_cell band.new column k ≡ band.old.pixels.background }
     ensures background { band.new.pixels.background ≡ band.old.pixels.background }
-    ensures reach { band.new.pixels.reach ≡ 0 }
+    ensures extent { band.new.pixels.extent ≡ 0 }
     ensures capacity { capacity band.new ≡ capacity band.old }
-    ensures tagged { band.new.tags.reach ≡ 0 }
-    ensures painted { band.new.painted ≡ counted band.old.painted (128 * band.old.tags.reach) }
+    ensures tagged { band.new.tags.extent ≡ 0 }
+    ensures painted { band.new.painted ≡ counted band.old.painted (128 * band.old.tags.extent) }
 {
-    band.settle_all();
-    let width = expected_width.min(rows.width()).max(band.reach());
+    band.untag_all();
+    let width = expected_width.min(rows.width()).max(band.extent());
     rows.fit(width);
     'blank: for _row in rows.len()..top {
         rows.append(&[]);

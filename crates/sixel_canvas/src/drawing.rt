@@ -3,7 +3,7 @@ ghost use Rattle.std.specs.Prelude.{◌≡◌, ℕ, ◌+◌, ◌-◌, ◌*◌, �
 ghost use Rattle.std.specs.Prelude.{true, max, take, slice_index_or, IfOk, OnOk, if◌then◌else◌};
 ghost use Rattle.sixel_base.specs.Limits.{area_limit, side_limit};
 ghost use Rattle.sixel_base.specs.Picture.{covers, picture};
-ghost use Rattle.sixel_canvas.specs.inside.Drawn.{Run, run, with_sixels, covers_block};
+ghost use Rattle.sixel_canvas.specs.inside.Drawn.{Run, run, with_sixels, covers_eight};
 ghost use Rattle.sixel_canvas.specs.inside.Drawn.{Work, no_work};
 ghost use Rattle.sixel_canvas.specs.inside.Tags.{is_tag};
 
@@ -96,7 +96,7 @@ pub trait Canvas {
             → paid self.new named (run at (at + 1) (top self.old) bits ∷ runs) };
 
     /// Draws `len` sixels of one column each, from `from` on: the others of the eight are blank.
-    fn block(
+    fn draw_eight(
         &mut self,
         from: usize,
         len: usize,
@@ -111,7 +111,7 @@ pub trait Canvas {
         requires visible { is_tag color ≡ true }
         requires blank { (j : ℕ) → len ≤ j → slice_index_or sixels j 0 ≡ 0 }
         ensures drawn { OnOk result ((column row : ℕ) → shown self.new column row
-            ≡ (if covers_block from sixels (top self.old) column row then color
+            ≡ (if covers_eight from sixels (top self.old) column row then color
             else shown self.old column row)) }
         ensures top { OnOk result (top self.new ≡ top self.old) }
         ensures released { OnOk result (released self.new ≡ released self.old) }

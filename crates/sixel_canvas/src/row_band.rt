@@ -161,15 +161,15 @@ impl RowBand {
     }
 
     /// Returns how many pixels runs have painted past all that was drawn on.
-    pub fn spread(&self) -> u64
-        ensures value { result ≡ sum_by (λ line. line.spread) self.now }
+    pub fn appended(&self) -> u64
+        ensures value { result ≡ sum_by (λ line. line.appended) self.now }
         ensures sound { IsRowBand self.now }
     {
-        let mut spread = 0;
+        let mut appended = 0;
         'counted: for line in &self.rows {
-            spread += line.spread();
+            appended += line.appended();
         }
-        spread
+        appended
     }
 }
 

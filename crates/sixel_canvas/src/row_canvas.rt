@@ -14,7 +14,7 @@ ghost use Rattle.sixel_canvas.specs.inside.Tags.{is_tag};
 use crate::drawing::Canvas;
 use crate::row_band::RowBand;
 use crate::span::{AllocResult, add_pixels};
-use crate::tag::BLOCK;
+use crate::tag::TILE;
 use sixel_base::limits::MAX_SIDE;
 use std::alloc::{AllocError, Global};
 use std::marker::Model;
@@ -139,11 +139,11 @@ impl RowCanvas {
     pub fn paints(&self) -> u64
         ensures { result ≡ (row_canvas_work self.now).paints }
     {
-        let mut spread = 0;
+        let mut appended = 0;
         'counted: for band in &self.bands {
-            spread += band.spread();
+            appended += band.appended();
         }
-        self.paints.saturating_add(spread)
+        self.paints.saturating_add(appended)
     }
 
     /// Counts a sixel, and draws it on the rows of the band, which were made.
@@ -204,7 +204,7 @@ fn run_paints(columns: usize) -> u64
     ensures least { result ≡ least_painted columns }
     ensures most { result ≤ ends_and_tags columns }
 {
-    let painted = 6 * columns.min(columns / BLOCK + 2 * BLOCK);
+    let painted = 6 * columns.min(columns / TILE + 2 * TILE);
     painted as u64
 }
 

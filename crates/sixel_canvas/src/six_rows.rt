@@ -1,9 +1,9 @@
-//! Six rows of pixels, one after another in one block.
+//! Six rows of pixels, one after another without a gap.
 ghost use Rattle.std.specs.Prelude.{◌≡◌, ℕ, ◌+◌, ◌-◌, ◌*◌, ◌≤◌, ◌<◌, List, [], length};
 ghost use Rattle.std.specs.Prelude.{true, false, nat_lt, slice_index_or, IfOk, if◌then◌else◌};
 ghost use Rattle.sixel_base.specs.Picture.{covers, is_set};
 ghost use Rattle.sixel_canvas.specs.inside.Band.{covers_four, filled, stored};
-ghost use Rattle.sixel_canvas.specs.inside.Drawn.{covers_block};
+ghost use Rattle.sixel_canvas.specs.inside.Drawn.{covers_eight};
 
 use crate::pixel_row::{fill, fill_by_copy, mix};
 use std::alloc::{AllocError, Global};
@@ -202,7 +202,7 @@ pub fn mix_rows(pixels: &mut [[u8; 4]], cap: usize, from: usize, sixels: [u8; 8]
     ensures len { length pixels.new ≡ length pixels.old }
     ensures drawn { (d : List ℕ) (column k : ℕ) → column < cap → k < 6
         → stored pixels.new cap d column k
-        ≡ (if covers_block from sixels 0 column k then color
+        ≡ (if covers_eight from sixels 0 column k then color
         else stored pixels.old cap d column k) }
 {
     let lanes = u8x8::from_array(sixels);

@@ -70,10 +70,10 @@ fn fill_by_fours(span: &mut [u8], color: [u8; 4]) -> usize
     ensures colored { (k : ℕ) → k < result
         → slice_index span.new k ≡ slice_index color (k % 4) }
 {
-    let block = four_pixels(color);
+    let four = four_pixels(color);
     let mut at = 0;
-    'by_block: while span.len() - at >= 16 {
-        block.copy_to_slice(&mut span[at..]);
+    'by_fours: while span.len() - at >= 16 {
+        four.copy_to_slice(&mut span[at..]);
         at += 16;
     }
     at

@@ -1,10 +1,10 @@
-//! A band in which a wide run over other pixels costs one tag per block, and two ends.
+//! A band in which a wide run over other pixels costs one tag per tile, and two ends.
 ghost use Rattle.std.specs.Prelude.{◌≡◌, ℕ, ◌+◌, ◌-◌, ◌*◌, ◌/◌, ◌≤◌, ◌<◌, length, max, min};
 ghost use Rattle.std.specs.Prelude.{true, false, nat_lt, slice_index_or, OnErr, OnOk};
 ghost use Rattle.std.specs.Prelude.{if◌then◌else◌};
 ghost use Rattle.sixel_base.specs.Picture.{covers};
 ghost use Rattle.sixel_canvas.specs.inside.Band.{cell};
-ghost use Rattle.sixel_canvas.specs.inside.Drawn.{covers_block};
+ghost use Rattle.sixel_canvas.specs.inside.Drawn.{covers_eight};
 ghost use Rattle.sixel_canvas.specs.inside.Paints.{counted};
 ghost use Rattle.sixel_canvas.specs.inside.TaggedBand.{capacity, doubled, least_cost};
 ghost use Rattle.sixel_canvas.specs.inside.TaggedBand.{most_painted, tagged_cell};
@@ -13,15 +13,15 @@ ghost use Rattle.sixel_canvas.specs.inside.Tags.{is_tag};
 mod tags;
 
 use crate::band::{Band, MAX_CAP};
-use crate::tag::{BLOCK, NO_TAG, WIDE};
+use crate::tag::{NO_TAG, TILE, WIDE};
 use std::alloc::{AllocError, Global};
 use std::marker::Model;
 
-/// A band of which blocks of 128 columns can have a tag.
+/// A band of which tiles of 128 columns can have a tag.
 ///
-/// A tag is the one color that a block of a row shows, whatever is stored there. So a run over a
-/// block that was drawn on whole need not paint it. A run that covers a part of a tagged block
-/// paints the block in its tag first.
+/// A tag is the one color that a tile of a row shows, whatever is stored there. So a run over a
+/// tile that was drawn on whole need not paint it. A run that covers a part of a tagged tile
+/// paints the tile in its tag first.
 #[derive(Drop)]
 pub struct TaggedBand {
     pixels: Band,
@@ -44,9 +44,9 @@ impl TaggedBand {
     pub fn new(alloc: Global, background: [u8; 4]) -> TaggedBand
         ensures shown { (column k : ℕ) → tagged_cell result column k ≡ background }
         ensures background { result.pixels.background ≡ background }
-        ensures reach { result.pixels.reach ≡ 0 }
+        ensures extent { result.pixels.extent ≡ 0 }
         ensures capacity { capacity result ≡ 0 }
-        ensures tags_reach { result.tags.reach ≡ 0 }
+        ensures tags_extent { result.tags.extent ≡ 0 }
         ensures painted { result.painted ≡ 0 }
     {
         TaggedBand {
@@ -61,21 +61,21 @@ impl TaggedBand {
     pub fn cap(&self) -> usize
         ensures value { result ≡ self.now.pixels.cap }
         ensures few { result ≤ 1000008 }
-        ensures reached { self.now.pixels.reach ≤ result }
+        ensures reached { self.now.pixels.extent ≤ result }
     {
         self.pixels.cap()
     }
 
     /// Returns the column from which on all six rows are background.
     #[inline(always)]
-    pub fn reach(&self) -> usize
-        ensures value { result ≡ self.now.pixels.reach }
+    pub fn extent(&self) -> usize
+        ensures value { result ≡ self.now.pixels.extent }
         ensures within { result ≤ self.now.pixels.cap }
-        ensures whole { 128 * self.now.tags.reach ≤ result }
+        ensures whole { 128 * self.now.tags.extent ≤ result }
         ensures clean { (column k : ℕ) → result ≤ column
             → tagged_cell self.now column k ≡ self.now.pixels.background }
     {
-        self.pixels.reach()
+        self.pixels.extent()
     }
 
     /// Returns the color of columns that nothing was drawn on.
@@ -87,7 +87,7 @@ impl TaggedBand {
 
     /// Returns how many columns and tags were painted so far.
     ///
-    /// A tag that is painted counts as the 128 columns of its block.
+    /// A tag that is painted counts as the 128 columns of its tile.
     pub fn painted(&self) -> u64
         ensures { result ≡ self.now.painted }
     {
@@ -107,14 +107,14 @@ impl TaggedBand {
         ensures shown { (column k : ℕ) → tagged_cell self.new column k
             ≡ tagged_cell self.old column k }
         ensures background { self.new.pixels.background ≡ self.old.pixels.background }
-        ensures reach { self.new.pixels.reach ≡ self.old.pixels.reach }
-        ensures tags_reach { self.new.tags.reach ≡ self.old.tags.reach }
+        ensures extent { self.new.pixels.extent ≡ self.old.pixels.extent }
+        ensures tags_extent { self.new.tags.extent ≡ self.old.tags.extent }
         ensures refused { OnErr result (self.new ≡ self.old) }
         ensures painted { self.new.painted ≡ self.old.painted }
     {
         let cap = greater_cap(self.pixels.cap(), columns);
         let pixels = self.pixels.wider(cap)?;
-        self.tags = self.tags.wider(cap.div_ceil(BLOCK))?;
+        self.tags = self.tags.wider(cap.div_ceil(TILE))?;
         self.pixels = pixels;
         Ok(())
     }
@@ -130,30 +130,30 @@ impl TaggedBand {
         ensures background { self.new.pixels.background ≡ self.old.pixels.background }
         ensures cap { self.new.pixels.cap ≡ self.old.pixels.cap }
         ensures tags_cap { self.new.tags.cap ≡ self.old.tags.cap }
-        ensures reach { self.new.pixels.reach ≡ max self.old.pixels.reach to }
-        ensures tags_reach { 128 * self.new.tags.reach ≤ max (128 * self.old.tags.reach) to }
+        ensures extent { self.new.pixels.extent ≡ max self.old.pixels.extent to }
+        ensures tags_extent { 128 * self.new.tags.extent ≤ max (128 * self.old.tags.extent) to }
         ensures least { counted self.old.painted (least_cost (to - from)) ≤ self.new.painted }
         ensures painted { self.new.painted ≤ self.old.painted + most_painted (to - from)
-            + (max self.old.pixels.reach to - self.old.pixels.reach) }
+            + (max self.old.pixels.extent to - self.old.pixels.extent) }
     {
-        if to - from < WIDE || from >= self.pixels.reach() {
+        if to - from < WIDE || from >= self.pixels.extent() {
             return self.paint(from, to, bits, color);
         }
         self.draw_wide(from, to, bits, color);
     }
 
-    /// Whether a block may have a tag.
+    /// Whether a tile may have a tag.
     #[inline(always)]
     pub fn is_tagged(&self) -> bool
-        ensures { result ≡ nat_lt 0 self.now.tags.reach }
+        ensures { result ≡ nat_lt 0 self.now.tags.extent }
     {
-        self.tags.reach() > 0
+        self.tags.extent() > 0
     }
 
     /// Draws a sixel of one column on a band without tags, for which there is memory.
     #[inline(always)]
     pub fn draw_column(&mut self, at: usize, bits: u8, color: [u8; 4])
-        requires untagged { self.old.tags.reach ≡ 0 }
+        requires untagged { self.old.tags.extent ≡ 0 }
         requires held { at < self.old.pixels.cap }
         ensures drawn { (column k : ℕ) → tagged_cell self.new column k
             ≡ (if covers at (at + 1) 0 bits column k then color
@@ -161,7 +161,7 @@ impl TaggedBand {
         ensures background { self.new.pixels.background ≡ self.old.pixels.background }
         ensures cap { self.new.pixels.cap ≡ self.old.pixels.cap }
         ensures tags { self.new.tags ≡ self.old.tags }
-        ensures reach { self.new.pixels.reach ≡ max self.old.pixels.reach (at + 1) }
+        ensures extent { self.new.pixels.extent ≡ max self.old.pixels.extent (at + 1) }
         ensures painted { self.new.painted ≡ counted self.old.painted 1 }
     {
         self.pixels.draw(at, at + 1, bits, color);
@@ -173,27 +173,27 @@ impl TaggedBand {
     fn draw_wide(&mut self, from: usize, to: usize, bits: u8, color: [u8; 4])
         requires ordered { from + 256 ≤ to }
         requires held { to ≤ self.old.pixels.cap }
-        requires over { from < self.old.pixels.reach }
+        requires over { from < self.old.pixels.extent }
         requires visible { is_tag color ≡ true }
         ensures drawn { (column k : ℕ) → tagged_cell self.new column k
             ≡ (if covers from to 0 bits column k then color else tagged_cell self.old column k) }
         ensures background { self.new.pixels.background ≡ self.old.pixels.background }
         ensures cap { self.new.pixels.cap ≡ self.old.pixels.cap }
         ensures tags_cap { self.new.tags.cap ≡ self.old.tags.cap }
-        ensures reach { self.new.pixels.reach ≡ max self.old.pixels.reach to }
-        ensures tags_reach { 128 * self.new.tags.reach ≤ max (128 * self.old.tags.reach) to }
+        ensures extent { self.new.pixels.extent ≡ max self.old.pixels.extent to }
+        ensures tags_extent { 128 * self.new.tags.extent ≤ max (128 * self.old.tags.extent) to }
         ensures least { counted self.old.painted (least_cost (to - from)) ≤ self.new.painted }
         ensures painted { self.new.painted ≤ self.old.painted + most_painted (to - from)
-            + (max self.old.pixels.reach to - self.old.pixels.reach) }
+            + (max self.old.pixels.extent to - self.old.pixels.extent) }
     {
-        let first = from.div_ceil(BLOCK);
-        let last = to.min(self.pixels.reach()) / BLOCK;
+        let first = from.div_ceil(TILE);
+        let last = to.min(self.pixels.extent()) / TILE;
         if first >= last {
             return self.paint(from, to, bits, color);
         }
-        self.paint(from, first * BLOCK, bits, color);
+        self.paint(from, first * TILE, bits, color);
         self.tag(first, last, bits, color);
-        self.paint(last * BLOCK, to, bits, color);
+        self.paint(last * TILE, to, bits, color);
     }
 
     /// Paints a sixel over the columns from `from` up to before `to`.
@@ -206,46 +206,46 @@ impl TaggedBand {
         ensures background { self.new.pixels.background ≡ self.old.pixels.background }
         ensures cap { self.new.pixels.cap ≡ self.old.pixels.cap }
         ensures tags_cap { self.new.tags.cap ≡ self.old.tags.cap }
-        ensures reach { self.new.pixels.reach ≡ max self.old.pixels.reach to }
-        ensures tags_reach { self.new.tags.reach ≡ self.old.tags.reach }
+        ensures extent { self.new.pixels.extent ≡ max self.old.pixels.extent to }
+        ensures tags_extent { self.new.tags.extent ≡ self.old.tags.extent }
         ensures least { counted self.old.painted (to - from) ≤ self.new.painted }
         ensures painted { self.new.painted ≤ self.old.painted + (to - from)
-            + 128 * (min ((to + 127) / 128) self.old.tags.reach - from / 128) }
+            + 128 * (min ((to + 127) / 128) self.old.tags.extent - from / 128) }
     {
-        self.settle(from, to);
+        self.untag(from, to);
         self.pixels.draw(from, to, bits, color);
         self.painted = self.painted.saturating_add((to - from) as u64);
     }
 
     /// Draws eight sixels of one column each, from `from` on: those past `to` are blank.
     #[inline(always)]
-    pub fn block(&mut self, from: usize, to: usize, sixels: [u8; 8], color: [u8; 4])
+    pub fn draw_eight(&mut self, from: usize, to: usize, sixels: [u8; 8], color: [u8; 4])
         requires ordered { from < to }
         requires held { from + 8 ≤ self.old.pixels.cap }
         requires within { from ≤ 1000000 }
         requires few { to ≤ from + 8 }
         requires blank { (column k : ℕ) → to ≤ column
-            → covers_block from sixels 0 column k ≡ false }
+            → covers_eight from sixels 0 column k ≡ false }
         ensures drawn { (column k : ℕ) → tagged_cell self.new column k
-            ≡ (if covers_block from sixels 0 column k then color
+            ≡ (if covers_eight from sixels 0 column k then color
             else tagged_cell self.old column k) }
         ensures background { self.new.pixels.background ≡ self.old.pixels.background }
         ensures cap { self.new.pixels.cap ≡ self.old.pixels.cap }
         ensures tags_cap { self.new.tags.cap ≡ self.old.tags.cap }
-        ensures reach { self.new.pixels.reach ≡ max self.old.pixels.reach to }
-        ensures tags_reach { self.new.tags.reach ≡ self.old.tags.reach }
+        ensures extent { self.new.pixels.extent ≡ max self.old.pixels.extent to }
+        ensures tags_extent { self.new.tags.extent ≡ self.old.tags.extent }
         ensures least { counted self.old.painted 8 ≤ self.new.painted }
         ensures painted { self.new.painted ≤ self.old.painted + 264 }
     {
-        self.settle(from, from + 8);
-        self.pixels.block(from, to, sixels, color);
+        self.untag(from, from + 8);
+        self.pixels.draw_eight(from, to, sixels, color);
         self.painted = self.painted.saturating_add(8);
     }
 
-    /// Returns the pixels of row `k` up to `reach`, without its tags.
+    /// Returns the pixels of row `k` up to `extent`, without its tags.
     pub fn row(&self, k: usize) -> &[[u8; 4]]
         requires { k < 6 }
-        ensures len { length result.now ≡ self.now.pixels.reach }
+        ensures len { length result.now ≡ self.now.pixels.extent }
         ensures pixels { (column : ℕ) → slice_index_or result.now column self.now.pixels.background
             ≡ cell self.now.pixels column k }
     {
@@ -259,8 +259,8 @@ impl TaggedBand {
         ensures background { self.new.pixels.background ≡ self.old.pixels.background }
         ensures cap { self.new.pixels.cap ≡ self.old.pixels.cap }
         ensures tags_cap { self.new.tags.cap ≡ self.old.tags.cap }
-        ensures reach { self.new.pixels.reach ≡ 0 }
-        ensures tags_reach { self.new.tags.reach ≡ 0 }
+        ensures extent { self.new.pixels.extent ≡ 0 }
+        ensures tags_extent { self.new.tags.extent ≡ 0 }
         ensures painted { self.new.painted ≡ self.old.painted }
     {
         self.tags.clear();

@@ -1,4 +1,4 @@
-//! A row in which a wide run over other pixels costs one tag per block, and two ends.
+//! A row in which a wide run over other pixels costs one tag per tile, and two ends.
 ghost use Rattle.std.specs.Prelude.{◌≡◌, ℕ, ◌+◌, ◌*◌, ◌/◌, ◌%◌, ◌^◌, ◌≤◌, ◌<◌, ◌++◌, ◌⊎◌};
 ghost use Rattle.std.specs.Prelude.{length, max, min, true, false, nat_le, nat_lt, ◌&&◌};
 ghost use Rattle.std.specs.Prelude.{vec_len, IsOk, OnOk, if◌then◌else◌};
@@ -10,20 +10,20 @@ ghost use Rattle.sixel_canvas.specs.inside.Tags.{is_tag};
 
 use crate::row::Row;
 use crate::span::{AllocResult, add_pixels};
-use crate::tag::{BLOCK, NO_TAG, WIDE, is_visible};
+use crate::tag::{NO_TAG, TILE, WIDE, is_visible};
 use std::alloc::Global;
 use std::marker::Model;
 
-/// A row of which blocks of 128 columns can have a tag.
+/// A row of which tiles of 128 columns can have a tag.
 ///
-/// A tag is the one color that a block shows, whatever is stored there. So a run over a block that
-/// was drawn on need not paint it. A run that covers a part of a tagged block paints the rest of
-/// the block in its tag first.
+/// A tag is the one color that a tile shows, whatever is stored there. So a run over a tile that
+/// was drawn on need not paint it. A run that covers a part of a tagged tile paints the rest of
+/// the tile in its tag first.
 #[derive(Drop)]
 pub struct TaggedRow {
     row: Row,
     tags: Row,
-    spread: u64,
+    appended: u64,
 }
 
 impl Model for TaggedRow {
@@ -32,9 +32,9 @@ impl Model for TaggedRow {
 
     ghost Value = { TaggedRowState };
 
-    ghost view = { λ line. tagged_row_state line.row line.tags line.spread };
+    ghost view = { λ line. tagged_row_state line.row line.tags line.appended };
 
-    ghost invariant = { λ line. IsTaggedRow (tagged_row_state line.row line.tags line.spread) };
+    ghost invariant = { λ line. IsTaggedRow (tagged_row_state line.row line.tags line.appended) };
 }
 
 impl TaggedRow {
@@ -46,7 +46,7 @@ impl TaggedRow {
         TaggedRow {
             row: Row::new(alloc, background),
             tags: Row::new(alloc, NO_TAG),
-            spread: 0,
+            appended: 0,
         }
     }
 
@@ -66,11 +66,11 @@ impl TaggedRow {
     }
 
     /// Returns how many pixels runs have painted past all that was drawn on.
-    pub fn spread(&self) -> u64
-        ensures value { result ≡ self.now.spread }
+    pub fn appended(&self) -> u64
+        ensures value { result ≡ self.now.appended }
         ensures sound { IsTaggedRow self.now }
     {
-        self.spread
+        self.appended
     }
 
     /// Draws a run over the columns from `from` up to before `to`, and grows the row to them.
@@ -95,7 +95,7 @@ impl TaggedRow {
         }
         if len <= from {
             self.row.paint(from, to, color);
-            self.spread += (to - from) as u64;
+            self.appended += (to - from) as u64;
             return Ok(());
         }
         self.draw_over(from, to, color)
@@ -115,16 +115,16 @@ impl TaggedRow {
         ensures single { to ≡ from + 1 → IsOk result }
         ensures sound { IsTaggedRow self.new }
     {
-        if from.div_ceil(BLOCK) >= to / BLOCK {
+        if from.div_ceil(TILE) >= to / TILE {
             self.paint(from, to, color);
             return Ok(());
         }
-        self.tags.grow(to / BLOCK)?;
+        self.tags.grow(to / TILE)?;
         self.tag(from, to, color);
         Ok(())
     }
 
-    /// Draws a run that covers no block whole over columns that the row has.
+    /// Draws a run that covers no tile whole over columns that the row has.
     fn paint(&mut self, from: usize, to: usize, color: [u8; 4])
         requires ordered { from ≤ to }
         requires held { to ≤ length self.old.row.pixels }
@@ -136,11 +136,11 @@ impl TaggedRow {
         ensures background { self.new.row.background ≡ self.old.row.background }
         ensures sound { IsTaggedRow self.new }
     {
-        self.settle_ends(from, to);
+        self.untag_ends(from, to);
         self.row.paint(from, to, color);
     }
 
-    /// Tags the blocks that a run covers whole, for which there is memory, and paints its ends.
+    /// Tags the tiles that a run covers whole, for which there is memory, and paints its ends.
     fn tag(&mut self, from: usize, to: usize, color: [u8; 4])
         requires whole { from / 128 + min 1 (from % 128) < to / 128 }
         requires held { to ≤ length self.old.row.pixels }
@@ -153,16 +153,16 @@ impl TaggedRow {
         ensures background { self.new.row.background ≡ self.old.row.background }
         ensures sound { IsTaggedRow self.new }
     {
-        let first = from.div_ceil(BLOCK);
-        let last = to / BLOCK;
-        self.settle_ends(from, to);
-        self.row.paint(from, first * BLOCK, color);
-        self.row.paint(last * BLOCK, to, color);
+        let first = from.div_ceil(TILE);
+        let last = to / TILE;
+        self.untag_ends(from, to);
+        self.row.paint(from, first * TILE, color);
+        self.row.paint(last * TILE, to, color);
         self.tags.paint(first, last, color);
     }
 
-    /// Paints the tags of the blocks at both ends of a run, except in its own columns.
-    fn settle_ends(&mut self, from: usize, to: usize)
+    /// Paints the tags of the tiles at both ends of a run, except in its own columns.
+    fn untag_ends(&mut self, from: usize, to: usize)
         requires ordered { from ≤ to }
         requires held { to ≤ length self.old.row.pixels }
         ensures outside { (column : ℕ) → (column < from) ⊎ (to ≤ column)
@@ -174,32 +174,32 @@ impl TaggedRow {
         ensures background { self.new.row.background ≡ self.old.row.background }
         ensures sound { IsTaggedRow self.new }
     {
-        self.settle(from / BLOCK, from, to);
-        self.settle(to / BLOCK, from, to);
+        self.untag(from / TILE, from, to);
+        self.untag(to / TILE, from, to);
     }
 
-    /// Paints the tag of a block, except in the columns from `from` up to before `to`.
-    fn settle(&mut self, block: usize, from: usize, to: usize)
+    /// Paints the tag of a tile, except in the columns from `from` up to before `to`.
+    fn untag(&mut self, tile: usize, from: usize, to: usize)
         requires ordered { from ≤ to }
         ensures outside { (column : ℕ) → (column < from) ⊎ (to ≤ column)
             → tagged_pixel self.new column ≡ tagged_pixel self.old column }
-        ensures settled { is_tag (tag_of self.new block) ≡ false }
-        ensures others { (other : ℕ) → (other ≡ block → ⊥)
+        ensures untagged { is_tag (tag_of self.new tile) ≡ false }
+        ensures others { (other : ℕ) → (other ≡ tile → ⊥)
             → tag_of self.new other ≡ tag_of self.old other }
         ensures len { length self.new.row.pixels ≡ length self.old.row.pixels }
         ensures tags_len { length self.new.tags.pixels ≡ length self.old.tags.pixels }
         ensures background { self.new.row.background ≡ self.old.row.background }
         ensures sound { IsTaggedRow self.new }
     {
-        let tag = self.tags.pixel(block);
+        let tag = self.tags.pixel(tile);
         if !is_visible(tag) {
             return;
         }
-        let start = block * BLOCK;
-        let end = start + BLOCK;
+        let start = tile * TILE;
+        let end = start + TILE;
         self.row.paint(start, from.clamp(start, end), tag);
         self.row.paint(to.clamp(start, end), end, tag);
-        self.tags.paint(block, block + 1, NO_TAG);
+        self.tags.paint(tile, tile + 1, NO_TAG);
     }
 
     /// Appends `width` pixels from the left, with background where the row is short.
@@ -209,25 +209,25 @@ impl TaggedRow {
             ++ joined (λ column. tagged_pixel self.now column) width) }
         ensures len { OnOk result (vec_len bytes.new ≡ vec_len bytes.old + 4 * width) }
     {
-        'segments: for block in 0..width.div_ceil(BLOCK) {
-            self.pack_block(bytes, block, BLOCK.min(width - block * BLOCK))?;
+        'segments: for tile in 0..width.div_ceil(TILE) {
+            self.pack_tile(bytes, tile, TILE.min(width - tile * TILE))?;
         }
         Ok(())
     }
 
-    /// Appends `count` pixels of a block, from its left.
-    fn pack_block(&self, bytes: &mut Vec<u8>, block: usize, count: usize) -> AllocResult<()>
+    /// Appends `count` pixels of a tile, from its left.
+    fn pack_tile(&self, bytes: &mut Vec<u8>, tile: usize, count: usize) -> AllocResult<()>
         requires within { count ≤ 128 }
-        requires columns_fit { block * 128 < 2 ^ 63 }
+        requires columns_fit { tile * 128 < 2 ^ 63 }
         requires bytes_fit { vec_len bytes.old + 4 * count < 2 ^ 63 }
         ensures ok { OnOk result (bytes.new.items ≡ bytes.old.items
-            ++ joined (λ k. tagged_pixel self.now (block * 128 + k)) count) }
+            ++ joined (λ k. tagged_pixel self.now (tile * 128 + k)) count) }
         ensures len { OnOk result (vec_len bytes.new ≡ vec_len bytes.old + 4 * count) }
     {
-        let tag = self.tags.pixel(block);
+        let tag = self.tags.pixel(tile);
         if is_visible(tag) {
             return add_pixels(bytes, count, tag);
         }
-        self.row.pack(bytes, block * BLOCK, count)
+        self.row.pack(bytes, tile * TILE, count)
     }
 }

@@ -1,5 +1,5 @@
--- What a band shows: six rows of cap columns each, one after another in one block of pixels, and
--- background from reach on. The layout is this library's own.
+-- What a band shows: six rows of cap columns each, one after another in one buffer of pixels, and
+-- background from extent on. The layout is this library's own.
 use Rattle.std.specs.Prelude.{◌≡◌, ℕ, ◌+◌, ◌-◌, ◌*◌, ◌≤◌, List, length, slice_index_or}
 use Rattle.std.specs.Prelude.{Bool, ◌&&◌, nat_le, nat_lt, if◌then◌else◌}
 use Rattle.sixel_base.specs.Picture.{is_set, is_struck}
@@ -30,12 +30,12 @@ pub record BandState : Type 0 where
   pub background : List ℕ
   pub pixels : List (List ℕ)
   pub cap : ℕ
-  pub reach : ℕ
+  pub extent : ℕ
 
 -- the band with these parts
 abbrev pub band_state : List ℕ → List (List ℕ) → ℕ → ℕ → BandState
-band_state background pixels cap reach =
-    record { background = background; pixels = pixels; cap = cap; reach = reach }
+band_state background pixels cap extent =
+    record { background = background; pixels = pixels; cap = cap; extent = extent }
 
 -- the pixel at a column of row k, and background outside the six rows
 abbrev pub cell : BandState → ℕ → ℕ → List ℕ
@@ -48,5 +48,5 @@ cell band column k =
 pub record IsBand (band : BandState) : Type 0 where
   pub fits : length band.pixels ≡ 6 * band.cap
   pub few : band.cap ≤ 1000008
-  pub reached : band.reach ≤ band.cap
-  pub clean : (column k : ℕ) → band.reach ≤ column → cell band column k ≡ band.background
+  pub reached : band.extent ≤ band.cap
+  pub clean : (column k : ℕ) → band.extent ≤ column → cell band column k ≡ band.background

@@ -53,17 +53,17 @@ pub record IsHeld (canvas : BandCanvasState) : Type 0 where
   pub room : 4 * ((canvas.top - canvas.released + 6) * canvas.rows.width) ≤ canvas.rows.room
   pub bottom : canvas.top + 6 ≤ 1000000
 
--- how many columns a sixel of one column is drawn on at once: none while a block may have a tag,
--- because the block is painted in its tag first
+-- how many columns a sixel of one column is drawn on at once: none while a tile may have a tag,
+-- because the tile is painted in its tag first
 abbrev pub band_canvas_held : BandCanvasState → ℕ
-band_canvas_held canvas = if nat_lt 0 canvas.band.tags.reach then 0 else canvas.held
+band_canvas_held canvas = if nat_lt 0 canvas.band.tags.extent then 0 else canvas.held
 
 -- what is true of every canvas of one band
 pub record IsBandCanvas (canvas : BandCanvasState) : Type 0 where
   pub logged : length canvas.gone ≡ canvas.released
   pub above : canvas.released + canvas.rows.rows ≤ canvas.top
   pub background : canvas.rows.background ≡ canvas.band.pixels.background
-  pub reached : canvas.band.pixels.reach ≤ canvas.held
+  pub reached : canvas.band.pixels.extent ≤ canvas.held
   pub narrow : canvas.held ≤ 1000000
   pub held : 0 < canvas.held → IsHeld canvas
 
@@ -71,10 +71,10 @@ pub record IsBandCanvas (canvas : BandCanvasState) : Type 0 where
 -- capacity is at most twice as wide as they reach, and it has painted at most twice the columns of
 -- their bands, and so much more for each run. The second time is that of its tags, which are
 -- painted once the band moves down: those of its present row are still to be painted.
-pub record IsPaid (capacity painted reach tagged top : ℕ) (runs : List Run) : Type 0 where
+pub record IsPaid (capacity painted extent tagged top : ℕ) (runs : List Run) : Type 0 where
   pub narrow : capacity ≤ 2 * right_edge runs + 16
   pub few : painted + band_edge runs top ≤ 2 * drawn_columns runs + runs_paint runs
-  pub edge : band_edge runs top ≤ reach
+  pub edge : band_edge runs top ≤ extent
   pub inside : 128 * tagged ≤ band_edge runs top
   pub below : (row : ℕ) → top < row → band_edge runs row ≡ 0
 

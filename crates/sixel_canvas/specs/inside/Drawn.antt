@@ -1,4 +1,4 @@
--- What a canvas is drawn by: runs of a sixel, and blocks of eight sixels of one column each. A
+-- What a canvas is drawn by: runs of a sixel, and eight sixels of one column each. A
 -- sixel's bits are DEC's, the least bit the top row's. That a canvas has a band of six rows, and
 -- goes on to the next at a graphics new line, is DEC's manual's as well.
 use Rattle.std.specs.Prelude.{ℕ, ◌+◌, ◌-◌, ◌/◌, ◌==◌, max, Bool, ◌&&◌, nat_le, nat_lt}
@@ -56,13 +56,13 @@ drawn_columns (newest ∷ runs) =
     drawn_columns runs + (band_edge (newest ∷ runs) newest.top - band_edge runs newest.top)
 
 -- what these runs paint at most beside the columns of their bands: of each a tag for each whole 128
--- columns, and 640 for its two ends and for tagged blocks that it covers in part
+-- columns, and 640 for its two ends and for tagged tiles that it covers in part
 abbrev pub runs_paint : List Run → ℕ
 runs_paint [] = 0
 runs_paint (newest ∷ runs) = runs_paint runs + ((newest.to - newest.from) / 128 + 640)
 
 -- whether eight sixels of one column each, the first at column from, cover the pixel
-abbrev pub covers_block : ℕ → List ℕ → ℕ → ℕ → ℕ → Bool
-covers_block from sixels top column row =
+abbrev pub covers_eight : ℕ → List ℕ → ℕ → ℕ → ℕ → Bool
+covers_eight from sixels top column row =
     nat_le from column && nat_lt column (from + 8)
     && is_struck top (slice_index_or sixels (column - from) 0) row

@@ -1,5 +1,5 @@
 -- What runs paint, at most: pixels and tags that are filled, while a row's growing is counted by
--- its own writes. The rule is this library's own: a wide run over what was drawn tags the blocks
+-- its own writes. The rule is this library's own: a wide run over what was drawn tags the tiles
 -- that it covers whole.
 use Rattle.std.specs.Prelude.{ℕ, ◌+◌, ◌*◌, ◌/◌, min}
 
@@ -7,7 +7,7 @@ use Rattle.std.specs.Prelude.{ℕ, ◌+◌, ◌*◌, ◌/◌, min}
 abbrev pub counted : ℕ → ℕ → ℕ
 counted paints more = min (paints + more) 18446744073709551615
 
--- what six rows of a run over `columns` paint: one tag per block, and two ends
+-- what six rows of a run over `columns` paint: one tag per tile, and two ends
 abbrev pub ends_and_tags : ℕ → ℕ
 ends_and_tags columns = 6 * (columns / 128 + 256)
 

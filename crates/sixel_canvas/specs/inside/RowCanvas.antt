@@ -55,7 +55,7 @@ abbrev pub row_canvas_work : RowCanvasState → Work
 row_canvas_work canvas = record {
   writes = sum_by (sum_by (λ line. line.row.writes)) canvas.bands;
   room = sum_by (sum_by (λ line. line.row.room)) canvas.bands;
-  paints = counted canvas.paints (sum_by (sum_by (λ line. line.spread)) canvas.bands);
+  paints = counted canvas.paints (sum_by (sum_by (λ line. line.appended)) canvas.bands);
 }
 
 -- what is true of every canvas of rows

@@ -1,11 +1,11 @@
--- What a band shows some of whose blocks are tagged: a tag is the color of a block of 128 columns
+-- What a band shows some of whose tiles are tagged: a tag is the color of a tile of 128 columns
 -- of a row, over what is stored there. The rule is this library's own: a wide run over columns that
--- were drawn on tags the blocks that it covers whole.
+-- were drawn on tags the tiles that it covers whole.
 use Rattle.std.specs.Prelude.{◌≡◌, ℕ, ◌+◌, ◌-◌, ◌*◌, ◌/◌, ◌≤◌, List, min, nat_lt, if◌then◌else◌}
 use Rattle.sixel_canvas.specs.inside.Band.{BandState, IsBand, cell}
 use Rattle.sixel_canvas.specs.inside.Tags.{no_tag, under}
 
--- the pixels, a tag for each block of columns, and how many columns and tags were painted
+-- the pixels, a tag for each tile of columns, and how many columns and tags were painted
 pub record TaggedState : Type 0 where
   pub pixels : BandState
   pub tags : BandState
@@ -28,17 +28,17 @@ capacity band = band.pixels.cap + band.tags.cap
 abbrev pub doubled : ℕ → ℕ
 doubled cap = min 1000008 (2 * cap - cap / 32)
 
--- what is true of every band with tags: each tagged block was drawn on whole
+-- what is true of every band with tags: each tagged tile was drawn on whole
 pub record IsTaggedBand (band : TaggedState) : Type 0 where
   pub pixels : IsBand band.pixels
   pub tags : IsBand band.tags
   pub clear : band.tags.background ≡ no_tag
   pub room : band.pixels.cap ≤ 128 * band.tags.cap
   pub few_tags : band.tags.cap ≤ (band.pixels.cap + 127) / 128
-  pub whole : 128 * band.tags.reach ≤ band.pixels.reach
+  pub whole : 128 * band.tags.extent ≤ band.pixels.extent
 
 -- what a run over `columns` paints at most beside the columns past all that was drawn on: one tag
--- per block, two ends, and what is painted of tagged blocks that it covers in part
+-- per tile, two ends, and what is painted of tagged tiles that it covers in part
 abbrev pub most_painted : ℕ → ℕ
 most_painted columns = columns / 128 + 640
 

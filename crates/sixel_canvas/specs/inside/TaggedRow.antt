@@ -1,39 +1,39 @@
--- What a row shows some of whose blocks are tagged: a tag is the color of a block of 128 columns,
+-- What a row shows some of whose tiles are tagged: a tag is the color of a tile of 128 columns,
 -- over what is stored there. The rule is this library's own: a wide run over columns that were
--- drawn on tags the blocks that it covers whole.
+-- drawn on tags the tiles that it covers whole.
 use Rattle.std.specs.Prelude.{◌≡◌, ℕ, ◌*◌, ◌/◌, ◌≤◌, List, length, slice_index_or}
 use Rattle.sixel_canvas.specs.Row.{RowState, IsThrifty, empty_row}
 use Rattle.sixel_canvas.specs.inside.Tags.{no_tag, under}
 
--- the pixels, a tag for each block of columns, and how many pixels wide runs have painted past all
+-- the pixels, a tag for each tile of columns, and how many pixels wide runs have painted past all
 -- that was drawn on
 pub record TaggedRowState : Type 0 where
   pub row : RowState
   pub tags : RowState
-  pub spread : ℕ
+  pub appended : ℕ
 
 -- the row with these parts
 abbrev pub tagged_row_state : RowState → RowState → ℕ → TaggedRowState
-tagged_row_state row tags spread = record { row = row; tags = tags; spread = spread }
+tagged_row_state row tags appended = record { row = row; tags = tags; appended = appended }
 
 -- a row with no pixel
 abbrev pub empty_tagged_row : List ℕ → TaggedRowState
 empty_tagged_row background = tagged_row_state (empty_row background) (empty_row no_tag) 0
 
--- the tag of a block, which is none where no memory was made for it
+-- the tag of a tile, which is none where no memory was made for it
 abbrev pub tag_of : TaggedRowState → ℕ → List ℕ
-tag_of line block = slice_index_or line.tags.pixels block no_tag
+tag_of line tile = slice_index_or line.tags.pixels tile no_tag
 
 -- the pixel at this column
 abbrev pub tagged_pixel : TaggedRowState → ℕ → List ℕ
 tagged_pixel line column =
     under (tag_of line (column / 128)) (slice_index_or line.row.pixels column line.row.background)
 
--- What is true of every row with tags: there are at most as many as whole blocks were drawn on, and
--- so each tagged block was drawn on whole.
+-- What is true of every row with tags: there are at most as many as whole tiles were drawn on, and
+-- so each tagged tile was drawn on whole.
 pub record IsTaggedRow (line : TaggedRowState) : Type 0 where
   pub row : IsThrifty line.row
   pub tags : IsThrifty line.tags
   pub clear : line.tags.background ≡ no_tag
   pub whole : 128 * length line.tags.pixels ≤ length line.row.pixels
-  pub spread : line.spread ≤ length line.row.pixels
+  pub appended : line.appended ≤ length line.row.pixels

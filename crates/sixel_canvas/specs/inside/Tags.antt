@@ -1,4 +1,4 @@
--- What a tag is: the color of a block of 128 columns of a row, over what is stored there. The rule
+-- What a tag is: the color of a tile of 128 columns of a row, over what is stored there. The rule
 -- is this library's own.
 use Rattle.std.specs.Prelude.{ℕ, Bool, nat_lt, if◌then◌else◌, List, [], ◌∷◌, slice_index}
 

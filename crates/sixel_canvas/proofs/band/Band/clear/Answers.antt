@@ -10,7 +10,7 @@ invariant_of-self c =
     with_items_is band.pixels c.fill_rows.new.pixels
     (c.fill_rows.ensures.len ∙ c.deref_mut.ensures.len) in
     let shown =
-    cleared band.background band.pixels.items c.fill_rows.new.pixels band.cap band.reach
+    cleared band.background band.pixels.items c.fill_rows.new.pixels band.cap band.extent
     c.self.invariant
     (rw (← c.deref_mut.ensures.value) (c.fill_rows.ensures.drawn band.background)) in
     grind (arith)
@@ -22,7 +22,7 @@ returns-clause-shown c =
     with_items_is band.pixels c.fill_rows.new.pixels
     (c.fill_rows.ensures.len ∙ c.deref_mut.ensures.len) in
     rw (is, ← c.self.view_is) (cleared band.background band.pixels.items c.fill_rows.new.pixels
-    band.cap band.reach c.self.invariant
+    band.cap band.extent c.self.invariant
     (rw (← c.deref_mut.ensures.value) (c.fill_rows.ensures.drawn band.background)))
 
 pub returns-clause-whole : goal.returns-clause-whole

@@ -10,7 +10,7 @@ invariant_of-self c =
     with_items_is band.pixels c.fill.new.pixels (c.fill.ensures.len ∙ c.deref_mut.ensures.len) in
     let within : c.args.to ≤ band.cap = grind (arith, c.self.invariant.reached) in
     let shown =
-    row_filled band.background band.pixels.items c.fill.new.pixels band.cap band.reach c.args.k
+    row_filled band.background band.pixels.items c.fill.new.pixels band.cap band.extent c.args.k
     c.args.from c.args.to c.args.color c.requires.six c.requires.ordered within
     (rw (← c.deref_mut.ensures.value) (c.fill.ensures.filled band.background)) in
     grind (arith)
@@ -26,6 +26,6 @@ returns-clause-drawn c =
     let within : c.args.to ≤ band.cap =
     grind (arith, c.self.invariant.reached, c.requires.reached) in
     rw (is, ← c.self.view_is) (row_filled band.background band.pixels.items c.fill.new.pixels
-    band.cap band.reach c.args.k c.args.from c.args.to c.args.color c.requires.six
+    band.cap band.extent c.args.k c.args.from c.args.to c.args.color c.requires.six
     c.requires.ordered within
     (rw (← c.deref_mut.ensures.value) (c.fill.ensures.filled band.background)))

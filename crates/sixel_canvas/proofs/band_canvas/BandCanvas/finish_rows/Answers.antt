@@ -7,8 +7,8 @@ use Rattle.sixel_canvas.specs.inside.TaggedBand.{tagged_cell}
 use Rattle.sixel_canvas.proofs.ReleasedRows.{above_clear, above_handed}
 use Rattle.sixel_canvas.proofs.band_canvas.BandCanvas.finish_rows.Goals as goal
 use Rattle.sixel_canvas.proofs.band_canvas.BandCanvas.finish_rows.Goals.{
-  then-reach-gt0,
-  else-reach-gt0,
+  then-extent-gt0,
+  else-extent-gt0,
 }
 
 pub returns-clause-shown : goal.returns-clause-shown
@@ -16,8 +16,8 @@ returns-clause-shown c = λ column row.
     let all = c.self.inside in
     let gone = released_pixel all.gone all.rows.background column row in
     let seen = ap (λ (s : BandCanvasState). band_canvas_shown s column row) c.self.view_is in
-    elim c.if-reach-gt0.branch [
-      | then-reach-gt0 w ↦
+    elim c.if-extent-gt0.branch [
+      | then-extent-gt0 w ↦
           let le : all.released ≤ all.top = omega (arith, c.self.invariant.above) in
           rw w.self-inside-is
           (ap
@@ -28,7 +28,7 @@ returns-clause-shown c = λ column row.
           ∙ above_handed all.released all.top gone (final all.rows column (row - all.released))
           (final w.hand_out.new.rows column (row - all.released)) (tagged_cell all.band column) row
           le (w.hand_out.ensures.shown column (row - all.released)) ∙ seen)
-      | else-reach-gt0 w ↦
+      | else-extent-gt0 w ↦
           rw w.self-inside-is
           (above_clear all.rows all.released all.top gone (tagged_cell all.band column) column row
           c.self.invariant.above

@@ -5,5 +5,5 @@ use Rattle.sixel_canvas.proofs.row_canvas.RowCanvas.paints.Given as goal
 
 abbrev pub invariant-counted : goal.invariant-counted
 invariant-counted l =
-    l.spread
-    ≡ sum_by (sum_by (λ (line : TaggedRowState). line.spread)) (take l.band-index l.band-items)
+    l.appended
+    ≡ sum_by (sum_by (λ (line : TaggedRowState). line.appended)) (take l.band-index l.band-items)

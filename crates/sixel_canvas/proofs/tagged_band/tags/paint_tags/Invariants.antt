@@ -8,9 +8,9 @@ abbrev pub invariant-rows : goal.invariant-rows
 invariant-rows l =
     (l.pixels.background ≡ l.fn.pixels.background)
     × (l.pixels.cap ≡ l.fn.pixels.cap)
-    × (l.pixels.reach ≡ l.fn.pixels.reach)
+    × (l.pixels.extent ≡ l.fn.pixels.extent)
     × IsBand l.pixels
     × ((column k : ℕ)
     → cell l.pixels column k
-    ≡ (if nat_le (l.block * 128) column && nat_lt column (l.block * 128 + 128) && nat_lt k l.k
-    then under (cell l.tags l.block k) (cell l.fn.pixels column k) else cell l.fn.pixels column k))
+    ≡ (if nat_le (l.tile * 128) column && nat_lt column (l.tile * 128 + 128) && nat_lt k l.k
+    then under (cell l.tags l.tile k) (cell l.fn.pixels column k) else cell l.fn.pixels column k))

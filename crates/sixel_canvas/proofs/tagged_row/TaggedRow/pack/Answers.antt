@@ -12,10 +12,10 @@ segments-init c = grind (arith, nat_tests, append-nil)
 pub segments-preserved : goal.segments-preserved
 segments-preserved c =
     let width = c.args.width in
-    let from = c.segments.block * 128 in
+    let from = c.segments.tile * 128 in
     let count = c.min.result in
-    let after : min ((c.segments.block + 1) * 128) width ≡ from + count =
-    omega (arith, c.segments-test.true, c.div_ceil-block-end.ensures, c.min.ensures) in
+    let after : min ((c.segments.tile + 1) * 128) width ≡ from + count =
+    omega (arith, c.segments-test.true, c.div_ceil-tile-end.ensures, c.min.ensures) in
     grind (arith, append_assoc, joined-add)
 
 pub returns-clause-ok : goal.returns-clause-ok

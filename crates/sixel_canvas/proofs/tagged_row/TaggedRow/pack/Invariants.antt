@@ -7,5 +7,5 @@ abbrev pub invariant-segments : goal.invariant-segments
 invariant-segments l =
     (l.bytes.items
     ≡ l.fn.bytes.items
-    ++ joined (λ column. tagged_pixel l.self column) (min (l.block * 128) l.width))
-    × (vec_len l.bytes ≡ vec_len l.fn.bytes + 4 * min (l.block * 128) l.width)
+    ++ joined (λ column. tagged_pixel l.self column) (min (l.tile * 128) l.width))
+    × (vec_len l.bytes ≡ vec_len l.fn.bytes + 4 * min (l.tile * 128) l.width)

@@ -11,25 +11,25 @@ use Rattle.sixel_base.specs.Limits.{Limit}
 use Rattle.sixel_base.specs.Payload.{settled_tokens}
 
 -- the greatest right edge of a sixel that covers a pixel of the row, 0 where none does
-abbrev pub row_reach : Limit → History → ℕ → ℕ
-row_reach limit [] row = 0
-row_reach limit (Sixel bits ∷ older) row =
+abbrev pub row_extent : Limit → History → ℕ → ℕ
+row_extent limit [] row = 0
+row_extent limit (Sixel bits ∷ older) row =
     if is_inside limit older && is_struck (down older) (clipped_bits limit (down older) bits) row
-    then max (row_reach limit older row) (min (across older + span older) limit.columns)
-    else row_reach limit older row
-row_reach limit (_ ∷ older) row = row_reach limit older row
+    then max (row_extent limit older row) (min (across older + span older) limit.columns)
+    else row_extent limit older row
+row_extent limit (_ ∷ older) row = row_extent limit older row
 
 -- the sum over all rows, since from the height on no sixel covers one
-abbrev pub reached_area : Limit → History → ℕ
-reached_area limit history = total (row_reach limit history) (height history)
+abbrev pub painted_area : Limit → History → ℕ
+painted_area limit history = total (row_extent limit history) (height history)
 
 -- the width and the height that a picture has inside the clip so far
 abbrev pub size : Limit → History → ℕ × ℕ
 size limit history = (clipped_width limit history, clipped_height limit history)
 
 -- both of a payload, as far as no further byte can change its tokens
-abbrev pub payload_reached_area : Limit → List ℕ → ℕ
-payload_reached_area limit bytes = reached_area limit (settled_tokens limit bytes)
+abbrev pub payload_painted_area : Limit → List ℕ → ℕ
+payload_painted_area limit bytes = painted_area limit (settled_tokens limit bytes)
 
 abbrev pub payload_size : Limit → List ℕ → ℕ × ℕ
 payload_size limit bytes = size limit (settled_tokens limit bytes)

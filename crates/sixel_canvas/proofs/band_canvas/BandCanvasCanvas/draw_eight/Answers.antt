@@ -6,7 +6,7 @@ use Rattle.sixel_canvas.specs.inside.TaggedBand.{capacity}
 use Rattle.sixel_canvas.proofs.BandStates.{canvas_over}
 use Rattle.sixel_canvas.proofs.MovedRows.{laid_held, laid_wider, moved_more}
 use Rattle.sixel_canvas.proofs.Runs.{edges, lowest_here, paid-sixels}
-use Rattle.sixel_canvas.proofs.band_canvas.BandCanvasCanvas.block.Goals as goal
+use Rattle.sixel_canvas.proofs.band_canvas.BandCanvasCanvas.draw_eight.Goals as goal
 
 pub returns-clause-drawn : goal.returns-clause-drawn
 returns-clause-drawn c = λ column row. grind (arith, canvas_over)
@@ -14,17 +14,17 @@ returns-clause-drawn c = λ column row. grind (arith, canvas_over)
 pub returns-clause-paid : goal.returns-clause-paid
 returns-clause-paid c = λ named runs before.
     let now = c.args.self.now in
-    let band = c.block.new.self in
+    let band = c.draw_eight.new.self in
     let right = c.args.from + c.args.len in
     let few : c.args.len ≤ length c.args.sixels = grind (arith, c.requires.few) in
     let same_top : c.self.inside.top ≡ now.top =
     grind (arith) in
     let cap : capacity band ≤ max (capacity now.band) (2 * right + 16) = grind (arith) in
     let painted : band.painted ≤ now.band.painted + 264 =
-    grind (arith, c.block.ensures.painted) in
-    let reach : band.pixels.reach ≡ max now.band.pixels.reach right =
-    grind (arith, c.block.ensures.reach) in
-    let tagged : band.tags.reach ≡ now.band.tags.reach =
+    grind (arith, c.draw_eight.ensures.painted) in
+    let extent : band.pixels.extent ≡ max now.band.pixels.extent right =
+    grind (arith, c.draw_eight.ensures.extent) in
+    let tagged : band.tags.extent ≡ now.band.tags.extent =
     grind (arith) in
     let all = c.self.inside in
     let state =
@@ -37,7 +37,7 @@ returns-clause-paid c = λ named runs before.
     laid_held now c.hold.new.self state named runs right before.1 c.in_ok-hold.ensures.laid
     (grind (arith)) (grind (arith)) (grind (arith)) in (
       rw same_top (paid-sixels _ _ _ _ _ _ _ _ now.top c.args.from c.args.len c.args.sixels runs
-          before.0 c.requires.some few cap painted reach tagged),
+          before.0 c.requires.some few cap painted extent tagged),
       rw (← same_top) (moved_more state named more
           (laid_wider state wide (least_width named more) laid (omega (arith, edge)))
           c.self.invariant.above

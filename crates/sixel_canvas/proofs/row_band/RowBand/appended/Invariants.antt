@@ -1,8 +1,8 @@
 use Rattle.std.proofs.Common.{◌≡◌, take}
 use Rattle.std.specs.List.{sum_by}
 use Rattle.sixel_canvas.specs.inside.TaggedRow.{TaggedRowState}
-use Rattle.sixel_canvas.proofs.row_band.RowBand.spread.Given as goal
+use Rattle.sixel_canvas.proofs.row_band.RowBand.appended.Given as goal
 
 abbrev pub invariant-counted : goal.invariant-counted
 invariant-counted l =
-    l.spread ≡ sum_by (λ (line : TaggedRowState). line.spread) (take l.line-index l.line-items)
+    l.appended ≡ sum_by (λ (line : TaggedRowState). line.appended) (take l.line-index l.line-items)

@@ -1,4 +1,4 @@
-use Rattle.sixel_canvas.proofs.tagged_band.TaggedBand.block.Goals as goal
+use Rattle.sixel_canvas.proofs.tagged_band.TaggedBand.draw_eight.Goals as goal
 use Rattle.std.proofs.Common.{arith}
 
 pub returns-clause-drawn : goal.returns-clause-drawn

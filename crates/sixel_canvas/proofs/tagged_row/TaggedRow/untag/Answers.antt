@@ -1,0 +1,47 @@
+use Rattle.std.proofs.Common.{◌≡◌, length, true, sym, ap, ◌∙◌}
+use Rattle.sixel_canvas.specs.inside.TaggedRow.{TaggedRowState, tag_of}
+use Rattle.sixel_canvas.specs.inside.TaggedRow.{tagged_row_state}
+use Rattle.sixel_canvas.specs.inside.Tags.{is_tag}
+use Rattle.sixel_canvas.proofs.TaggedRows.{IsUntagged, untagged_row}
+use Rattle.sixel_canvas.proofs.tagged_row.TaggedRow.untag.Goals as goal
+use Rattle.std.proofs.Common.{arith}
+
+-- the row as it was, and what was done to it
+is_untagged : (c : goal.After-paint-3)
+    → IsUntagged (tagged_row_state c.self.inside.row c.self.inside.tags c.self.inside.appended)
+    (tagged_row_state c.paint-2.new.self c.paint-3.new.self c.self.inside.appended) c.args.tile
+    c.args.from c.args.to
+is_untagged c =
+    let all = c.self.inside in
+    let visible : is_tag c.pixel-tag.result ≡ true =
+    sym c.is_visible.ensures ∙ c.if-not-is_visible.false in
+    untagged_row (tagged_row_state all.row all.tags all.appended) c.pixel-tag.result
+    c.paint.new.self c.paint-2.new.self c.paint-3.new.self c.args.tile c.args.from c.args.to
+    c.clamp.result c.clamp-2.result c.self.invariant visible c.pixel-tag.ensures.value
+    c.requires.ordered c.clamp.ensures c.clamp-2.ensures c.paint.ensures.after
+    c.paint-2.ensures.after c.paint-3.ensures.after c.paint-2.ensures.thrifty
+    c.paint-3.ensures.thrifty
+
+pub invariant_of-self : goal.invariant_of-self
+invariant_of-self c = (is_untagged c).sound
+
+pub returns-clause-sound : goal.returns-clause-sound
+returns-clause-sound c = (is_untagged c).sound
+
+pub returns-clause-outside : goal.returns-clause-outside
+returns-clause-outside c = grind (arith, is_untagged)
+
+pub returns-clause-untagged : goal.returns-clause-untagged
+returns-clause-untagged c = (is_untagged c).untagged
+
+pub returns-clause-others : goal.returns-clause-others
+returns-clause-others c = λ other apart.
+    (is_untagged c).others other apart ∙ ap (λ (s : TaggedRowState). tag_of s other) c.self.view_is
+
+pub returns-clause-len : goal.returns-clause-len
+returns-clause-len c =
+    (is_untagged c).len ∙ ap (λ (s : TaggedRowState). length s.row.pixels) c.self.view_is
+
+pub returns-clause-tags_len : goal.returns-clause-tags_len
+returns-clause-tags_len c =
+    (is_untagged c).tags_len ∙ ap (λ (s : TaggedRowState). length s.tags.pixels) c.self.view_is
