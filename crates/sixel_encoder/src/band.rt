@@ -216,11 +216,11 @@ fn add_whole_line(rows: &mut [u8], used: &mut [bool], image: &IndexedImage<'_>, 
 {
     // A copy of its own stays in registers while rows change.
     let own = *image;
-    let blocks = own.width / RUN_LANES;
-    for block in 0..blocks {
-        add_sixteen(rows, used, &own, line, RUN_LANES * block);
+    let sixteens = own.width / RUN_LANES;
+    for sixteen in 0..sixteens {
+        add_sixteen(rows, used, &own, line, RUN_LANES * sixteen);
     }
-    for column in RUN_LANES * blocks..own.width {
+    for column in RUN_LANES * sixteens..own.width {
         add_pixel(rows, used, &own, line, column);
     }
 }

@@ -8,7 +8,7 @@ use std::simd::prelude::*;
 /// How many sixels one comparison covers.
 const LANES: usize = 16;
 
-/// How many sixels a block of a long run has.
+/// How many sixels one comparison of a long run covers.
 const LONG_LANES: usize = 64;
 
 /// Returns how many sixels from `at` on equal `bits`, up to sixteen.
@@ -28,7 +28,7 @@ pub fn equal_from(row: &[u8], at: usize, bits: u8) -> usize
 
 /// Returns how many sixels from `at` on equal `bits`, of a long run maybe fewer.
 ///
-/// At least 1 if the first one does. After sixteen of them it compares whole blocks.
+/// At least 1 if the first one does. After sixteen of them it compares 64 at once.
 #[inline(always)]
 pub fn run_from(row: &[u8], at: usize, bits: u8) -> usize
     requires { at < length row.now }
@@ -46,7 +46,7 @@ pub fn run_from(row: &[u8], at: usize, bits: u8) -> usize
     end - at
 }
 
-/// Returns whether the 64 sixels of a block all equal `bits`.
+/// Returns whether 64 sixels all equal `bits`.
 #[inline(always)]
 fn is_long_run(row: &[u8], at: usize, bits: u8) -> bool
     requires { at + 64 ≤ length row.now }

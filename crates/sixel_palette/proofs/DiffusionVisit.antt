@@ -2,12 +2,13 @@
 -- latest errors.
 use Rattle.std.proofs.Common.{◌≡◌, ℕ, ◌+◌, ◌*◌, ◌<◌, List, [], ◌∷◌, length, set, ap, sym, subst}
 use Rattle.std.proofs.Common.{◌∙◌, arith, zero, suc, ◌≤◌, refl, inl, inr, replicate}
-use Rattle.std.specs.Prelude.{slice_index, slice_index_or, ◌%◌}
+use Rattle.std.specs.Prelude.{slice_index, slice_index_or, ◌/◌, ◌%◌}
 use Rattle.std.proofs.lemmas.Bool.Decides.{nat_tests}
 use Rattle.std.proofs.lemmas.List.{get_or-set_other, get_or-set_same, get_or-replicate}
 use Rattle.std.proofs.lemmas.List.{length-replicate, length-set}
 use Rattle.sixel_palette.specs.Palette.{IsOpaque}
 use Rattle.sixel_palette.specs.declared.dithering.mapped.MappedImage.{MappedImage}
+use Rattle.sixel_palette.specs.declared.dithering.mapped.Place.{Place}
 use Rattle.sixel_palette.specs.declared.dithering.diffusion.Neighbors.{Neighbors}
 use Rattle.sixel_palette.specs.Dithering.{IsIndex, Mapped, column_of_step, error_above}
 use Rattle.sixel_palette.specs.Dithering.{error_before, error_behind, error_beyond, neighbor_of}
@@ -17,8 +18,9 @@ use Rattle.sixel_palette.specs.inside.Diffusion.{AreReceived, AreSixteenths, Are
 use Rattle.sixel_palette.specs.inside.Diffusion.{IsLine, IsVisit, channels, color_error}
 use Rattle.sixel_palette.specs.inside.Diffusion.{received_of, rounded_color, AreVisited}
 use Rattle.sixel_palette.specs.inside.Diffusion.{no_error_lanes}
-use Rattle.sixel_palette.specs.inside.Mapped.{IsIndexAt, mapped_value}
-use Rattle.sixel_palette.proofs.DitheredIndices.{HasTarget-set, IsIndexAt-light, HasTarget-same}
+use Rattle.sixel_palette.specs.inside.Mapped.{IsIndexAt, IsMappable, IsPlace, mapped_value}
+use Rattle.sixel_palette.proofs.DitheredIndices.{HasTarget-set, IsIndexAt-dark, IsIndexAt-light}
+use Rattle.sixel_palette.proofs.DitheredIndices.{HasTarget-same}
 use Rattle.std.proofs.lemmas.Bool.{cases_lt}
 use Rattle.sixel_palette.proofs.Serpentine.{column-apart, column-lt, serpentine-apart}
 
@@ -112,23 +114,42 @@ pub IsVisit-set : (m : Mapped) (errors : List (List ℕ)) (n index : ℕ) (old e
 IsVisit-set m errors n index old error some inside is light dark lanes =
     grind (arith, writes, HasTarget-set, visit_error-transparent, visit_error-opaque)
 
+-- a visit of a transparent pixel, which has the index 0
+pub IsVisit-dark : (image : MappedImage) (errors : List (List ℕ)) (place : Place)
+    (old error : List ℕ) → IsMappable image → IsPlace (mapped_value image) place
+    → length old ≡ length image.pixels.now / 4
+    → slice_index image.pixels.now (4 * place.pixel + 3) < 128
+    → error ≡ no_error_lanes image.strength → AreErrors error
+    → IsVisit (mapped_value image) errors (place.row * image.width + place.step) old
+    (set old place.pixel 0) error
+IsVisit-dark image errors place old error is at size dark none lanes =
+    let m = mapped_value image in
+    let n = place.row * m.width + place.step in
+    let hidden = subst (λ (p : ℕ). slice_index m.pixels (4 * p + 3) < 128) (sym at.pixel) dark in
+    subst (λ (p : ℕ). IsVisit m errors n old (set old p 0) error) at.pixel
+    (IsVisit-set m errors n 0 old error is.whole.wide (rw (at.pixel, size) at.within)
+    (IsIndexAt-dark m (target_of_visit m errors n) old n is.some hidden)
+    (λ light. absurd (omega (arith, light, hidden))) (λ _. ap channels none) lanes)
+
 -- a visit of an opaque pixel whose entry is stored
-pub IsVisit-stored : (image : MappedImage) (errors : List (List ℕ)) (n pixel index : ℕ)
-    (numbers values target old new error : List ℕ) → 0 < image.width
-    → serpentine image.width n ≡ pixel → pixel < length old
-    → AreReceived (mapped_value image) errors n numbers
-    → AreSixteenths image pixel numbers values → IsOpaque image.pixels.now pixel
+pub IsVisit-stored : (image : MappedImage) (errors : List (List ℕ)) (place : Place) (index : ℕ)
+    (numbers values target old new error : List ℕ) → IsMappable image
+    → IsPlace (mapped_value image) place → length old ≡ length image.pixels.now / 4
+    → AreReceived (mapped_value image) errors (place.row * image.width + place.step) numbers
+    → AreSixteenths image place.pixel numbers values → IsOpaque image.pixels.now place.pixel
     → target ≡ rounded_color values
-    → IsIndex (mapped_value image) target (neighbor_of (mapped_value image) target old n) index
-    → new ≡ set old pixel index
+    → IsIndex (mapped_value image) target
+    (neighbor_of (mapped_value image) target old (place.row * image.width + place.step)) index
+    → new ≡ set old place.pixel index
     → channels error
     ≡ color_error image.strength values (slice_index_or image.colors.now index [])
     → AreErrors error
-    → IsVisit (mapped_value image) errors n old new error
-IsVisit-stored image errors n pixel index numbers values target old new error some at inside are
-    is light rounds chosen stored passed lanes =
+    → IsVisit (mapped_value image) errors (place.row * image.width + place.step) old new error
+IsVisit-stored image errors place index numbers values target old new error whole at size are is
+    light rounds chosen stored passed lanes =
     let m = mapped_value image in
-    let shown = subst (IsOpaque m.pixels) (sym at) light in
+    let n = place.row * m.width + place.step in
+    let shown = subst (IsOpaque m.pixels) (sym at.pixel) light in
     let aim : rounded_color values ≡ target_of_visit m errors n = grind (arith, nat_tests) in
     let mine =
     subst (λ (t : List ℕ). IsIndex m t (neighbor_of m t old n) index) (rounds ∙ aim) chosen in
@@ -136,8 +157,8 @@ IsVisit-stored image errors n pixel index numbers values target old new error so
     let own : color_error image.strength values color ≡ opaque_error m errors n color =
     grind (arith, nat_tests) in
     rw stored
-    (subst (λ (p : ℕ). IsVisit m errors n old (set old p index) error) at
-    (IsVisit-set m errors n index old error some (omega (arith, at, inside))
+    (subst (λ (p : ℕ). IsVisit m errors n old (set old p index) error) at.pixel
+    (IsVisit-set m errors n index old error whole.whole.wide (rw (at.pixel, size) at.within)
     (IsIndexAt-light m (target_of_visit m errors n) old n index shown mine)
     (λ _. passed ∙ own) (λ dark. absurd (omega (arith, shown, dark))) lanes))
 

@@ -12,6 +12,7 @@ use Rattle.sixel_palette.specs.Dithering.{IsIndex, Mapped, column_of_step, entry
 use Rattle.sixel_palette.specs.Dithering.{entry_before, entry_distance, entry_of, neighbor_of}
 use Rattle.sixel_palette.specs.Dithering.{serpentine}
 use Rattle.sixel_palette.specs.inside.Mapped.{AreEntries, IsInside, IsKept, kept_value}
+use Rattle.sixel_palette.specs.inside.Mapped.{no_distance}
 use Rattle.sixel_palette.proofs.Serpentine.{column-lt, serpentine-lt, serpentine-serpentine}
 use Rattle.sixel_palette.proofs.Serpentine.{serpentine-step}
 use Rattle.std.proofs.lemmas.Grind.{common_steps}
@@ -38,6 +39,12 @@ pub IsKept-nearer : (m : Mapped) (c : List ℕ) (neighbor : Option ℕ) (x y kep
     → (x.squared ≤ y.squared → IsKept m c neighbor x) → (y.squared < x.squared → kept ≡ y)
     → (x.squared ≤ y.squared → kept ≡ x) → IsKept m c neighbor kept
 IsKept-nearer m c neighbor x y kept above before second first = grind (arith, nat_tests, cases_lt)
+
+-- one that is nearer than the tolerance is kept
+pub IsIndex-near : (m : Mapped) (c : List ℕ) (neighbor : Option ℕ) (kept : Kept)
+    → IsKept m c neighbor kept → kept.squared < m.tolerance → kept.squared < no_distance
+    → IsIndex m c neighbor kept.index
+IsIndex-near m c neighbor kept is near some = grind (arith, nat_tests)
 
 -- ---- entries of the palette
 

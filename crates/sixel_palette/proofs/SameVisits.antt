@@ -5,7 +5,6 @@ use Rattle.std.specs.Prelude.{◌/◌, ◌%◌, slice_index}
 use Rattle.std.proofs.lemmas.Bool.{cases_eq, cases_lt}
 use Rattle.std.proofs.lemmas.Bool.Decides.{nat_tests}
 use Rattle.sixel_palette.specs.Palette.{IsOpaque, color_at}
-use Rattle.sixel_base.specs.Payload.{Image}
 use Rattle.sixel_palette.specs.Dithering.{Mapped, entry_above, entry_before, entry_of, errors_of}
 use Rattle.sixel_palette.specs.Dithering.{nearer_entry, neighbor_of, opaque_error, serpentine}
 use Rattle.sixel_palette.specs.Dithering.{sixteenths, target_of_visit, visit_error}

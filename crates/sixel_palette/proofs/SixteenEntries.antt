@@ -234,6 +234,36 @@ IsIndex-least m c first second i all here there small l rise =
           };
     }
 
+-- an entry with the color of the target, which the pixel before has
+distance-same : (p t : List ℕ) → slice_index p 0 ≡ slice_index t 0
+    → slice_index p 1 ≡ slice_index t 1 → slice_index p 2 ≡ slice_index t 2
+    → distance p (channels t) ≡ 0
+unfolding distance square_gap
+distance-same p t r g b = grind (arith, nat_tests)
+
+pub entry_distance-same : (colors : List (List ℕ)) (s : SixteenEntries) (t : List ℕ) (k : ℕ)
+    → AreSixteen colors 16 s → k < 16 → get_or s.red k 0 ≡ get_or t 0 0 * 256
+    → get_or s.green k 0 ≡ get_or t 1 0 * 256 → get_or s.blue k 0 ≡ get_or t 2 0 * 256
+    → entry_distance colors (channels t) k ≡ 0
+entry_distance-same colors s t k are l r g b =
+    distance-same _ t (omega (arith, are.red k l, r)) (omega (arith, are.green k l, g))
+    (omega (arith, are.blue k l, b))
+
+nearer-same : (colors : List (List ℕ)) (c : List ℕ) (e : ℕ) (second : Option ℕ)
+    → entry_distance colors c e ≡ 0 → nearer_entry colors c (Some e) second ≡ Some e
+nearer-same colors c e None none = refl
+nearer-same colors c e (Some b) none = grind (arith, nat_tests)
+
+pub IsIndex-before : (m : Mapped) (c : List ℕ) (e : ℕ) (second : Option ℕ)
+    → e < length m.colors → 0 < m.tolerance → entry_distance m.colors c e ≡ 0
+    → IsIndex m c (nearer_entry m.colors c (Some e) second) e
+IsIndex-before m c e second l some none =
+    rw (nearer-same m.colors c e second none) (record {
+      entry = l;
+      kept = λ entry is near. grind (arith, is);
+      nearest = λ beyond. absurd (omega (arith, beyond e refl, none, some));
+    })
+
 -- so it is of the keys in lanes
 pub IsIndex-keys : (m : Mapped) (s : SixteenEntries) (t keys : List ℕ) (first second : Option ℕ)
     (i least : ℕ) → length m.colors ≡ 16 → AreSixteen m.colors 16 s

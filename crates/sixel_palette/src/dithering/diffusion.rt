@@ -36,9 +36,7 @@ pub fn diffused_indices(alloc: Global, image: &MappedImage<'_>) -> Result<Vec<u8
     let mut indices = vec![in alloc; 0; image.pixels.len() / 4]?;
     let mut line = vec![in alloc; image.no_error(); image.width]?;
     let mut entries = image.entries(alloc)?;
-    for row in 0..image.pixels.len() / 4 / image.width {
-        image.diffuse_row(&mut indices, &mut line, &mut entries, row)?;
-    }
+    image.diffuse_rows(&mut indices, &mut line, &mut entries)?;
     Ok(indices)
 }
 
@@ -81,6 +79,29 @@ impl MappedImage<'_> {
         let strength = 16 * u16::from(self.strength);
         let lanes = u8x4::from_array([color[0], color[1], color[2], 0]);
         lanes.cast::<u16>() * u16x4::splat(strength)
+    }
+
+    /// Visits the pixels of all rows. The line has no errors before the first one.
+    fn diffuse_rows(
+        &self,
+        indices: &mut [u8],
+        line: &mut [PixelError],
+        entries: &mut Entries,
+    ) -> Result<(), AllocError>
+        requires image { IsMappable self.now }
+        requires indices { length indices.old ≡ length self.now.pixels.now / 4 }
+        requires entries { AreEntries self.now.colors.now indices.old }
+        requires line { IsLine (mapped_value self.now)
+            (errors_of (mapped_value self.now) indices.old 0) 0 0 line.old }
+        requires prepared { ArePrepared self.now entries.old }
+        ensures { OnOk result (AreMapped (mapped_value self.now)
+            (λ n. target_of_visit (mapped_value self.now)
+            (errors_of (mapped_value self.now) indices.new n) n) indices.new) }
+    {
+        for row in 0..self.pixels.len() / 4 / self.width {
+            self.diffuse_row(indices, line, entries, row)?;
+        }
+        Ok(())
     }
 
     /// Visits the pixels of a row.

@@ -4,7 +4,8 @@
 //! entry is a number of its own less its product with the target.
 
 ghost use Rattle.std.specs.Prelude.{◌≡◌, ◌/◌, ◌<◌, ◌≤◌, ℕ, List, Option, Some, length, slice_index};
-ghost use Rattle.sixel_palette.specs.Dithering.{IsIndex, Mapped, nearer_entry};
+ghost use Rattle.std.specs.Prelude.{true};
+ghost use Rattle.sixel_palette.specs.Dithering.{IsIndex, Mapped, entry_distance, nearer_entry};
 ghost use Rattle.sixel_palette.specs.inside.Diffusion.{channels};
 ghost use Rattle.sixel_palette.specs.inside.SixteenEntries.{AreSixteen, lane_key, lane_of};
 
@@ -56,6 +57,8 @@ impl SixteenEntries {
     }
 
     /// Returns the index for a target whose neighbors have these entries.
+    ///
+    /// In a flat area the target is the entry before, and no key is waited for.
     #[inline(always)]
     pub fn index_of(
         &self,
@@ -66,20 +69,40 @@ impl SixteenEntries {
     ) -> u8
         requires four { length target ≡ 4 }
         requires small { (k : ℕ) → slice_index target k ≤ 255 }
+        requires before { (entry : ℕ) → before ≡ Some entry → entry < 16 }
         ensures within { result < 16 }
         ensures index { (m : Mapped) → length m.colors ≡ 16 → m.tolerance ≡ tolerance
             → AreSixteen m.colors 16 self.now
-            → ((entry : ℕ) → before ≡ Some entry → entry < 16)
             → ((entry : ℕ) → above ≡ Some entry → entry < 16)
             → IsIndex m (channels target)
             (nearer_entry m.colors (channels target) before above) result }
     {
+        if let Some(index) = before
+            && tolerance > 0
+            && self.is_entry(index, target)
+        {
+            return index;
+        }
         let keys = self.keys(target, lane_of(before), lane_of(above), tolerance);
         let mut least = keys[0];
         for lane in 1..16 {
             least = keys[lane].min(least);
         }
         (least % 16) as u8
+    }
+
+    /// Whether an entry has this color.
+    #[inline(always)]
+    fn is_entry(&self, index: u8, color: u16x4) -> bool
+        requires index { index < 16 }
+        requires four { length color ≡ 4 }
+        requires small { (k : ℕ) → slice_index color k ≤ 255 }
+        ensures { (colors : List (List ℕ)) → result ≡ true → AreSixteen colors 16 self.now
+            → entry_distance colors (channels color) index ≡ 0 }
+    {
+        let lane = usize::from(index);
+        let scaled = (color * u16x4::splat(256)).to_array();
+        self.red[lane] == scaled[0] && self.green[lane] == scaled[1] && self.blue[lane] == scaled[2]
     }
 
     /// Returns the key of each entry.

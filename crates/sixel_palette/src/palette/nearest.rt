@@ -100,16 +100,16 @@ impl Search {
             → AreNumbered colors self.old.entries.items
             → IsNearestEntry colors (color_of code) near) }
     {
-        let key = self.least_key(code)?;
+        let key = self.nearest_key(code)?;
         Ok(NearestEntry {
             squared: key / 256,
             index: (key % 256) as u8,
         })
     }
 
-    /// The least key of all entries for the color of a code.
+    /// Returns the key of the nearest entry, which is the least of all.
     #[inline(always)]
-    fn least_key(&mut self, code: u32) -> Result<u32, AllocError>
+    fn nearest_key(&mut self, code: u32) -> Result<u32, AllocError>
         requires small { code < code_count }
         requires search { IsSearch self.old }
         ensures search { OnOk result (IsSearch self.new) }

@@ -101,8 +101,8 @@ fn relax_whole_bucket(
 {
     let start = BUCKET * bucket;
     let mut greatest = relax_lanes(codes, squares, indices, start, entry);
-    for block in 1..BUCKET / LANES {
-        let lanes = relax_lanes(codes, squares, indices, start + LANES * block, entry);
+    for eight in 1..BUCKET / LANES {
+        let lanes = relax_lanes(codes, squares, indices, start + LANES * eight, entry);
         greatest = greatest.simd_max(lanes);
     }
     greatest_of_eight(greatest.to_array())

@@ -3,17 +3,17 @@ use Rattle.std.proofs.lemmas.Bool.Decides.{nat_tests}
 use Rattle.sixel_encoder.proofs.LineRuns.{between-none}
 use Rattle.sixel_encoder.proofs.band.add_whole_line.Goals as goal
 
-pub loop-block-init : goal.loop-block-init
-loop-block-init c = grind (arith, nat_tests, between-none, c.requires.marks)
+pub loop-sixteen-init : goal.loop-sixteen-init
+loop-sixteen-init c = grind (arith, nat_tests, between-none, c.requires.marks)
 
 pub add_sixteen-requires-clause-fits : goal.add_sixteen-requires-clause-fits
 add_sixteen-requires-clause-fits c = λ e x le from to. grind (arith)
 
-pub loop-block-preserved : goal.loop-block-preserved
-loop-block-preserved c = grind (arith)
+pub loop-sixteen-preserved : goal.loop-sixteen-preserved
+loop-sixteen-preserved c = grind (arith)
 
 pub loop-column-init : goal.loop-column-init
-loop-column-init c = grind (arith, nat_tests, between-none, c.loop-block.invariant.marks)
+loop-column-init c = grind (arith, nat_tests, between-none, c.loop-sixteen.invariant.marks)
 
 pub add_pixel-requires-clause-fits : goal.add_pixel-requires-clause-fits
 add_pixel-requires-clause-fits c = λ e le. grind (arith)
