@@ -1,7 +1,6 @@
 -- What is known of the bytes of an image once a beginning of them was fed.
-use Rattle.std.proofs.Common.{◌≡◌, ℕ, ◌≤◌, true, List, [], ◌++◌, refl, ap, sym, ◌∙◌, ⊎_elim, arith}
-use Rattle.std.proofs.Common.{inl, inr, subst, Some, None}
-use Rattle.std.specs.Prelude.{◌&&◌, nat_lt, length, Result, Ok, if◌then◌else◌, is_none}
+use Rattle.std.proofs.Common.{◌≡◌, ℕ, ◌≤◌, true, List, [], ◌++◌, refl, ap, sym, ⊎_elim, arith}
+use Rattle.std.specs.Prelude.{◌&&◌, nat_lt, length, Result, Ok}
 use Rattle.std.specs.Prelude.{IfErr}
 use Rattle.std.proofs.lemmas.List.{append-nil, append_assoc}
 use Rattle.std.proofs.lemmas.Bool.Decides.{nat_tests}
@@ -11,15 +10,10 @@ use Rattle.sixel_base.specs.Bytes.{front, first_terminator}
 use Rattle.sixel_base.specs.Settings.{Settings}
 use Rattle.sixel_base.specs.Dcs.{can_finish, dcs_fault, dcs_growths, dcs_in_payload, dcs_status}
 use Rattle.sixel_base.specs.Dcs as strings
-use Rattle.sixel_base.specs.declared.status.SixelFeedResult.{SixelFeedResult}
-use Rattle.sixel_base.specs.declared.status.SixelDcsFeedResult.{SixelDcsFeedResult}
 use Rattle.sixel_decoder.specs.FedImages.{IsFed}
-use Rattle.sixel_decoder.specs.ImageEnds.{Extends, Passes}
-use Rattle.sixel_decoder.specs.declared.image_end.SequenceEnd.{SequenceEnd}
 use Rattle.icy_sixel.specs.ReceiverCalls.{IsCounted}
 use Rattle.sixel_decoder.specs.Reception.{Reception}
 use Rattle.sixel_decoder.specs.declared.received.Received.{Received}
-use Rattle.sixel_decoder.specs.declared.received.Status.TheVariants.{Payload, Dcs}
 use Rattle.sixel_base.specs.Limits.{Limit}
 use Rattle.icy_sixel.specs.Receiver.{Form, Nothing, OfPayload, OfString, count, status, fault}
 use Rattle.icy_sixel.specs.Receiver.{growths, is_over, end_fault, end_wants, has_ended}
@@ -124,26 +118,7 @@ count_fits form bytes = grind (arith, nat_tests, count-fits, dcs_count-fits)
 
 -- ---- which bytes belong to an image
 
-pub payload_counted : (old new : Reception) (settings : Settings) (chunk : List ℕ)
-    (fed : SixelFeedResult) → old.form ≡ OfPayload settings → new.form ≡ old.form
-    → new.bytes ≡ old.bytes ++ chunk → Passes old.bytes (old.bytes ++ chunk) fed
-    → fed.consumed ≤ length chunk
-    → IsCounted old new chunk (record { consumed = fed.consumed; status = Payload fed.status })
-payload_counted old new settings chunk fed form same bytes passes within = grind (arith, nat_tests)
-
--- a feed that succeeds consumes them, too
-pub payload_fed_counted : (old new : Reception) (settings : Settings) (chunk : List ℕ)
-    (fed : Received) → old.form ≡ OfPayload settings → IsFed old new chunk (Ok fed)
-    → IsCounted old new chunk fed
-payload_fed_counted old new settings chunk fed form is = grind (arith, nat_tests)
-
-pub string_counted : (old new : Reception) (end : SequenceEnd) (chunk : List ℕ)
-    (fed : SixelDcsFeedResult) → old.form ≡ OfString → new.form ≡ old.form
-    → new.bytes ≡ old.bytes ++ chunk → Extends end old.bytes chunk fed
-    → IsCounted old new chunk (record { consumed = fed.consumed; status = Dcs fed.status })
-string_counted old new end chunk fed form same bytes is = grind (arith, nat_tests)
-
-pub string_fed_counted : (old new : Reception) (chunk : List ℕ) (fed : Received)
-    → old.form ≡ OfString → IsFed old new chunk (Ok fed) → IsCounted old new chunk fed
-string_fed_counted old new chunk fed form is =
-    grind (arith, nat_tests, form, is, accepted_same)
+-- a feed that succeeds consumes them
+pub fed_counted : (old new : Reception) (chunk : List ℕ) (fed : Received)
+    → IsFed old new chunk (Ok fed) → IsCounted old new chunk fed
+fed_counted old new chunk fed is = grind (arith, nat_tests, is, accepted_same)

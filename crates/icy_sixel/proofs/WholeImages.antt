@@ -12,12 +12,12 @@ use Rattle.sixel_base.specs.History.{History}
 use Rattle.sixel_base.specs.Limits.{Limit, side_limit}
 use Rattle.sixel_base.specs.Payload.{extent_fault, first_fault}
 use Rattle.sixel_base.specs.Place.{across, down, height, span, width}
-use Rattle.sixel_base.specs.Reach.{reached_area, row_reach}
+use Rattle.sixel_base.specs.PaintedArea.{painted_area, row_extent}
 use Rattle.sixel_base.specs.declared.state.DecoderState.{DecoderState}
 use Rattle.sixel_canvas.proofs.Totals.{total-same}
 use Rattle.sixel_decoder.proofs.RowExtents.{both_none, sides-fit}
 use Rattle.icy_sixel.specs.ClippedImages.{HasNoClip, whole_extent_fault}
-use Rattle.icy_sixel.specs.ClippedImages.{whole_first_fault, whole_reached_area, whole_row_reach}
+use Rattle.icy_sixel.specs.ClippedImages.{whole_first_fault, whole_painted_area, whole_row_extent}
 
 -- ---- the size
 
@@ -81,7 +81,7 @@ span_some (token ∷ h) = grind (arith, nat_tests, span_some h)
 
 reach_whole : (limit : Limit) (h : History) (row : ℕ) → side_limit ≤ limit.columns
     → side_limit ≤ limit.rows → first_fault limit h ≡ None
-    → row_reach limit h row ≡ whole_row_reach h row
+    → row_extent limit h row ≡ whole_row_extent h row
 reach_whole limit [] row columns rows none = refl
 reach_whole limit (token ∷ h) row columns rows none =
     let fit = sides-fit limit (token ∷ h) none in
@@ -89,5 +89,5 @@ reach_whole limit (token ∷ h) row columns rows none =
 
 pub area_whole : (decoder : DecoderState) (h : History) → HasNoClip decoder
     → first_fault decoder.pixel_limit h ≡ None
-    → reached_area decoder.pixel_limit h ≡ whole_reached_area h
+    → painted_area decoder.pixel_limit h ≡ whole_painted_area h
 area_whole decoder h none faultless = grind (arith, nat_tests, total-same, reach_whole)

@@ -70,17 +70,17 @@ whole_first_fault most (token ∷ older) =
     option_or (whole_first_fault most older) (whole_fault_of most token older)
 
 -- the greatest right edge of a sixel that covers a pixel of the row in the whole picture
-abbrev pub whole_row_reach : History → ℕ → ℕ
-whole_row_reach [] row = 0
-whole_row_reach (Sixel bits ∷ older) row =
+abbrev pub whole_row_extent : History → ℕ → ℕ
+whole_row_extent [] row = 0
+whole_row_extent (Sixel bits ∷ older) row =
     if is_struck (down older) bits row
-    then max (whole_row_reach older row) (across older + span older)
-    else whole_row_reach older row
-whole_row_reach (_ ∷ older) row = whole_row_reach older row
+    then max (whole_row_extent older row) (across older + span older)
+    else whole_row_extent older row
+whole_row_extent (_ ∷ older) row = whole_row_extent older row
 
 -- the sum over all rows: the painted area of the whole picture
-abbrev pub whole_reached_area : History → ℕ
-whole_reached_area history = total (whole_row_reach history) (height history)
+abbrev pub whole_painted_area : History → ℕ
+whole_painted_area history = total (whole_row_extent history) (height history)
 
 -- the decoder clips no image, as a new one
 pub record HasNoClip (decoder : DecoderState) : Type 0 where

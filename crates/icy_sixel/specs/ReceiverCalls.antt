@@ -1,7 +1,6 @@
 -- What the calls of a receiver do, by the receiver before and after. Each field is one fact. The
 -- facts are those of a payload session or a DCS session, in the words that Receiver has for both.
-use Rattle.std.specs.Prelude.{ℕ, ◌≡◌, ◌+◌, ◌≤◌, List, length, Result, Ok, Err, OnErr}
-use Rattle.std.specs.Prelude.{MatchResult}
+use Rattle.std.specs.Prelude.{ℕ, ◌≡◌, List, Result, Ok, Err, OnErr, MatchResult}
 use Rattle.std.specs.Result.{result_map_both}
 use Rattle.sixel_base.specs.declared.error.SixelError.{SixelError}
 use Rattle.sixel_base.specs.Decoder.{IsSetAs}
@@ -10,6 +9,7 @@ pub use Rattle.sixel_decoder.specs.Progress.{IsBandPaintCount, IsBandWriteCount}
 pub use Rattle.sixel_decoder.specs.Progress.{IsDrawnHeight, IsSizeSoFar}
 use Rattle.sixel_decoder.specs.FedImages as fed_images
 use Rattle.sixel_decoder.specs.FinishedImages as images
+use Rattle.sixel_decoder.specs.ImageEnds.{Extends}
 use Rattle.sixel_decoder.specs.declared.received.Received.{Received}
 use Rattle.icy_sixel.specs.FinalRows.{pixel_so_far}
 use Rattle.icy_sixel.specs.ReceivedImages.{whole_value}
@@ -26,12 +26,8 @@ pub record IsBegun (old new : Receiver) (form : Form) : Type 0 where
   pub image : new.image ≡ receivers.begun form old.decoder
 
 -- The bytes consumed are those of the chunk that belong to the image, whatever faults it has.
-pub record IsCounted (old new : Reception) (chunk : List ℕ) (fed : Received) : Type 0 where
-  pub count : receivers.own_count old.form old.bytes + fed.consumed
-      ≡ receivers.own_count new.form new.bytes
-  pub within : fed.consumed ≤ length chunk
-  -- the status says so, too
-  pub status : fed.status ≡ receivers.own_status new.form new.bytes
+abbrev pub IsCounted : Reception → Reception → List ℕ → Received → Type 0
+IsCounted old new chunk fed = Extends old.form old.bytes new.bytes chunk fed
 
 -- what a feed did, whether it failed or not
 abbrev pub received : Result Received FailedFeed → Received

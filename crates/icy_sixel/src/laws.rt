@@ -7,11 +7,11 @@ ghost use Rattle.sixel_base.specs.History.{History};
 ghost use Rattle.sixel_base.specs.OneShot.{Found, AreFoundRegisters, IsFoundImage, found_fault};
 ghost use Rattle.sixel_base.specs.Payload.{Image, first_fault};
 ghost use Rattle.sixel_base.specs.Place.{height, width};
-ghost use Rattle.sixel_base.specs.Reach.{reached_area};
+ghost use Rattle.sixel_base.specs.PaintedArea.{painted_area};
 ghost use Rattle.sixel_base.specs.declared.state.DecoderState.{DecoderState};
 ghost use Rattle.icy_sixel.specs.ClippedImages.{HasNoClip, IsInsideClip, IsPartInside};
 ghost use Rattle.icy_sixel.specs.ClippedImages.{IsWholeImage, whole_first_fault, whole_pixel};
-ghost use Rattle.icy_sixel.specs.ClippedImages.{whole_reached_area};
+ghost use Rattle.icy_sixel.specs.ClippedImages.{whole_painted_area};
 ghost use Rattle.icy_sixel.specs.TransparentImages.{IsCleared, drawn_pixel_of};
 
 /// States that a transparent background changes only pixels that no sixel covers.
@@ -60,7 +60,7 @@ pub fn clipped_images()
         × (clipped_height decoder.pixel_limit tokens ≡ height tokens) }
     ensures whole_area { (decoder : DecoderState) (tokens : History) → HasNoClip decoder
         → first_fault decoder.pixel_limit tokens ≡ None
-        → reached_area decoder.pixel_limit tokens ≡ whole_reached_area tokens }
+        → painted_area decoder.pixel_limit tokens ≡ whole_painted_area tokens }
     ensures part { (decoder : DecoderState) (columns rows : ℕ) (payload : Found)
         (image part : Image) → decoder.pixel_limit.lenient ≡ false
         → IsInsideClip decoder columns rows

@@ -2,11 +2,10 @@
 //!
 //! The contracts of its calls are the records of `ReceiverCalls`.
 
-ghost use Rattle.std.specs.Prelude.{◌≡◌, ◌*◌, ◌<◌, ◌∷◌, List, ℕ, [], true, false, length, min};
+ghost use Rattle.std.specs.Prelude.{◌≡◌, ◌*◌, ◌<◌, ◌∷◌, [], true, false, length, min};
 ghost use Rattle.std.specs.Prelude.{IfOk, IfSome, None, Ok, Some};
 ghost use Rattle.sixel_base.specs.CallFault.{FailsBy, RowsReleased};
 ghost use Rattle.sixel_base.specs.Decoder.{new_decoder};
-ghost use Rattle.sixel_decoder.specs.ImageEnds.{Extends, IsEnd};
 ghost use Rattle.sixel_decoder.specs.Report.{found_report};
 ghost use Rattle.icy_sixel.specs.ImageView.{image_value};
 ghost use Rattle.icy_sixel.specs.ReceivedImages.{received_report};
@@ -20,9 +19,7 @@ mod received_image;
 mod rows;
 mod settings;
 
-use crate::decoder::{
-    DcsSettings, SixelDcsFeedResult, SixelDcsFeedStatus, SixelDecoder, SixelFeedStatus,
-};
+use crate::decoder::{DcsSettings, SixelDcsFeedStatus, SixelDecoder, SixelFeedStatus};
 use crate::script::Status;
 use crate::sixel_image::SixelImage;
 use failure::{Failure, first_error, stored_error};
@@ -31,7 +28,7 @@ pub use rows::{BandStatus, ReceivedBand, band_len, stable_rows};
 use sixel_base::{Result, SixelError};
 use sixel_canvas::band_canvas::BandCanvas;
 pub use sixel_decoder::Received;
-use sixel_decoder::{DcsReader, PayloadReader, SequenceEnd, payload_end};
+use sixel_decoder::{DcsReader, PayloadReader};
 use std::alloc::Global;
 use std::marker::Model;
 use std::{mem, result};
@@ -181,39 +178,35 @@ impl SixelReceiver {
                 let mut error = SixelError::stream_failed();
                 stored_error(&mut self.failure, true, &mut error);
                 Err(FailedFeed {
-                    error,
                     consumed: 0,
                     status: Status::Payload(SixelFeedStatus::NeedMoreData),
+                    error,
                 })
             }
             Open::Payload(reader) => {
-                let terminator = reader.terminator();
                 let has_failed = reader.has_failed();
                 match reader.feed(piece) {
                     Ok(fed) => Ok(Received::of_payload(fed)),
-                    Err(mut error) => {
-                        let fed = payload_end(terminator, piece);
-                        stored_error(&mut self.failure, has_failed, &mut error);
+                    Err(mut failed) => {
+                        stored_error(&mut self.failure, has_failed, &mut failed.error);
                         Err(FailedFeed {
-                            error,
-                            consumed: fed.consumed,
-                            status: Status::Payload(fed.status),
+                            consumed: failed.fed.consumed,
+                            status: failed.fed.status,
+                            error: failed.error,
                         })
                     }
                 }
             }
             Open::ControlString(reader) => {
-                let end = reader.end();
                 let has_failed = reader.has_failed();
                 match reader.feed(piece) {
                     Ok(fed) => Ok(Received::of_sequence(fed)),
-                    Err(mut error) => {
-                        let fed = string_end(end, piece);
-                        stored_error(&mut self.failure, has_failed, &mut error);
+                    Err(mut failed) => {
+                        stored_error(&mut self.failure, has_failed, &mut failed.error);
                         Err(FailedFeed {
-                            error,
-                            consumed: fed.consumed,
-                            status: Status::Dcs(fed.status),
+                            consumed: failed.fed.consumed,
+                            status: failed.fed.status,
+                            error: failed.error,
                         })
                     }
                 }
@@ -319,19 +312,6 @@ impl SixelReceiver {
         self.open = image;
         self.failure = None;
     }
-}
-
-/// Returns how many bytes of a chunk belong to a DCS sequence that goes on from this end.
-///
-/// Out of line: inlined, the end is in memory on every feed.
-#[cold]
-#[inline(never)]
-fn string_end(end: SequenceEnd, piece: &[u8]) -> SixelDcsFeedResult
-    ensures { (bytes : List ℕ) → IsEnd end bytes
-        → (now : SequenceEnd) × Extends now bytes piece.now result }
-{
-    let mut now = end;
-    now.add(piece)
 }
 
 impl Default for SixelReceiver {

@@ -5,7 +5,7 @@ use Rattle.sixel_base.specs.History.{History}
 use Rattle.sixel_base.specs.Limits.{Limit}
 use Rattle.sixel_base.specs.Clip.{clipped_height, clipped_width}
 use Rattle.sixel_base.specs.Payload.{first_fault}
-use Rattle.sixel_base.specs.Reach.{size}
+use Rattle.sixel_base.specs.PaintedArea.{size}
 use Rattle.sixel_canvas.specs.inside.BandCanvas.{AreMoved, BandCanvasState, IsPaid}
 use Rattle.sixel_canvas.specs.inside.Drawn.{drawn_columns, lowest_top, right_edge, runs_paint}
 use Rattle.sixel_canvas.specs.inside.Drawn.{band_edge as runs_edge}
@@ -42,11 +42,11 @@ runs_paint-history limit (token ∷ h) is =
     grind (arith, nat_tests, runs_paint-history limit h, span-fits limit h)
 
 -- What these tokens have painted on a canvas of one band, and its capacity.
-pub band_cost : (limit : Limit) (cap painted reach tagged top : ℕ) (h : History)
-    → first_fault limit h ≡ None → IsPaid cap painted reach tagged top (runs_of limit h)
+pub band_cost : (limit : Limit) (cap painted extent tagged top : ℕ) (h : History)
+    → first_fault limit h ≡ None → IsPaid cap painted extent tagged top (runs_of limit h)
     → (painted ≤ 2 * band_columns limit h + most_run_paints * sixels h)
     × (6 * cap ≤ band_room limit h)
-band_cost limit cap painted reach tagged top h faultless paid =
+band_cost limit cap painted extent tagged top h faultless paid =
     grind (arith, nat_tests, band_columns-history, runs_paint-history, right_edge-history)
 
 -- the width after raster attributes

@@ -1,14 +1,12 @@
 -- Which bytes belong to an image as more bytes come, and that they are those of its contract where
 -- it has no fault.
-use Rattle.std.proofs.Common.{◌≡◌, ℕ, ◌+◌, ◌≤◌, Bool, true, false, List, [], ◌∷◌}
+use Rattle.std.proofs.Common.{◌≡◌, ℕ, ◌+◌, ◌≤◌, true, false, List, [], ◌∷◌}
 use Rattle.std.proofs.Common.{◌++◌, refl, ap, sym, ◌∙◌, arith, Some, None, length, drop}
 use Rattle.std.proofs.Common.{length-append, length-drop}
 use Rattle.std.specs.Prelude.{nat_lt, Option}
 use Rattle.std.proofs.lemmas.Bool.Decides.{nat_tests}
 use Rattle.sixel_base.specs.declared.error.SixelError.{SixelError}
 use Rattle.sixel_base.specs.declared.state.DecoderState.{DecoderState}
-use Rattle.sixel_base.specs.declared.status.SixelFeedResult.{SixelFeedResult}
-use Rattle.sixel_base.specs.declared.status.SixelFeedStatus.TheVariants.{Terminated}
 use Rattle.sixel_base.specs.declared.status.SixelDcsFeedResult.{SixelDcsFeedResult}
 use Rattle.sixel_base.specs.declared.status.SixelDcsFeedStatus.{SixelDcsFeedStatus}
 use Rattle.sixel_base.specs.declared.status.SixelDcsFeedStatus.TheVariants.{NeedMoreData}
@@ -22,31 +20,18 @@ use Rattle.sixel_base.specs.Dcs.{dcs_fault, dcs_growths, escape_count, escape_st
 use Rattle.sixel_base.specs.Fault.{Faults}
 use Rattle.sixel_base.specs.Header.{headed_by, header_rest}
 use Rattle.sixel_base.specs.Limits.{Limit}
-use Rattle.sixel_base.specs.Status.{status_of}
-use Rattle.sixel_decoder.specs.ImageEnds.{Extends, IsEnd, Passes, inside, sequence_count}
-use Rattle.sixel_decoder.specs.ImageEnds.{sequence_status}
+use Rattle.sixel_decoder.specs.ImageEnds.{Extends, IsEnd, inside, sequence_count, sequence_status}
+use Rattle.sixel_decoder.specs.Reception.{OfString}
 use Rattle.sixel_decoder.specs.declared.dcs_parser.DcsState.{DcsState}
 use Rattle.sixel_decoder.specs.declared.dcs_parser.DcsState.TheVariants as states
-use Rattle.sixel_decoder.specs.declared.image_end.SequenceEnd.{SequenceEnd}
-use Rattle.sixel_decoder.specs.inside.DcsParser.{GoesTo, HasFollowed, is_failed, is_head}
+use Rattle.sixel_decoder.specs.declared.received.Status.TheVariants.{Dcs}
+use Rattle.sixel_decoder.specs.inside.DcsParser.{GoesTo, HasFollowed, is_begun, is_failed, is_head}
 use Rattle.sixel_decoder.proofs.Chunks.{count-append, first_terminator-append}
 use Rattle.sixel_decoder.proofs.Chunks.{first_terminator-ended}
 use Rattle.sixel_decoder.proofs.DcsChunks.{heading, reading_fits}
 use Rattle.sixel_decoder.proofs.DcsEnds.{ended_at, goes_later, none_by, some_by}
 use Rattle.sixel_decoder.proofs.Finality.{count_ended}
 use Rattle.sixel_decoder.proofs.Sessions.{dcs_count-most}
-
--- ---- a payload
-
-pub passes_ended : (bytes chunk : List ℕ) (t : ℕ) → first_terminator bytes ≡ Some t
-    → Passes bytes (bytes ++ chunk) (record { consumed = 0; status = Terminated t })
-passes_ended bytes chunk t some = grind (arith, nat_tests, count_ended, first_terminator-ended)
-
-pub passes_open : (bytes chunk : List ℕ) (fed : SixelFeedResult) → first_terminator bytes ≡ None
-    → fed.consumed ≡ count chunk → fed.status ≡ status_of (first_terminator chunk)
-    → Passes bytes (bytes ++ chunk) fed
-passes_open bytes chunk fed none counted stands =
-    grind (arith, nat_tests, count-append, first_terminator-append)
 
 -- ---- a DCS sequence goes on
 
@@ -91,14 +76,16 @@ inside-append : (bytes chunk : List ℕ) (start : ℕ) → (nat_lt 0 (length byt
 inside-append bytes chunk start later first = grind (arith, nat_tests)
 
 -- the bytes after the first one of the introducer go on
-pub extends : (now : SequenceEnd) (bytes chunk : List ℕ) (start : ℕ) (fed : SixelDcsFeedResult)
+pub extends : (bytes chunk : List ℕ) (start : ℕ) (fed : SixelDcsFeedResult)
+    (ended : Option SixelDcsFeedStatus)
     → start ≤ length chunk → (nat_lt 0 (length bytes) ≡ true → start ≡ 0)
     → (nat_lt 0 (length bytes) ≡ false → inside chunk ≡ drop start chunk)
     → GoesTo (inside bytes) (inside bytes ++ drop start chunk) fed
-    → now.ended ≡ ended_with (inside bytes ++ drop start chunk)
-    → now.is_begun ≡ nat_lt 0 (length (bytes ++ chunk))
-    → Extends now bytes chunk (record { consumed = start + fed.consumed; status = fed.status })
-extends now bytes chunk start fed within later first goes ended begun =
+    → ended ≡ ended_with (inside bytes ++ drop start chunk)
+    → (ended ≡ ended_with (inside (bytes ++ chunk)))
+    × Extends OfString bytes (bytes ++ chunk) chunk
+    (record { consumed = start + fed.consumed; status = Dcs fed.status })
+extends bytes chunk start fed ended within later first goes is =
     grind (
       arith,
       nat_tests,
@@ -170,14 +157,6 @@ accepted_same limit bytes sound =
 
 -- ---- what a parser stores
 
-abbrev pub is_begun : {C : Type 0} → DcsState C → Bool
-is_begun states.Start = false
-is_begun state = true
-
-pub begun_other : {C : Type 0} (state : DcsState C) → (state ≡ states.Start → ⊥)
-    → true ≡ is_begun state
-begun_other state other = grind (arith, nat_tests)
-
 heads_end : {C : Type 0} (state : DcsState C) (decoder : DecoderState)
     (ended : Option SixelDcsFeedStatus) (bytes : List ℕ) → is_head state ≡ true
     → HasFollowed state decoder ended bytes → ended ≡ ended_with (inside bytes)
@@ -190,7 +169,7 @@ heads_end state decoder ended bytes head is =
 
 pub end_of : {C : Type 0} (state : DcsState C) (decoder : DecoderState)
     (ended : Option SixelDcsFeedStatus) (bytes : List ℕ) → HasFollowed state decoder ended bytes
-    → IsEnd (record { is_begun = is_begun state; ended = ended }) bytes
+    → IsEnd (is_begun state) ended bytes
 end_of {C} states.Start decoder ended bytes is = record {
   begun = ap (λ w. nat_lt 0 (length w)) (sym is.0);
   ended = heads_end {C = C} states.Start decoder ended bytes refl is;

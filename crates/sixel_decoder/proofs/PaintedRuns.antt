@@ -17,7 +17,7 @@ use Rattle.sixel_decoder.specs.declared.painter.Painter.{Painter}
 use Rattle.sixel_decoder.specs.inside.Painter.{Shows}
 use Rattle.sixel_decoder.specs.inside.DrawnRows.{drawn_rows}
 use Rattle.sixel_decoder.specs.inside.Runs.{most_rows, named_width, runs_of}
-use Rattle.sixel_canvas.specs.inside.Drawn.{Run, run, covers_block, with_sixels as with_runs}
+use Rattle.sixel_canvas.specs.inside.Drawn.{Run, run, covers_eight, with_sixels as with_runs}
 use Rattle.sixel_decoder.proofs.DrawnHeights.{drawn_height-sixels, most_rows-first}
 use Rattle.sixel_decoder.proofs.Clips.{fails_third}
 use Rattle.sixel_decoder.proofs.SixelRuns.{with_sixels, IsInside, IsInside-sixel, IsPassed-sixels}
@@ -54,7 +54,7 @@ bits_at sixels eight j first blank = grind (arith, nat_tests, get_or-take, get_o
 -- eight sixels of which only the first ones are not blank
 covers_first : (from top column row : ℕ) (sixels eight : List ℕ) → length sixels ≤ 8
     → take (length sixels) eight ≡ sixels → ((k : ℕ) → length sixels ≤ k → get_or eight k 0 ≡ 0)
-    → covers_block from eight top column row ≡ covers_all from sixels top column row
+    → covers_eight from eight top column row ≡ covers_all from sixels top column row
 covers_first from top column row sixels eight few first blank =
     grind (arith, nat_tests, bits_at, get_or_past, blank_set, fails_third)
 
@@ -123,15 +123,15 @@ Shows-sixels o h old new sixels shows inside drawn paid' top' lower' registers' 
     let lowest = drawn_height-sixels o.pixel_limit h sixels inside in
     grind (arith, nat_tests, named_width-sixels)
 
--- the painter once a block of sixels was drawn, of which the first ones are these
-pub Shows-block : {C : Type 0} {canvas : Ghosts C} (o : Origin) (h after : History)
+-- the painter once eight sixels were drawn, of which the first ones are these
+pub Shows-eight : {C : Type 0} {canvas : Ghosts C} (o : Origin) (h after : History)
     (old new : Painter C canvas) (sixels eight : List ℕ) → after ≡ with_sixels h sixels
     → Shows o old h → old.repeat ≡ 1 → old.column + length sixels ≤ old.clipped_width
     → canvas.top old.canvas + 6 ≤ old.clipped_height → length sixels ≤ 8
     → take (length sixels) eight ≡ sixels → ((k : ℕ) → length sixels ≤ k → get_or eight k 0 ≡ 0)
     →
     ((column row : ℕ) → canvas.shown new.canvas column row ≡
-    (if covers_block old.column eight (canvas.top old.canvas) column row then old.color else
+    (if covers_eight old.column eight (canvas.top old.canvas) column row then old.color else
     canvas.shown old.canvas column row))
     → ((named : ℕ) (runs : List Run) → canvas.paid old.canvas named runs → canvas.paid new.canvas
     named (with_runs old.column sixels (canvas.top old.canvas) runs))
@@ -143,7 +143,7 @@ pub Shows-block : {C : Type 0} {canvas : Ghosts C} (o : Origin) (h after : Histo
     → new.height ≡ old.height → new.raster ≡ old.raster → new.ratio ≡ old.ratio
     → new.settings ≡ old.settings → new.raster_crop ≡ old.raster_crop
     → new.pixel_limit ≡ old.pixel_limit → Shows o new after
-Shows-block {C} {canvas} o h after old new sixels eight whole shows single right lower few first
+Shows-eight {C} {canvas} o h after old new sixels eight whole shows single right lower few first
     blank drawn paid' top' lower' registers' color' repeat' column' width' height' raster' ratio'
     settings' crop' limit' =
     let inside = inside_from o old h (length sixels) shows single right lower in

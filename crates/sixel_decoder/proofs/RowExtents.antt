@@ -13,19 +13,19 @@ use Rattle.sixel_base.specs.Payload.{cropped_height, extent_fault, first_fault, 
 use Rattle.sixel_base.specs.Payload.{payload_area}
 use Rattle.sixel_base.specs.Picture.{total}
 use Rattle.sixel_base.specs.Place.{height, raster_height, width}
-use Rattle.sixel_base.specs.Reach.{payload_reached_area, row_reach, reached_area}
+use Rattle.sixel_base.specs.PaintedArea.{payload_painted_area, row_extent, painted_area}
 use Rattle.sixel_base.proofs.ToleratedTokens.{effective-same}
 
 -- no sixel covers a row from the height on
-pub row_reach-past : (limit : Limit) (h : History) (row : ℕ) → height h ≤ row
-    → row_reach limit h row ≡ 0
-row_reach-past limit [] row past = refl
-row_reach-past limit (token ∷ h) row past = grind (arith, nat_tests, row_reach-past limit h row)
+pub row_extent-past : (limit : Limit) (h : History) (row : ℕ) → height h ≤ row
+    → row_extent limit h row ≡ 0
+row_extent-past limit [] row past = refl
+row_extent-past limit (token ∷ h) row past = grind (arith, nat_tests, row_extent-past limit h row)
 
 -- no row is reached beyond the width
-row_reach-most : (limit : Limit) (h : History) (row : ℕ) → row_reach limit h row ≤ width h
-row_reach-most limit [] row = omega arith
-row_reach-most limit (token ∷ h) row = grind (arith, nat_tests, row_reach-most limit h row)
+row_extent-most : (limit : Limit) (h : History) (row : ℕ) → row_extent limit h row ≤ width h
+row_extent-most limit [] row = omega arith
+row_extent-most limit (token ∷ h) row = grind (arith, nat_tests, row_extent-most limit h row)
 
 -- numbers up to a bound
 total-most : (f : ℕ → ℕ) (bound n : ℕ) → ((k : ℕ) → f k ≤ bound) → total f n ≤ bound * n
@@ -34,8 +34,8 @@ total-most f bound zero most = omega arith
 total-most f bound (suc n) most = rw mul-suc (omega (arith, total-most f bound n most, most n))
 
 -- the reached area is at most the picture's
-reached_area-most : (limit : Limit) (h : History) → reached_area limit h ≤ width h * height h
-reached_area-most limit h = grind (arith, nat_tests, total-most, row_reach-most)
+painted_area-most : (limit : Limit) (h : History) → painted_area limit h ≤ width h * height h
+painted_area-most limit h = grind (arith, nat_tests, total-most, row_extent-most)
 
 -- ---- the size of a picture
 
@@ -65,15 +65,15 @@ cropped_height-most crop h = grind (arith, nat_tests, nat_lt, raster_height-most
 
 -- raster attributes make a picture no smaller
 raster-area : (limit : Limit) (text : List ℕ) (h : History)
-    → reached_area limit h ≤ width (Raster text ∷ h) * height (Raster text ∷ h)
-raster-area limit text h = grind (arith, nat_tests, reached_area-most, mul-le)
+    → painted_area limit h ≤ width (Raster text ∷ h) * height (Raster text ∷ h)
+raster-area limit text h = grind (arith, nat_tests, painted_area-most, mul-le)
 
 -- the effective closed tokens reach no more than the picture of all effective tokens has
-closed-area : (limit : Limit) (h : History) → reached_area limit (effective limit (closed h))
+closed-area : (limit : Limit) (h : History) → painted_area limit (effective limit (closed h))
     ≤ width (effective limit h) * height (effective limit h)
-closed-area limit h = grind (arith, nat_tests, reached_area-most, effective-same, raster-area)
+closed-area limit h = grind (arith, nat_tests, painted_area-most, effective-same, raster-area)
 
 -- those of a payload reach no more than its picture has
 pub settled-area : (limit : Limit) (bytes : List ℕ)
-    → payload_reached_area limit bytes ≤ payload_area limit bytes
-settled-area limit bytes = grind (arith, nat_tests, reached_area-most, closed-area)
+    → payload_painted_area limit bytes ≤ payload_area limit bytes
+settled-area limit bytes = grind (arith, nat_tests, painted_area-most, closed-area)

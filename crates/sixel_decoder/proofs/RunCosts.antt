@@ -5,7 +5,7 @@ use Rattle.sixel_base.specs.History.{History}
 use Rattle.sixel_base.specs.Limits.{Limit, repeat_limit}
 use Rattle.sixel_base.specs.Payload.{first_fault}
 use Rattle.sixel_base.specs.Place.{height, span}
-use Rattle.sixel_base.specs.Reach.{row_reach, reached_area}
+use Rattle.sixel_base.specs.PaintedArea.{row_extent, painted_area}
 use Rattle.sixel_canvas.specs.inside.Drawn.{Work}
 use Rattle.sixel_canvas.specs.inside.RowCanvas.{RowCanvasState, HasCost, IsDrawnBy, row_edge}
 use Rattle.sixel_canvas.specs.inside.RowCanvas.{row_canvas_work, runs_least, runs_most}
@@ -13,11 +13,11 @@ use Rattle.sixel_canvas.proofs.RowCosts.{drawn_cost}
 use Rattle.sixel_canvas.proofs.Totals.{total-same}
 use Rattle.sixel_decoder.specs.Paints.{sixels, least_paints, least_count, most_sixel_paints}
 use Rattle.sixel_decoder.specs.inside.Runs.{runs_of}
-use Rattle.sixel_decoder.proofs.RowExtents.{row_reach-past}
+use Rattle.sixel_decoder.proofs.RowExtents.{row_extent-past}
 
 -- the right edge of a row
 row_edge-history : (limit : Limit) (h : History) (row : ℕ)
-    → row_edge (runs_of limit h) row ≡ row_reach limit h row
+    → row_edge (runs_of limit h) row ≡ row_extent limit h row
 row_edge-history limit [] row = refl
 row_edge-history limit (token ∷ h) row = grind (arith, nat_tests, row_edge-history limit h row)
 
@@ -41,11 +41,11 @@ runs_most-history limit (token ∷ h) is =
 
 -- What these tokens have cost a canvas of rows.
 pub record CostsAs (work : Work) (limit : Limit) (h : History) : Type 0 where
-  pub at_least : reached_area limit h ≤ work.writes
-  pub at_most : work.writes ≤ 3 * reached_area limit h
-  pub room : work.room ≤ 2 * reached_area limit h
+  pub at_least : painted_area limit h ≤ work.writes
+  pub at_most : work.writes ≤ 3 * painted_area limit h
+  pub room : work.room ≤ 2 * painted_area limit h
   pub least : least_count limit h ≤ work.paints
-  pub most : work.paints ≤ 3 * reached_area limit h + most_sixel_paints * sixels h
+  pub most : work.paints ≤ 3 * painted_area limit h + most_sixel_paints * sixels h
 
 -- It follows from the runs that were drawn on it.
 pub history_cost : (limit : Limit) (canvas : RowCanvasState) (h : History)
@@ -54,9 +54,9 @@ pub history_cost : (limit : Limit) (canvas : RowCanvasState) (h : History)
 history_cost limit canvas h faultless drawn =
     let cost : HasCost (row_canvas_work canvas) (runs_of limit h) (height h) =
     drawn_cost canvas (runs_of limit h) (height h) drawn
-    (λ row past. row_edge-history limit h row ∙ row_reach-past limit h row past) in
+    (λ row past. row_edge-history limit h row ∙ row_extent-past limit h row past) in
     let area =
-    total-same (row_edge (runs_of limit h)) (row_reach limit h) (height h)
+    total-same (row_edge (runs_of limit h)) (row_extent limit h) (height h)
     (row_edge-history limit h) in
     record {
       at_least = omega (arith, area, cost.at_least);

@@ -2,6 +2,7 @@
 -- the bytes mean is in Payload and Dcs of sixel_base, which do not mention chunks.
 use Rattle.std.specs.Prelude.{ℕ, ◌≡◌, ◌+◌, ◌≤◌, ◌++◌, List, length, Bool, true, false, nat_lt}
 use Rattle.std.specs.Prelude.{Option, None, Result, Ok, Err, OnOk, OnErr, IfOk, IfErr, MatchBool}
+use Rattle.std.specs.Result.{result_map_both}
 use Rattle.sixel_base.specs.declared.error.SixelError.{SixelError}
 use Rattle.sixel_base.specs.declared.status.SixelFeedResult.{SixelFeedResult}
 use Rattle.sixel_base.specs.declared.status.SixelFeedStatus.TheVariants.{NeedMoreData, Terminated}
@@ -18,6 +19,7 @@ use Rattle.sixel_base.specs.Settings.{Settings}
 use Rattle.sixel_base.specs.Status.{status_of}
 use Rattle.sixel_decoder.specs.FinishedImages.{IsAgain}
 use Rattle.sixel_decoder.specs.Reception.{Form, Nothing, OfPayload, OfString, Reception}
+use Rattle.sixel_decoder.specs.declared.received.FailedRead.{FailedRead}
 use Rattle.sixel_decoder.specs.declared.received.Received.{Received}
 use Rattle.sixel_decoder.specs.declared.received.Status.{Status}
 use Rattle.sixel_decoder.specs.declared.received.Status.TheVariants as statuses
@@ -68,6 +70,10 @@ of_payload_fed fed = record { consumed = fed.consumed; status = statuses.Payload
 
 abbrev pub of_sequence_fed : SixelDcsFeedResult → Received
 of_sequence_fed fed = record { consumed = fed.consumed; status = statuses.Dcs fed.status }
+
+-- the result of a feed of a session, whose error counts no byte
+abbrev pub uncounted : {A : Type 0} → Result A FailedRead → Result A SixelError
+uncounted result = result_map_both (λ fed. fed) (λ failed. failed.error) result
 
 -- The image reads the chunk as far as it goes, or is rejected.
 pub record IsFed (old new : Reception) (chunk : List ℕ)

@@ -3,14 +3,16 @@
 -- apart from the first one. So a DCS sequence has its first byte, and those that a payload of the
 -- bytes after it has, with its end. From DEC's device control strings.
 use Rattle.std.specs.Prelude.{ℕ, ◌≡◌, ◌+◌, ◌-◌, ◌≤◌, ◌==◌, ◌||◌, nat_lt, if◌then◌else◌}
-use Rattle.std.specs.Prelude.{List, [], ◌∷◌, ◌++◌, length}
+use Rattle.std.specs.Prelude.{Bool, List, [], ◌∷◌, length, Option}
 use Rattle.sixel_base.specs.Bytes.{count, first_terminator}
 use Rattle.sixel_base.specs.Dcs.{payload_count, payload_status, ended_with}
 use Rattle.sixel_base.specs.Status.{status_of}
-use Rattle.sixel_base.specs.declared.status.SixelFeedResult.{SixelFeedResult}
-use Rattle.sixel_base.specs.declared.status.SixelDcsFeedResult.{SixelDcsFeedResult}
+use Rattle.sixel_base.specs.declared.status.SixelFeedStatus.TheVariants.{NeedMoreData}
 use Rattle.sixel_base.specs.declared.status.SixelDcsFeedStatus.{SixelDcsFeedStatus}
-use Rattle.sixel_decoder.specs.declared.image_end.SequenceEnd.{SequenceEnd}
+use Rattle.sixel_decoder.specs.Reception.{Form, Nothing, OfPayload, OfString}
+use Rattle.sixel_decoder.specs.declared.received.Received.{Received}
+use Rattle.sixel_decoder.specs.declared.received.Status.{Status}
+use Rattle.sixel_decoder.specs.declared.received.Status.TheVariants as statuses
 
 -- the bytes after the first one of an introducer, DCS or ESC; all bytes if there is none
 abbrev pub inside : List ℕ → List ℕ
@@ -25,21 +27,27 @@ sequence_count bytes = (length bytes - length (inside bytes)) + payload_count (i
 abbrev pub sequence_status : List ℕ → SixelDcsFeedStatus
 sequence_status bytes = payload_status (inside bytes)
 
--- a payload continues to these bytes: `fed.consumed` more are its own, and it has this status
-abbrev pub Passes : List ℕ → List ℕ → SixelFeedResult → Type 0
-Passes bytes now fed =
-    (count bytes + fed.consumed ≡ count now) × (fed.status ≡ status_of (first_terminator now))
-
 -- what is stored of a DCS sequence of these bytes
-pub record IsEnd (end : SequenceEnd) (bytes : List ℕ) : Type 0 where
-  pub begun : end.is_begun ≡ nat_lt 0 (length bytes)
-  pub ended : end.ended ≡ ended_with (inside bytes)
-
--- a DCS sequence continues by a chunk: `fed.consumed` bytes of it are its own, and it has this
--- status
-pub record Extends (now : SequenceEnd) (bytes chunk : List ℕ) (fed : SixelDcsFeedResult)
+pub record IsEnd (is_begun : Bool) (status : Option SixelDcsFeedStatus) (bytes : List ℕ)
     : Type 0 where
-  pub counted : sequence_count bytes + fed.consumed ≡ sequence_count (bytes ++ chunk)
+  pub begun : is_begun ≡ nat_lt 0 (length bytes)
+  pub ended : status ≡ ended_with (inside bytes)
+
+-- how many bytes belong to an image of either form, and its status
+abbrev pub own_count : Form → List ℕ → ℕ
+own_count Nothing bytes = 0
+own_count (OfPayload settings) bytes = count bytes
+own_count OfString bytes = sequence_count bytes
+
+abbrev pub own_status : Form → List ℕ → Status
+own_status Nothing bytes = statuses.Payload NeedMoreData
+own_status (OfPayload settings) bytes = statuses.Payload (status_of (first_terminator bytes))
+own_status OfString bytes = statuses.Dcs (sequence_status bytes)
+
+-- An image continues by a chunk to all these bytes.
+pub record Extends (form : Form) (bytes all chunk : List ℕ) (fed : Received) : Type 0 where
+  -- the bytes consumed are those of the chunk that belong to the image
+  pub count : own_count form bytes + fed.consumed ≡ own_count form all
   pub within : fed.consumed ≤ length chunk
-  pub stands : fed.status ≡ sequence_status (bytes ++ chunk)
-  pub stored : IsEnd now (bytes ++ chunk)
+  -- the status says so, too
+  pub status : fed.status ≡ own_status form all

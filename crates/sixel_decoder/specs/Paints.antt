@@ -58,7 +58,7 @@ band_columns limit (Sixel bits ∷ older) =
 band_columns limit (_ ∷ older) = band_columns limit older
 
 -- what a sixel is counted as at most on a canvas of one band, beside the columns of its band: a tag
--- for each whole 128 columns, and 640 for its two ends and for tagged blocks that it covers in part
+-- for each whole 128 columns, and 640 for its two ends and for tagged tiles that it covers in part
 abbrev pub most_run_paints : ℕ
 most_run_paints = 1151
 

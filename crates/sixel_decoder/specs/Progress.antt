@@ -3,7 +3,7 @@
 use Rattle.std.specs.Prelude.{ℕ, ◌≡◌, ◌+◌, ◌*◌, ◌≤◌, true, false, Option, None}
 use Rattle.sixel_decoder.specs.Paints.{area_of, most_row_writes, most_run_paints, most_sixel_paints}
 use Rattle.sixel_decoder.specs.Reception.{Reception, band_columns, band_room, drawn_height}
-use Rattle.sixel_decoder.specs.Reception.{least_count, reached_area, size, sixels}
+use Rattle.sixel_decoder.specs.Reception.{least_count, painted_area, size, sixels}
 
 -- This number of pixels was copied or filled to grow a canvas of rows.
 pub record IsWriteCount (image : Reception) (writes : ℕ) : Type 0 where
@@ -11,11 +11,11 @@ pub record IsWriteCount (image : Reception) (writes : ℕ) : Type 0 where
   pub value : writes ≡ image.writes
   -- at least once the painted area
   pub at_least : image.is_refused ≡ false
-      → reached_area image.start.pixel_limit image.form image.bytes ≤ writes
+      → painted_area image.start.pixel_limit image.form image.bytes ≤ writes
   -- at most three times the painted area
-  pub at_most : writes ≤ 3 * reached_area image.start.pixel_limit image.form image.bytes
+  pub at_most : writes ≤ 3 * painted_area image.start.pixel_limit image.form image.bytes
   -- the rows have capacity for at most twice the painted area
-  pub room : image.room ≤ 2 * reached_area image.start.pixel_limit image.form image.bytes
+  pub room : image.room ≤ 2 * painted_area image.start.pixel_limit image.form image.bytes
   -- a rejected image has no canvas
   pub refused : image.is_refused ≡ true → writes ≡ 0
 
@@ -27,7 +27,7 @@ pub record IsPaintCount (image : Reception) (paints : ℕ) : Type 0 where
   pub at_least : image.is_refused ≡ false
       → least_count image.start.pixel_limit image.form image.bytes ≤ paints
   -- at most three times the painted area, and a constant for each closed sixel
-  pub at_most : paints ≤ 3 * reached_area image.start.pixel_limit image.form image.bytes
+  pub at_most : paints ≤ 3 * painted_area image.start.pixel_limit image.form image.bytes
       + most_sixel_paints * sixels image.form image.bytes
   -- a rejected image has no canvas
   pub refused : image.is_refused ≡ true → paints ≡ 0

@@ -3,7 +3,7 @@
 -- Dcs and Payload of sixel_base, where DEC's manual gives the rules.
 use Rattle.std.specs.Prelude.{ℕ, ◌≡◌, Bool, false, List, [], Option, None}
 use Rattle.sixel_base.specs.Dcs.{Stage, Heading, Failing, Reading, stage, stage_in_payload}
-use Rattle.sixel_base.specs.Dcs.{stage_reached_area, stage_size}
+use Rattle.sixel_base.specs.Dcs.{stage_painted_area, stage_size}
 use Rattle.sixel_base.specs.Decoder.{origin_of}
 use Rattle.sixel_base.specs.DrawnHeight.{stage_drawn_height}
 use Rattle.sixel_base.specs.Fault.{Fault, StreamFailed}
@@ -109,8 +109,8 @@ sixels form bytes = stage_sixels (stage_of form bytes)
 abbrev pub least_count : Limit → Form → List ℕ → ℕ
 least_count limit form bytes = stage_least_count limit (stage_of form bytes)
 
-abbrev pub reached_area : Limit → Form → List ℕ → ℕ
-reached_area limit form bytes = stage_reached_area limit (stage_of form bytes)
+abbrev pub painted_area : Limit → Form → List ℕ → ℕ
+painted_area limit form bytes = stage_painted_area limit (stage_of form bytes)
 
 -- the right edges of the bands of its closed sixels, together
 abbrev pub band_columns : Limit → Form → List ℕ → ℕ

@@ -2,20 +2,19 @@
 
 ghost use Rattle.std.specs.Prelude.{◌≡◌, ◌≤◌, ◌++◌, ◌+◌, ◌∷◌, [], true, false, List, ℕ, length};
 ghost use Rattle.std.specs.Prelude.{◌||◌, None, Option, IfOk, OnErr, OnOk, MatchResult};
-ghost use Rattle.sixel_base.specs.Dcs.{ended_with, has_come};
+ghost use Rattle.sixel_base.specs.Dcs.{has_come};
 ghost use Rattle.sixel_base.specs.declared.state.DecoderState.{DecoderState};
 ghost use Rattle.sixel_base.specs.Fault.{IsFault, DcsStreamFailed};
-ghost use Rattle.sixel_decoder.specs.ImageEnds.{IsEnd, inside};
 ghost use Rattle.sixel_decoder.specs.declared.dcs_parser.DcsState.TheVariants.{Start, Payload};
 ghost use Rattle.sixel_decoder.specs.declared.dcs_parser.DcsState.TheVariants.{Failed};
-ghost use Rattle.sixel_decoder.specs.inside.DcsParser.{HasFollowed, IsInPayload, is_head};
-ghost use Rattle.sixel_decoder.specs.inside.DcsParser.{is_failed, StepsInto, Heads, Follows};
+ghost use Rattle.sixel_decoder.specs.inside.DcsParser.{HasFollowed, IsInPayload, is_begun};
+ghost use Rattle.sixel_decoder.specs.inside.DcsParser.{is_failed, is_head, StepsInto, Heads};
+ghost use Rattle.sixel_decoder.specs.inside.DcsParser.{Follows};
 ghost use Rattle.sixel_decoder.specs.inside.DcsReader.{released_of};
 
 use crate::bytes::tail;
 use crate::dcs_end::end_now;
 use crate::header::Header;
-use crate::image_end::SequenceEnd;
 use crate::payload_reader::PayloadReader;
 use sixel_base::state::DecoderState;
 use sixel_base::status::{SixelDcsFeedResult, SixelDcsFeedStatus, SixelFeedStatus};
@@ -44,6 +43,24 @@ impl<C: Canvas + Drop> DcsState<C> {
             DcsState::Payload(_) | DcsState::Failed => false,
         }
     }
+
+    /// Whether a byte was read.
+    pub fn is_begun(&self) -> bool
+        ensures { result ≡ is_begun self.now }
+    {
+        !matches!(self, DcsState::Start)
+    }
+
+    /// Drops what was read.
+    ///
+    /// Out of line: inlined, LLVM clears the moved value on every feed.
+    #[cold]
+    #[inline(never)]
+    pub fn fail(&mut self)
+        ensures { self.new ≡ Failed }
+    {
+        *self = DcsState::Failed;
+    }
 }
 
 /// How far a DCS sequence was read, how it ended, and what its payload begins from.
@@ -68,27 +85,6 @@ impl<C: Canvas + Drop> DcsParser<C> {
             alloc,
             decoder,
         }
-    }
-
-    /// Drops what was read after an error in a chunk, before which a byte was fed or not.
-    ///
-    /// Out of line: inlined, LLVM clears the moved value on every feed.
-    #[cold]
-    #[inline(never)]
-    pub fn fail(&mut self, is_begun: bool, chunk: &[u8])
-        ensures state { self.new.state ≡ Failed }
-        ensures decoder { self.new.decoder ≡ self.old.decoder }
-        ensures ended { (bytes : List ℕ)
-            → IsEnd (record { is_begun = is_begun; ended = self.old.ended }) bytes
-            → self.new.ended ≡ ended_with (inside (bytes ++ chunk.now)) }
-    {
-        let mut end = SequenceEnd {
-            is_begun,
-            ended: self.ended,
-        };
-        end.add(chunk);
-        self.ended = end.ended;
-        self.state = DcsState::Failed;
     }
 
     /// Whether the end of the sequence has come, after which no byte is its own.
@@ -234,7 +230,10 @@ fn read_payload<C: Canvas + Drop>(
         → Follows {C = C} result (Payload reader.new) decoder ended.new before chunk.now }
     ensures released { OnOk result (reader.new.released ≡ reader.old.released) }
 {
-    let fed = reader.feed(chunk)?;
+    let fed = match reader.feed(chunk) {
+        Ok(fed) => fed,
+        Err(failed) => return Err(failed.error),
+    };
     match fed.status {
         SixelFeedStatus::NeedMoreData => Ok(SixelDcsFeedResult {
             consumed: fed.consumed,

@@ -2,18 +2,21 @@
 //!
 //! The contracts of its calls are the records of `DcsCalls`.
 
-ghost use Rattle.std.specs.Prelude.{◌≡◌, ◌≤◌, ◌<◌, ◌∷◌, [], true, false, max, None, IsTrue, IfSome};
+ghost use Rattle.std.specs.Prelude.{◌≡◌, ◌≤◌, ◌<◌, ◌∷◌, [], true, false, max, None, IsTrue, IfErr};
+ghost use Rattle.std.specs.Prelude.{IfSome};
 ghost use Rattle.sixel_base.specs.Dcs.{dcs_status, has_ended};
-ghost use Rattle.sixel_decoder.specs.ImageEnds.{IsEnd};
+ghost use Rattle.sixel_decoder.specs.DcsCalls.{begun, byte_read, IsFed};
+ghost use Rattle.sixel_decoder.specs.FedImages.{uncounted};
 ghost use Rattle.sixel_decoder.specs.FinalRows.{dcs_final_rows};
 ghost use Rattle.sixel_decoder.specs.FinishedImages.{IsTaken};
-ghost use Rattle.sixel_decoder.specs.DcsCalls.{begun, byte_read, IsFed};
-ghost use Rattle.sixel_decoder.specs.Reception.{of_sequence, HasNoPayload, IsPayloadOf};
+ghost use Rattle.sixel_decoder.specs.ImageEnds.{Extends};
+ghost use Rattle.sixel_decoder.specs.Reception.{of_sequence, HasNoPayload, IsPayloadOf, OfString};
 
 use crate::dcs_parser::{DcsParser, DcsState};
 use crate::decoded_payload::DecodedPayload;
-use crate::image_end::SequenceEnd;
+use crate::image_end::sequence_end;
 use crate::payload_reader::PayloadReader;
+use crate::received::FailedRead;
 use sixel_base::ghost_list::GhostList;
 use sixel_base::state::DecoderState;
 use sixel_base::status::SixelDcsFeedResult;
@@ -22,6 +25,7 @@ use sixel_canvas::band_canvas::BandCanvas;
 use sixel_canvas::drawing::Canvas;
 use std::alloc::Global;
 use std::marker::Model;
+use std::result;
 
 /// A DCS sequence that is read in chunks.
 #[derive(Drop)]
@@ -54,16 +58,18 @@ impl<C: Canvas + Drop> DcsReader<C> {
     }
 
     /// Reads a chunk as far as the DCS sequence goes. After an error every feed fails.
-    pub fn feed(&mut self, chunk: &[u8]) -> Result<SixelDcsFeedResult>
-        ensures { IsFed self.old self.new chunk.now result }
+    pub fn feed(&mut self, chunk: &[u8]) -> result::Result<SixelDcsFeedResult, FailedRead>
+        ensures fed { IsFed self.old self.new chunk.now (uncounted result) }
+        ensures counted { IfErr result (λ failed.
+            Extends OfString self.old.bytes self.new.bytes chunk.now failed.fed) }
     {
-        let is_begun = self.end().is_begun;
+        let is_begun = self.parser.state.is_begun();
         self.log.extend(chunk);
         match self.parser.feed(chunk) {
             Ok(fed) => Ok(fed),
             Err(error) => {
-                self.parser.fail(is_begun, chunk);
-                Err(error)
+                self.parser.state.fail();
+                Err(sequence_end(is_begun, &mut self.parser.ended, chunk, error))
             }
         }
     }
@@ -85,17 +91,6 @@ impl<C: Canvas + Drop> DcsReader<C> {
         }
         self.log.push(byte);
         true
-    }
-
-    /// Returns whether the sequence has ended, also after an error.
-    #[inline(always)]
-    pub fn end(&self) -> SequenceEnd
-        ensures { IsEnd result self.now.bytes }
-    {
-        SequenceEnd {
-            is_begun: !matches!(self.parser.state, DcsState::Start),
-            ended: self.parser.ended,
-        }
     }
 
     /// Lends the reader of the payload, once it has begun and unless a feed has failed.

@@ -1,34 +1,45 @@
 //! Where an image ends, whatever faults its bytes have.
 //!
-//! Once a feed has failed, the bytes are counted by these functions.
+//! A feed that fails and each feed after it are counted by these functions.
 
 ghost use Rattle.std.specs.Prelude.{◌≡◌, ◌*◌, ◌+◌, ◌≤◌, ◌++◌, List, ℕ, drop, length, true, false};
 ghost use Rattle.sixel_base.specs.Bytes.{count, first_terminator};
 ghost use Rattle.sixel_base.specs.Dcs.{ended_with};
+ghost use Rattle.sixel_base.specs.Settings.{Settings};
 ghost use Rattle.sixel_base.specs.Status.{status_of};
-ghost use Rattle.sixel_decoder.specs.ImageEnds.{Extends, IsEnd, Passes, inside};
+ghost use Rattle.sixel_decoder.specs.ImageEnds.{Extends, IsEnd, inside};
+ghost use Rattle.sixel_decoder.specs.Reception.{OfPayload, OfString};
 ghost use Rattle.sixel_decoder.specs.inside.DcsParser.{GoesTo};
 
 use crate::bytes::{is_terminator, tail};
 use crate::dcs_end::{end_later, end_now};
+use crate::received::{FailedRead, Received, Status};
+use sixel_base::SixelError;
 use sixel_base::status::{
     SixelDcsFeedResult, SixelDcsFeedStatus, SixelFeedResult, SixelFeedStatus,
 };
 
-/// Returns how many bytes of a chunk belong to a payload with this terminator before it, if any.
+/// Counts a chunk of a payload that failed, and stores its first terminator.
 #[cold]
 #[inline(never)]
-pub fn payload_end(terminator: Option<u8>, chunk: &[u8]) -> SixelFeedResult
-    ensures within { result.consumed ≤ length chunk.now }
-    ensures passes { (bytes : List ℕ) → terminator ≡ first_terminator bytes
-        → Passes bytes (bytes ++ chunk.now) result }
+pub fn payload_end(terminator: &mut Option<u8>, chunk: &[u8], error: SixelError) -> FailedRead
+    ensures error { result.error ≡ error }
+    ensures counted { (settings : Settings) (bytes : List ℕ)
+        → first_terminator bytes ≡ terminator.old
+        → (first_terminator (bytes ++ chunk.now) ≡ terminator.new)
+        × Extends (OfPayload settings) bytes (bytes ++ chunk.now) chunk.now result.fed }
 {
-    match terminator {
+    let fed = match *terminator {
         Some(byte) => SixelFeedResult {
             consumed: 0,
             status: SixelFeedStatus::Terminated(byte),
         },
         None => to_terminator(chunk),
+    };
+    *terminator = fed.status.terminator();
+    FailedRead {
+        fed: Received::of_payload(fed),
+        error,
     }
 }
 
@@ -52,30 +63,28 @@ fn to_terminator(chunk: &[u8]) -> SixelFeedResult
     }
 }
 
-/// Whether a DCS sequence has ended, as far as it was fed.
-#[derive(Clone, Copy)]
-pub struct SequenceEnd {
-    /// Whether a byte was fed.
-    pub is_begun: bool,
-    /// How it has ended, once a terminator was read.
-    pub ended: Option<SixelDcsFeedStatus>,
-}
-
-impl SequenceEnd {
-    /// Adds a chunk, and returns how many bytes of it belong to the sequence.
-    #[cold]
-    #[inline(never)]
-    pub fn add(&mut self, chunk: &[u8]) -> SixelDcsFeedResult
-        ensures { (bytes : List ℕ) → IsEnd self.old bytes
-            → Extends self.new bytes chunk.now result }
-    {
-        let start = inside_start(self.is_begun, chunk);
-        self.is_begun = self.is_begun || !chunk.is_empty();
-        let fed = add_inside(&mut self.ended, tail(chunk, start));
-        SixelDcsFeedResult {
+/// Counts a chunk of a DCS sequence that failed, and stores how it has ended.
+#[cold]
+#[inline(never)]
+pub fn sequence_end(
+    is_begun: bool,
+    ended: &mut Option<SixelDcsFeedStatus>,
+    chunk: &[u8],
+    error: SixelError,
+) -> FailedRead
+    ensures error { result.error ≡ error }
+    ensures counted { (bytes : List ℕ) → IsEnd is_begun ended.old bytes
+        → (ended.new ≡ ended_with (inside (bytes ++ chunk.now)))
+        × Extends OfString bytes (bytes ++ chunk.now) chunk.now result.fed }
+{
+    let start = inside_start(is_begun, chunk);
+    let fed = add_inside(ended, tail(chunk, start));
+    FailedRead {
+        fed: Received {
             consumed: start + fed.consumed,
-            status: fed.status,
-        }
+            status: Status::Dcs(fed.status),
+        },
+        error,
     }
 }
 

@@ -23,7 +23,6 @@ mod received;
 
 pub use dcs_reader::DcsReader;
 pub use decoded_payload::DecodedPayload;
-pub use image_end::{SequenceEnd, payload_end};
 pub use one_shot::{decode_found, decode_payload};
 pub use payload_reader::PayloadReader;
-pub use received::{Received, Status};
+pub use received::{FailedRead, Received, Status};

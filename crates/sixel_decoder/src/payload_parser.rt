@@ -85,6 +85,7 @@ impl<C: Canvas + Drop> PayloadParser<C> {
     }
 
     /// Reads a chunk up to its first terminator, which closes the open command.
+    #[tactic(auto, using(std::proofs::lemmas::Bool::Decides::nat_tests))]
     #[inline(always)]
     pub fn feed(&mut self, chunk: &[u8]) -> Result<SixelFeedResult>
         ensures feeds { (o : Origin) (h : History) → Stands o self.old h
@@ -129,6 +130,7 @@ impl<C: Canvas + Drop> PayloadParser<C> {
     ///
     /// It is a digit of the open command, opens one, or is a sixel in a column for which the canvas
     /// has memory. An open color command that defines no register is closed first.
+    #[tactic(auto, using(std::proofs::lemmas::Bool::Decides::nat_tests))]
     #[inline(always)]
     pub fn try_byte(&mut self, byte: u8) -> bool
         ensures printable { IsTrue result → IsPrintable byte }

@@ -3,18 +3,20 @@
 //! The contracts of its calls are the records of `PayloadCalls`.
 
 ghost use Rattle.std.specs.Prelude.{◌≡◌, ◌≤◌, ◌<◌, ◌+◌, ◌∷◌, [], true, false, length, max, min};
-ghost use Rattle.std.specs.Prelude.{None, IsTrue, IfSome};
-ghost use Rattle.sixel_base.specs.Bytes.{first_terminator, is_terminated};
+ghost use Rattle.std.specs.Prelude.{None, IsTrue, IfErr, IfSome};
+ghost use Rattle.sixel_base.specs.Bytes.{is_terminated};
 ghost use Rattle.sixel_base.specs.Clip.{clipped_pixel};
 ghost use Rattle.sixel_base.specs.Decoder.{origin_of};
 ghost use Rattle.sixel_base.specs.Payload.{tokens};
 ghost use Rattle.sixel_canvas.specs.Layout.{AreCopied, AreRowsIn};
+ghost use Rattle.sixel_decoder.specs.FedImages.{uncounted};
 ghost use Rattle.sixel_decoder.specs.FinalRows.{payload_final_rows, row_count};
 ghost use Rattle.sixel_decoder.specs.FinishedImages.{IsTaken};
+ghost use Rattle.sixel_decoder.specs.ImageEnds.{Extends};
 ghost use Rattle.sixel_decoder.specs.PayloadCalls.{begun, byte_read, IsFed};
 ghost use Rattle.sixel_decoder.specs.Progress.{IsBandPaintCount, IsBandWriteCount, IsDrawnHeight};
 ghost use Rattle.sixel_decoder.specs.Progress.{IsPaintCount, IsSizeSoFar, IsWriteCount};
-ghost use Rattle.sixel_decoder.specs.Reception.{of_payload};
+ghost use Rattle.sixel_decoder.specs.Reception.{OfPayload, of_payload};
 ghost use Rattle.sixel_decoder.specs.inside.PayloadReader.{IsLost, IsPainterOf};
 ghost use Rattle.sixel_decoder.specs.declared.payload_reader.PayloadState.TheVariants.{Failed};
 
@@ -22,6 +24,7 @@ use crate::decoded_payload::DecodedPayload;
 use crate::image_end::payload_end;
 use crate::painter::Painter;
 use crate::payload_parser::PayloadParser;
+use crate::received::FailedRead;
 use sixel_base::ghost_list::GhostList;
 use sixel_base::settings::DcsSettings;
 use sixel_base::state::DecoderState;
@@ -33,6 +36,7 @@ use sixel_canvas::drawing::Canvas;
 use sixel_canvas::row_canvas::RowCanvas;
 use std::alloc::Global;
 use std::marker::Model;
+use std::result;
 use std::snapshot::Snapshot;
 
 /// How a payload is read: its parser, unless a feed has failed.
@@ -95,13 +99,15 @@ impl<C: Canvas + Drop> PayloadReader<C> {
     ///
     /// After an error every feed fails, and only counts.
     #[inline(always)]
-    pub fn feed(&mut self, chunk: &[u8]) -> Result<SixelFeedResult>
-        ensures { IsFed self.old self.new chunk.now result }
+    pub fn feed(&mut self, chunk: &[u8]) -> result::Result<SixelFeedResult, FailedRead>
+        ensures fed { IsFed self.old self.new chunk.now (uncounted result) }
+        ensures counted { IfErr result (λ failed. Extends (OfPayload self.old.origin.settings)
+            self.old.bytes self.new.bytes chunk.now failed.fed) }
     {
         self.log.extend(chunk);
         let PayloadState::Reading(parser) = &mut self.state else {
-            self.terminator = payload_end(self.terminator, chunk).status.terminator();
-            return Err(SixelError::stream_failed());
+            let error = SixelError::stream_failed();
+            return Err(payload_end(&mut self.terminator, chunk, error));
         };
         match self.terminator {
             Some(byte) => Ok(SixelFeedResult {
@@ -114,9 +120,8 @@ impl<C: Canvas + Drop> PayloadReader<C> {
                     Ok(fed)
                 }
                 Err(error) => {
-                    self.terminator = payload_end(None, chunk).status.terminator();
                     self.state.fail();
-                    Err(error)
+                    Err(payload_end(&mut self.terminator, chunk, error))
                 }
             },
         }
@@ -167,13 +172,6 @@ impl<C: Canvas + Drop> PayloadReader<C> {
             return 0;
         };
         painter.canvas.top().min(painter.clipped_height)
-    }
-
-    /// Returns the terminator that was fed, also after an error.
-    pub fn terminator(&self) -> Option<u8>
-        ensures { result ≡ first_terminator self.now.bytes }
-    {
-        self.terminator
     }
 
     /// Whether a terminator was fed, and no feed has failed.

@@ -3,6 +3,7 @@
 ghost use Rattle.std.specs.Prelude.{◌≡◌};
 ghost use Rattle.sixel_decoder.specs.FedImages.{has_ended, of_payload_fed, of_sequence_fed};
 
+use sixel_base::SixelError;
 use sixel_base::status::{
     SixelDcsFeedResult, SixelDcsFeedStatus, SixelFeedResult, SixelFeedStatus,
 };
@@ -56,5 +57,22 @@ impl Received {
             consumed: fed.consumed,
             status: Status::Dcs(fed.status),
         }
+    }
+}
+
+/// Why a feed of a reader failed, and what it did all the same.
+#[derive(Drop)]
+pub struct FailedRead {
+    /// Which bytes of the chunk belong to the image, and whether it has ended.
+    pub fed: Received,
+    /// The error.
+    pub error: SixelError,
+}
+
+impl From<FailedRead> for SixelError {
+    ghost from_gives = { λ failed error. error ≡ failed.error };
+
+    fn from(failed: FailedRead) -> SixelError {
+        failed.error
     }
 }

@@ -58,7 +58,7 @@ impl<'a> SixelDcsStreamDecoder<'a> {
         ensures registers { (sequence_owner self.new).now ≡ (sequence_owner self.old).now }
         ensures fed { IsFed (sequence self.old) (sequence self.new) piece.now result }
     {
-        self.reader.feed(piece)
+        Ok(self.reader.feed(piece)?)
     }
 
     /// Returns how many pixels were copied or filled to grow the rows of the canvas.

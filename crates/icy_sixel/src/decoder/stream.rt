@@ -56,7 +56,7 @@ impl<'a> SixelStreamDecoder<'a> {
         ensures registers { (payload_owner self.new).now ≡ (payload_owner self.old).now }
         ensures fed { IsFed (payload self.old) (payload self.new) piece.now result }
     {
-        self.reader.feed(piece)
+        Ok(self.reader.feed(piece)?)
     }
 
     /// Returns how many pixels were copied or filled to grow the rows of the canvas.
@@ -75,12 +75,12 @@ impl<'a> SixelStreamDecoder<'a> {
     /// Returns an upper bound of the pixels that sixels have painted.
     ///
     /// It is 0 after an error. The call does not allocate. A wide sixel over pixels that exist can
-    /// be stored as the colors of its blocks.
+    /// be stored as the colors of its tiles.
     ///
     /// Each closed sixel with a set pixel counts at least six for each of its columns. One of more
     /// than 258 columns can count less: six for each whole 128 columns, and 1536 for two ends.
     /// The number is at most three times the painted area of the closed sixels, and 4602 for each
-    /// of them, which is two ends and 511 blocks in six rows. It saturates.
+    /// of them, which is two ends and 511 tiles in six rows. It saturates.
     pub fn canvas_paints(&self) -> u64
         ensures { IsPaintCount (of_payload (payload self.now)) result }
     {

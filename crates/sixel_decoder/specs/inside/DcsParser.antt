@@ -42,8 +42,7 @@ HasFollowed states.Start decoder ended bytes = (bytes ≡ []) × (ended ≡ None
 HasFollowed states.Escape decoder ended bytes = (bytes ≡ 27 ∷ []) × (ended ≡ None)
 HasFollowed (states.Header header) decoder ended bytes = IsInHeader header bytes × (ended ≡ None)
 HasFollowed (states.Payload reader) decoder ended bytes = IsInPayload reader decoder ended bytes
-HasFollowed states.Failed decoder ended bytes =
-    IsEnd (record { is_begun = true; ended = ended }) bytes
+HasFollowed states.Failed decoder ended bytes = IsEnd true ended bytes
 
 -- the payload has not begun
 abbrev pub is_head : {C : Type 0} → DcsState C → Bool
@@ -52,6 +51,11 @@ is_head states.Escape = true
 is_head (states.Header header) = true
 is_head (states.Payload reader) = false
 is_head states.Failed = false
+
+-- a byte was read
+abbrev pub is_begun : {C : Type 0} → DcsState C → Bool
+is_begun states.Start = false
+is_begun _ = true
 
 abbrev pub is_failed : {C : Type 0} → DcsState C → Bool
 is_failed states.Failed = true

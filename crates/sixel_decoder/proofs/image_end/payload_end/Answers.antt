@@ -1,15 +1,25 @@
-use Rattle.std.proofs.Common.{sym, ◌∙◌}
-use Rattle.sixel_decoder.proofs.ImageEnds.{passes_ended, passes_open}
+use Rattle.std.proofs.Common.{◌∙◌, arith}
+use Rattle.std.proofs.lemmas.Bool.Decides.{nat_tests}
+use Rattle.sixel_decoder.proofs.Chunks.{count-append, first_terminator-append}
+use Rattle.sixel_decoder.proofs.Chunks.{first_terminator-ended}
+use Rattle.sixel_decoder.proofs.DcsEnds.{terminator_same}
+use Rattle.sixel_decoder.proofs.Finality.{count_ended}
 use Rattle.sixel_decoder.proofs.image_end.payload_end.Goals as goal
+use Rattle.sixel_decoder.proofs.image_end.payload_end.Goals.{in-Some, in-None}
 
-pub returns-in-Some-clause-passes : goal.returns-in-Some-clause-passes
-returns-in-Some-clause-passes c = λ bytes is.
-    passes_ended bytes c.args.chunk.now c.in-Some.byte (sym is ∙ c.in-Some.is)
-
-pub returns-in-None-clause-within : goal.returns-in-None-clause-within
-returns-in-None-clause-within c = c.to_terminator.ensures.within
-
-pub returns-in-None-clause-passes : goal.returns-in-None-clause-passes
-returns-in-None-clause-passes c = λ bytes is.
-    passes_open bytes c.args.chunk.now c.to_terminator.result (sym is ∙ c.in-None.is)
-    c.to_terminator.ensures.count c.to_terminator.ensures.status
+pub returns-clause-counted : goal.returns-clause-counted
+returns-clause-counted c = λ settings bytes is. elim c.match-terminator.branch [
+  | in-Some w ↦
+      let some = is ∙ w.in-Some.is in
+      grind (arith, nat_tests, count_ended, first_terminator-ended, c.of_payload.ensures)
+  | in-None w ↦
+      let none = is ∙ w.in-None.is in
+      grind (
+        arith,
+        nat_tests,
+        count-append,
+        first_terminator-append,
+        terminator_same,
+        c.of_payload.ensures,
+      )
+]

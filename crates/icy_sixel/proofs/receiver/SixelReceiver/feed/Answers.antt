@@ -1,7 +1,7 @@
 use Rattle.std.proofs.Common.{Err, refl, rules}
 use Rattle.sixel_decoder.specs.FedImages.{IsFed}
 use Rattle.icy_sixel.specs.Receiver.{no_image}
-use Rattle.icy_sixel.proofs.Chunks.{payload_counted, string_counted, string_fed_counted}
+use Rattle.icy_sixel.proofs.Chunks.{fed_counted}
 use Rattle.icy_sixel.proofs.StoredErrors.{fed_err, fed_ok}
 use Rattle.icy_sixel.proofs.receiver.SixelReceiver.feed.Goals as goal
 
@@ -22,43 +22,35 @@ returns-in-Nothing c =
 
 pub returns-in-Err : goal.returns-in-Err
 returns-in-Err c =
-    let passes = c.payload_end-fed.ensures.passes c.in-Payload.reader.bytes
-    c.terminator-terminator.ensures in
     let stored = rw c.has_failed-has_failed.ensures at c.stored_error-in-Err.ensures in
-    let is = c.in-Err.ensures.fed in
-    let fed = fed_err _ _ _ _ c.args.piece.now c.in-Err.error _ refl is (stored.again _)
-    stored.first stored.stored in
+    let fed = fed_err _ _ _ _ c.args.piece.now c.in-Err.failed.error _ refl
+    c.in-Err.ensures.fed.fed (stored.again _) stored.first stored.stored in
     rw (← c.self.view_is, c.in-Payload.is) (record {
       decoder = refl;
       fed = fed.0;
       failure = fed.1;
-      counted = payload_counted _ _ _ c.args.piece.now _ refl is.form (is.bytes refl) passes
-          c.payload_end-fed.ensures.within;
+      counted = c.in-Err.ensures.counted;
     })
 
 pub returns-in-Ok-feed : goal.returns-in-Ok-feed
 returns-in-Ok-feed c =
     rw (← c.self.view_is, c.in-ControlString.is, c.of_sequence.ensures)
-    (let fed = fed_ok _ _ _ c.args.piece.now _ c.in-Ok-feed.ensures in record {
+    (let fed = fed_ok _ _ _ c.args.piece.now _ c.in-Ok-feed.ensures.fed in record {
       decoder = refl;
       fed = fed;
       failure = refl;
-      counted = string_fed_counted _ _ c.args.piece.now _ refl fed;
+      counted = fed_counted _ _ c.args.piece.now _ fed;
     })
 
 pub returns-in-Err-feed : goal.returns-in-Err-feed
 returns-in-Err-feed c =
-    let extends = c.string_end-fed.ensures c.in-ControlString.reader.bytes c.end-end.ensures in
     let stored = rw c.has_failed-has_failed-in-ControlString.ensures
     at c.stored_error-in-Err-feed.ensures in
-    let is = c.in-Err-feed.ensures in
-    rw (← c.self.view_is, c.in-ControlString.is)
-    (let fed = fed_err _ _ _ _ c.args.piece.now c.in-Err-feed.error _ refl is (stored.again _)
-    stored.first stored.stored in
-    record {
+    let fed = fed_err _ _ _ _ c.args.piece.now c.in-Err-feed.failed.error _ refl
+    c.in-Err-feed.ensures.fed (stored.again _) stored.first stored.stored in
+    rw (← c.self.view_is, c.in-ControlString.is) (record {
       decoder = refl;
       fed = fed.0;
       failure = fed.1;
-      counted = string_counted _ _ extends.0 c.args.piece.now _ refl is.form (is.bytes refl)
-          extends.1;
+      counted = c.in-Err-feed.ensures.counted;
     })

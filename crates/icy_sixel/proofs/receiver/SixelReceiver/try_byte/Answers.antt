@@ -5,7 +5,7 @@ use Rattle.std.specs.Prelude.{IfSome, IsTrue}
 use Rattle.sixel_decoder.specs.declared.received.Received.{Received}
 use Rattle.icy_sixel.specs.ReceiverCalls.{IsFed}
 use Rattle.icy_sixel.specs.inside.Receiving.{fault_of, receiver_of}
-use Rattle.icy_sixel.proofs.Chunks.{payload_fed_counted, string_fed_counted}
+use Rattle.icy_sixel.proofs.Chunks.{fed_counted}
 use Rattle.icy_sixel.proofs.StoredErrors.{fed_ok}
 use Rattle.icy_sixel.proofs.receiver.SixelReceiver.try_byte.Goals as goal
 use Rattle.icy_sixel.proofs.receiver.SixelReceiver.try_byte.Goals.{in-Payload, in-ControlString}
@@ -24,7 +24,7 @@ fed c = elim c.match-self.branch [
         decoder = refl;
         fed = now;
         failure = refl;
-        counted = payload_fed_counted _ _ _ (c.args.byte ∷ []) _ refl now;
+        counted = fed_counted _ _ (c.args.byte ∷ []) _ now;
       })
   | in-ControlString w ↦
       rw (← c.self.view_is, w.in-ControlString.is, w.self-inside-is, w.is_read-is) (λ is.
@@ -34,7 +34,7 @@ fed c = elim c.match-self.branch [
         decoder = refl;
         fed = now;
         failure = refl;
-        counted = string_fed_counted _ _ (c.args.byte ∷ []) _ refl now;
+        counted = fed_counted _ _ (c.args.byte ∷ []) _ now;
       })
 ]
 

@@ -1,16 +1,18 @@
 use Rattle.std.proofs.Common.{◌≡◌, ◌∙◌, ℕ, List, ◌++◌, ap, false, refl}
 use Rattle.std.specs.Prelude.{nat_lt}
 use Rattle.std.proofs.lemmas.Bool.{false_from_ne_true}
-use Rattle.sixel_base.specs.Dcs.{dcs_fault, dcs_growths}
+use Rattle.sixel_base.specs.Dcs.{dcs_fault, dcs_growths, ended_with}
 use Rattle.sixel_base.specs.Fault.{Faults}
 use Rattle.sixel_decoder.specs.FedImages.{of_sequence_fed}
-use Rattle.sixel_decoder.specs.Reception.{of_sequence}
+use Rattle.sixel_decoder.specs.ImageEnds.{Extends, inside}
+use Rattle.sixel_decoder.specs.Reception.{OfString, of_sequence}
 use Rattle.sixel_decoder.specs.declared.received.Status.TheVariants.{Dcs}
 use Rattle.sixel_decoder.specs.inside.DcsParser.{is_failed}
 use Rattle.sixel_decoder.specs.inside.DcsReader.{session_of}
 use Rattle.sixel_decoder.proofs.FedImages.{image_fed, image_rejected}
 use Rattle.sixel_decoder.proofs.ImageEnds.{end_of, refused_begun}
 use Rattle.sixel_decoder.proofs.Sessions.{followed_sound}
+use Rattle.sixel_decoder.proofs.dcs_reader.DcsReader.feed.Given.{Over}
 use Rattle.sixel_decoder.proofs.dcs_reader.DcsReader.feed.Goals as goal
 
 pub invariant_of-self : goal.invariant_of-self
@@ -21,8 +23,8 @@ invariant_of-self g c =
     rw (c.extend.ensures, c.in-Ok.ensures.decoder)
     (c.in-Ok.ensures.follows c.self.inside.log accepted c.self.invariant).3
 
-pub returns-in-Ok : goal.returns-in-Ok
-returns-in-Ok g c =
+pub returns-in-Ok-clause-fed : goal.returns-in-Ok-clause-fed
+returns-in-Ok-clause-fed g c =
     let inside = c.self.inside in
     let state = inside.parser.state in
     let bytes : List ℕ = inside.log in
@@ -36,34 +38,44 @@ returns-in-Ok g c =
     accepted goes.2 refl c.in-Ok.ensures.decoder c.in-Ok.ensures.released c.extend.ensures sound
     (goes.0, ap Dcs goes.1, goes.4))
 
-pub returns-in-Err : goal.returns-in-Err
-returns-in-Err g c =
+pub returns-in-Err-clause-fed : goal.returns-in-Err-clause-fed
+returns-in-Err-clause-fed g c =
     let inside = c.self.inside in
     let parser = inside.parser in
     let bytes : List ℕ = inside.log in
-    rw (← c.self.view_is)
+    rw (← c.self.view_is, c.sequence_end.ensures.error)
     (image_rejected (of_sequence (session_of inside)) _ c.args.chunk.now c.in-Err.error
-    (rw c.fail.ensures.state refl) refl (c.fail.ensures.decoder ∙ c.in-Err.ensures.decoder)
-    c.extend.ensures
+    (rw c.fail.ensures refl) refl c.in-Err.ensures.decoder c.extend.ensures
     (followed_sound parser.state parser.decoder parser.ended bytes c.self.invariant)
     c.in-Err.ensures.failed (λ fine. c.in-Err.ensures.follows bytes fine c.self.invariant))
 
+-- the chunk is counted, and the end that is stored is that of all bytes
+counted : (g : Over) (c : goal.After-sequence_end g)
+    → (c.sequence_end.new.ended ≡ ended_with (inside (c.self.inside.log ++ c.args.chunk.now)))
+    × Extends OfString c.self.inside.log (c.self.inside.log ++ c.args.chunk.now) c.args.chunk.now
+    c.sequence_end.result.fed
+counted g c =
+    let parser = c.self.inside.parser in
+    let bytes : List ℕ = c.self.inside.log in
+    let known = end_of parser.state parser.decoder parser.ended bytes c.self.invariant in
+    c.sequence_end.ensures.counted bytes (record {
+      begun = c.is_begun-is_begun.ensures ∙ known.begun;
+      ended = c.in-Err.ensures.ended ∙ known.ended;
+    })
+
+pub returns-in-Err-clause-counted : goal.returns-in-Err-clause-counted
+returns-in-Err-clause-counted g c = rw (← c.self.view_is, c.extend.ensures) (counted g c).1
+
 pub invariant_of-self-in-Err : goal.invariant_of-self-in-Err
 invariant_of-self-in-Err g c =
-    let inside = c.self.inside in
-    let parser = inside.parser in
-    let bytes : List ℕ = inside.log in
-    let known =
-    end_of parser.state parser.decoder parser.ended bytes c.self.invariant in
+    let parser = c.self.inside.parser in
+    let bytes : List ℕ = c.self.inside.log in
     let told : is_failed parser.state ≡ false → Faults c.in-Err.error
     (nat_lt (dcs_growths bytes) (dcs_growths (bytes ++ c.args.chunk.now)))
     (dcs_fault parser.decoder.pixel_limit (bytes ++ c.args.chunk.now)) =
     λ fine. c.in-Err.ensures.follows bytes fine c.self.invariant in
-    rw (c.fail.ensures.state, c.extend.ensures) (record {
+    rw (c.fail.ensures, c.extend.ensures) (record {
       begun = refused_begun c.in-Err.error parser.state parser.decoder parser.ended bytes
           c.args.chunk.now c.self.invariant told;
-      ended = c.fail.ensures.ended bytes (record {
-        begun = (rw (← c.self.view_is) at c.end-is_begun.ensures).begun;
-        ended = c.in-Err.ensures.ended ∙ known.ended;
-      });
+      ended = (counted g c).0;
     })

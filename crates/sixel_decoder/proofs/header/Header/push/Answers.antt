@@ -1,14 +1,10 @@
-use Rattle.std.proofs.Common.{◌≡◌, true, false, refl, sym, ◌∙◌, arith}
+use Rattle.std.proofs.Common.{◌≡◌, true, false, refl, sym, ◌∙◌}
 use Rattle.std.proofs.lemmas.List.{append-nil}
 use Rattle.sixel_base.specs.Bytes.{is_ignored, is_parameter}
 use Rattle.sixel_decoder.proofs.header.Header.push.Goals as goal
-use Rattle.std.proofs.lemmas.Bool.Decides.{nat_tests}
 
 pub push-requires : goal.push-requires
 push-requires c = c.is_parameter.ensures.bytes c.if-is_parameter.true
-
-pub returns-then-is_parameter : goal.returns-then-is_parameter
-returns-then-is_parameter c = grind (arith, nat_tests)
 
 pub returns-then-is_ignored : goal.returns-then-is_ignored
 returns-then-is_ignored c = λ text keeps.
@@ -16,12 +12,3 @@ returns-then-is_ignored c = λ text keeps.
     let other : is_parameter c.args.byte ≡ false = sym told.class ∙ c.if-is_parameter.false in
     let ignored : is_ignored c.args.byte ≡ true = sym c.is_ignored.ensures ∙ c.if-is_ignored.true in
     rw (other, ignored) (refl, rw (append-nil text) keeps)
-
-pub returns-then-byte-eq113 : goal.returns-then-byte-eq113
-returns-then-byte-eq113 c = grind (arith, nat_tests)
-
-pub returns-then-is_terminator : goal.returns-then-is_terminator
-returns-then-is_terminator c = grind (arith, nat_tests)
-
-pub returns : goal.returns
-returns c = grind (arith, nat_tests)

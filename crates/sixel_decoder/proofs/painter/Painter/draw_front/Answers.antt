@@ -3,7 +3,7 @@ use Rattle.std.specs.Prelude.{fold}
 use Rattle.sixel_base.specs.History.{read}
 use Rattle.sixel_decoder.proofs.SixelRuns.{IsRun-take, fold_one, fold_run, length-front}
 use Rattle.sixel_decoder.proofs.SixelRuns.{length-bits_of, with_sixels}
-use Rattle.sixel_decoder.proofs.PaintedRuns.{Shows-block}
+use Rattle.sixel_decoder.proofs.PaintedRuns.{Shows-eight}
 use Rattle.sixel_decoder.proofs.painter.Painter.draw_front.Goals as goal
 
 pub returns-then-self-len-clause-draws : goal.returns-then-self-len-clause-draws
@@ -14,7 +14,7 @@ returns-then-self-len-clause-draws g c = λ o h shows.
     let eight : List ℕ = c.of-front.result.bits in
     let front = c.of-front.ensures in
     let single = c.is_single_above_bottom.ensures in
-    let drawn = c.in_ok-block.ensures in
+    let drawn = c.in_ok-draw_eight.ensures in
     let within : len ≤ length bytes = omega (arith, front.few, c.if-bytes-ge8.true) in
     let sixels : List ℕ = take len eight in
     let long : length sixels ≡ len =
@@ -23,7 +23,7 @@ returns-then-self-len-clause-draws g c = λ o h shows.
     let whole : fold read h (take len bytes) ≡ with_sixels h sixels =
     fold_run h (take len bytes) (IsRun-take len bytes within front.sixels)
     ∙ ap (with_sixels h) (sym front.bits) in
-    Shows-block o h (fold read h (take len bytes)) old _ sixels eight whole shows
+    Shows-eight o h (fold read h (take len bytes)) old _ sixels eight whole shows
     (single.single c.if-is_single_above_bottom.true)
     (omega (arith, long, c.if-self-len.true))
     (single.above_bottom c.if-is_single_above_bottom.true)

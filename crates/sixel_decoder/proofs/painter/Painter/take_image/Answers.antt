@@ -13,7 +13,6 @@ use Rattle.sixel_canvas.proofs.Pictures.{picture_same}
 use Rattle.sixel_decoder.proofs.Clips.{clipped_picture}
 use Rattle.sixel_decoder.proofs.ImageAreas.{low}
 use Rattle.sixel_decoder.proofs.painter.Painter.take_image.Goals as goal
-use Rattle.std.proofs.lemmas.Bool.Decides.{nat_tests}
 
 -- the rows that are left, below those above the first of them
 picture-left : (p q : ℕ → ℕ → List ℕ) (width height released first : ℕ)
@@ -75,6 +74,3 @@ returns-clause-ends g c = λ o h shows.
       ),
       rw (drawn, shows.raster) refl,
     )
-
-pub returns-in_err-pixels-clause-ends : goal.returns-in_err-pixels-clause-ends
-returns-in_err-pixels-clause-ends g c = grind (arith, nat_tests)

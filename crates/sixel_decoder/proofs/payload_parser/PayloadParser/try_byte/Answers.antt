@@ -2,25 +2,15 @@ use Rattle.std.proofs.Common.{sym, ◌∙◌, arith}
 use Rattle.sixel_decoder.proofs.ChunkPlaces.{sixel_from_test}
 use Rattle.sixel_decoder.proofs.ParserSteps.{stands_goes_on}
 use Rattle.sixel_decoder.proofs.payload_parser.PayloadParser.try_byte.Goals as goal
-use Rattle.std.proofs.lemmas.Bool.Decides.{nat_tests}
 
 pub try_sixel-requires : goal.try_sixel-requires
 try_sixel-requires g c = sixel_from_test c.args.byte (sym c.is_sixel.ensures ∙ c.if-is_sixel.true)
-
-pub returns-then-is_sixel-clause-printable : goal.returns-then-is_sixel-clause-printable
-returns-then-is_sixel-clause-printable g c = grind (arith, nat_tests)
 
 pub returns-then-is_sixel-clause-stands : goal.returns-then-is_sixel-clause-stands
 returns-then-is_sixel-clause-stands g c = c.try_sixel.ensures.stands
 
 pub returns-then-is_sixel-clause-left : goal.returns-then-is_sixel-clause-left
 returns-then-is_sixel-clause-left g c = c.try_sixel.ensures.left
-
-pub returns-then-takes-clause-printable : goal.returns-then-takes-clause-printable
-returns-then-takes-clause-printable g c = grind (arith, nat_tests)
-
-pub returns-clause-printable : goal.returns-clause-printable
-returns-clause-printable g c = grind (arith, nat_tests)
 
 pub returns-then-takes-clause-stands : goal.returns-then-takes-clause-stands
 returns-then-takes-clause-stands g c =

@@ -12,8 +12,8 @@ returns c =
     let is = c.in-Some.ensures.lent in
     let canvas = c.in-Some.painter.now.canvas in
     let cost =
-    band_cost limit (capacity canvas.band) canvas.band.painted canvas.band.pixels.reach
-    canvas.band.tags.reach canvas.top (settled_tokens limit session.bytes) is.shows.faultless
+    band_cost limit (capacity canvas.band) canvas.band.painted canvas.band.pixels.extent
+    canvas.band.tags.extent canvas.top (settled_tokens limit session.bytes) is.shows.faultless
     is.shows.paid.0 in
     let value = c.paints.ensures ∙ is.paints in
     record {

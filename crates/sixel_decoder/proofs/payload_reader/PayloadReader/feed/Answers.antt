@@ -1,12 +1,16 @@
-use Rattle.std.proofs.Common.{◌≡◌, ℕ, List, Option, Some, Ok, Err, false, refl, sym, ◌∙◌}
-use Rattle.std.proofs.Common.{subst}
+use Rattle.std.proofs.Common.{◌≡◌, ℕ, List, Option, None, Some, Ok, Err, false, refl, sym, ◌∙◌}
+use Rattle.std.proofs.Common.{arith, subst}
 use Rattle.std.specs.Prelude.{is_none}
 use Rattle.std.proofs.lemmas.Bool.{false≢true}
+use Rattle.std.proofs.lemmas.Bool.Decides.{nat_tests}
 use Rattle.sixel_base.specs.declared.error.SixelError.{SixelError}
 use Rattle.sixel_base.specs.declared.status.SixelFeedResult.{SixelFeedResult}
+use Rattle.sixel_base.specs.Bytes.{first_terminator}
 use Rattle.sixel_base.specs.Status.{status_of}
 use Rattle.sixel_base.specs.Stroke.{Origin}
+use Rattle.sixel_canvas.specs.declared.drawing.Canvas.{Ghosts}
 use Rattle.sixel_decoder.specs.Reception.{of_payload}
+use Rattle.sixel_decoder.specs.declared.payload_parser.PayloadParser.{PayloadParser}
 use Rattle.sixel_decoder.specs.declared.payload_reader.PayloadState.{PayloadState}
 use Rattle.sixel_decoder.specs.inside.PayloadReader.{session_of, parser_of, HasRead}
 use Rattle.sixel_decoder.proofs.Chunks.{ended_goes_on, ended_reads, open_goes_on}
@@ -15,8 +19,13 @@ use Rattle.sixel_decoder.proofs.FedImages.{image_rejected}
 use Rattle.sixel_decoder.proofs.Feeds.{payload_fed}
 use Rattle.sixel_decoder.proofs.Sessions.{read_sound}
 use Rattle.sixel_decoder.proofs.payload_reader.PayloadReader.feed.Goals as goal
-use Rattle.std.proofs.Common.{arith}
-use Rattle.std.proofs.lemmas.Bool.Decides.{nat_tests}
+
+-- the terminator that is stored is the first one
+first_read : {C : Type 0} {canvas : Ghosts C} (parser : Option (PayloadParser C canvas))
+    (o : Origin) (terminator : Option ℕ) (bytes : List ℕ) → HasRead parser o terminator bytes
+    → first_terminator bytes ≡ terminator
+first_read None o terminator bytes is = is
+first_read (Some parser) o terminator bytes is = is.0
 
 pub invariant_of-self-in-Some : goal.invariant_of-self-in-Some
 invariant_of-self-in-Some g c =
@@ -32,8 +41,8 @@ invariant_of-self-in-Some g c =
     rw (c.extend.ensures, c.in-Some.is)
     (ended_reads origin parser bytes c.args.chunk.now c.in-Some.byte ended)
 
-pub returns-in-Some : goal.returns-in-Some
-returns-in-Some g c =
+pub returns-in-Some-clause-fed : goal.returns-in-Some-clause-fed
+returns-in-Some-clause-fed g c =
     let inside = c.self.inside in
     let origin : Origin = (session_of inside).origin in
     let bytes : List ℕ = inside.log in
@@ -66,12 +75,12 @@ invariant_of-self-in-Ok g c =
     open_goes_on (Ok c.in-Ok.fed) origin c.in-Reading.parser c.feed.new.self inside.terminator bytes
     c.args.chunk.now
     c.in-None.is read (c.in-Ok.ensures.feeds origin _) in
-    let terminator = c.terminator-self-inside-in-Ok in
+    let terminator = c.terminator-self-inside in
     let same = terminator_same terminator.result _ (sym terminator.ensures ∙ goes.1) in
     rw (c.extend.ensures, same) goes.2
 
-pub returns-in-Ok : goal.returns-in-Ok
-returns-in-Ok g c =
+pub returns-in-Ok-clause-fed : goal.returns-in-Ok-clause-fed
+returns-in-Ok-clause-fed g c =
     let inside = c.self.inside in
     let origin : Origin = (session_of inside).origin in
     let bytes : List ℕ = inside.log in
@@ -89,8 +98,8 @@ returns-in-Ok g c =
     (payload_fed (session_of inside) _ c.args.chunk.now c.in-Ok.fed was refl refl
     (rw c.in-Reading.is c.in-Ok.ensures.released) c.extend.ensures sound (goes.0, goes.1, goes.3))
 
-pub returns-in-Err : goal.returns-in-Err
-returns-in-Err g c =
+pub returns-in-Err-clause-fed : goal.returns-in-Err-clause-fed
+returns-in-Err-clause-fed g c =
     let inside = c.self.inside in
     let origin : Origin = (session_of inside).origin in
     let bytes : List ℕ = inside.log in
@@ -100,7 +109,7 @@ returns-in-Err g c =
     subst (λ (w : PayloadState _ _). HasRead (parser_of w) origin inside.terminator bytes)
     c.in-Reading.is c.self.invariant in
     let was : is_none (parser_of inside.state) ≡ false = rw c.in-Reading.is refl in
-    rw (← c.self.view_is) (record {
+    rw (← c.self.view_is, c.payload_end-in-Err.ensures.error) (record {
       origin = refl;
       fed = image_rejected (of_payload (session_of inside)) _ chunk error
           (rw c.fail.ensures refl) refl refl c.extend.ensures
@@ -110,5 +119,32 @@ returns-in-Err g c =
           inside.terminator bytes chunk c.in-None.is read (c.in-Err.ensures.feeds origin _));
     })
 
+pub returns-in-Err-clause-counted : goal.returns-in-Err-clause-counted
+returns-in-Err-clause-counted g c =
+    let inside = c.self.inside in
+    let first = first_read _ (session_of inside).origin inside.terminator inside.log
+    c.self.invariant in
+    rw (← c.self.view_is, c.extend.ensures) (c.payload_end-in-Err.ensures.counted _ _ first).1
+
 pub invariant_of-self-in-Err : goal.invariant_of-self-in-Err
-invariant_of-self-in-Err g c = grind (arith, nat_tests)
+invariant_of-self-in-Err g c =
+    let inside = c.self.inside in
+    let first = first_read _ (session_of inside).origin inside.terminator inside.log
+    c.self.invariant in
+    rw (c.fail.ensures, c.extend.ensures)
+    (c.payload_end-in-Err.ensures.counted inside.settings inside.log first).0
+
+pub returns-in_default-clause-counted : goal.returns-in_default-clause-counted
+returns-in_default-clause-counted g c =
+    let inside = c.self.inside in
+    let first = first_read _ (session_of inside).origin inside.terminator inside.log
+    c.self.invariant in
+    rw (← c.self.view_is, c.extend.ensures) (c.payload_end.ensures.counted _ _ first).1
+
+pub invariant_of-self : goal.invariant_of-self
+invariant_of-self g c =
+    let inside = c.self.inside in
+    let first = first_read _ (session_of inside).origin inside.terminator inside.log
+    c.self.invariant in
+    let counted = c.payload_end.ensures.counted inside.settings inside.log first in
+    grind (arith, nat_tests)
