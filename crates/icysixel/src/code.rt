@@ -98,7 +98,7 @@ pub fn code_of(error: &SixelError) -> u32
     }
 }
 
-/// The code of invalid data, by their text: that of malformed data, unless it is another one.
+/// The code of an invalid argument or of invalid data, by their text.
 fn text_code(text: &str) -> u32
     ensures fault { (fault : Fault) → text_of fault ≡ Some text.now → result ≡ fault_code fault }
     ensures count { text.now ≡ codes "number of colors is not 1 to 256" → result ≡ 20 }
@@ -109,17 +109,27 @@ fn text_code(text: &str) -> u32
     ensures refused { result ≢ 0 }
 {
     match text {
+        error::COLOR_COUNT => Code::ColorCount as u32,
+        error::INDEX_RANGE => Code::IndexRange as u32,
+        error::ROWS_NOT_FINAL => Code::RowsNotFinal as u32,
+        error::ROWS_RELEASED => Code::RowsReleased as u32,
+        error::SHORT_STRIDE => Code::BadStride as u32,
+        _ => data_code(text),
+    }
+}
+
+/// The code of invalid data, by their text: that of malformed data, unless it is another one.
+fn data_code(text: &str) -> u32
+    ensures fault { (fault : Fault) → text_of fault ≡ Some text.now → result ≡ fault_code fault }
+    ensures refused { result ≢ 0 }
+{
+    match text {
         error::TOO_LARGE => Code::TooLarge as u32,
         error::BAD_HEADER => Code::BadHeader as u32,
         error::MISSING_COMMAND => Code::MissingCommand as u32,
         error::INCOMPLETE => Code::Incomplete as u32,
         error::STREAM_FAILED => Code::StreamFailed as u32,
         error::DCS_STREAM_FAILED => Code::DcsStreamFailed as u32,
-        error::COLOR_COUNT => Code::ColorCount as u32,
-        error::INDEX_RANGE => Code::IndexRange as u32,
-        error::ROWS_NOT_FINAL => Code::RowsNotFinal as u32,
-        error::ROWS_RELEASED => Code::RowsReleased as u32,
-        error::SHORT_STRIDE => Code::BadStride as u32,
         _ => Code::Malformed as u32,
     }
 }

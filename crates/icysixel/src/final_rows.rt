@@ -79,6 +79,7 @@ pub extern "C" fn icysixel_release_rows(slot: &mut Slot, rows: usize) -> u32
 }
 
 /// Releases final rows of the image, if one is open.
+#[tactic(auto, using(std::proofs::lemmas::Bool::Decides::nat_tests))]
 fn release_rows(state: &mut State, rows: usize) -> u32
     ensures { AreRowsReleased state.old state.new rows result }
 {

@@ -33,6 +33,7 @@ pub extern "C" fn icysixel_finish(slot: &mut Slot, shape: &mut Shape) -> u32
 }
 
 /// Closes the image, if one is open, and replaces the stored one by it.
+#[tactic(auto, using(std::proofs::lemmas::Bool::Decides::nat_tests))]
 fn finish(state: &mut State, shape: &mut Shape) -> u32
     ensures finished { IsFinished state.old state.new shape.new result }
     ensures told { result ≢ 0 → shape.new ≡ shape.old }
@@ -69,6 +70,7 @@ pub extern "C" fn icysixel_copy_pixels(
 }
 
 /// Copies rows of the image, if one is stored.
+#[tactic(auto, using(std::proofs::lemmas::Bool::Decides::nat_tests))]
 fn copy_pixels(
     state: &State,
     first: usize,

@@ -38,6 +38,7 @@ pub extern "C" fn icysixel_decode(
 }
 
 /// Decodes on the decoder of the state.
+#[tactic(auto, using(std::proofs::lemmas::Bool::Decides::nat_tests))]
 fn decode(alloc: Global, state: &mut State, bytes: &[u8], shape: &mut Shape) -> u32
     ensures decoded { IsDecoded state.old state.new (found bytes.now) shape.new result }
     ensures told { result ≢ 0 → shape.new ≡ shape.old }
@@ -72,6 +73,7 @@ pub extern "C" fn icysixel_decode_payload(
 }
 
 /// Decodes a payload on the decoder of the state.
+#[tactic(auto, using(std::proofs::lemmas::Bool::Decides::nat_tests))]
 fn decode_payload(
     alloc: Global,
     state: &mut State,

@@ -37,6 +37,7 @@ impl Palette {
 }
 
 /// Writes the palette of pixels, its certificate and the index of each pixel.
+#[tactic(auto, using(std::proofs::lemmas::Bool::Decides::nat_tests))]
 #[unsafe(no_mangle)]
 pub extern "C" fn icysixel_choose_palette(
     alloc: Global,

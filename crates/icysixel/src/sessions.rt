@@ -172,6 +172,7 @@ fn feed(state: &mut State, piece: &[u8], fed: &mut Fed) -> u32
 /// Reads a chunk of any bytes.
 ///
 /// Out of line: inlined, a single byte saves and restores registers.
+#[tactic(auto, using(std::proofs::lemmas::Bool::Decides::nat_tests))]
 #[inline(never)]
 fn feed_chunk(state: &mut State, piece: &[u8], fed: &mut Fed) -> u32
     ensures fed { IsFed state.old state.new piece.now fed.new result }

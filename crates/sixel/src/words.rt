@@ -32,14 +32,17 @@ pub fn read_word(word: &str, a: Option<&str>, b: Option<&str>, c: Option<&str>) 
         (option_map (λ t. t.now) c.entry)) }
     ensures servable { IfSome result IsServable }
 {
-    match (word, a, b, c) {
-        ("payload", None, None, None) => Some(Word::Payload),
-        ("decode", None, None, None) => Some(Word::Decode),
-        ("frames", Some(len), None, None) => match number(len.as_bytes())? {
+    match (a, b, c) {
+        (None, None, None) => match word {
+            "payload" => Some(Word::Payload),
+            "decode" => Some(Word::Decode),
+            _ => None,
+        },
+        (Some(len), None, None) if word == "frames" => match number(len.as_bytes())? {
             0 => None,
             len => Some(Word::Frames(len)),
         },
-        ("encode", Some(width), Some(height), Some(colors)) => Some(Word::Encode(
+        (Some(width), Some(height), Some(colors)) if word == "encode" => Some(Word::Encode(
             number(width.as_bytes())?,
             number(height.as_bytes())?,
             number_within(colors, 0, 65535)? as u16,

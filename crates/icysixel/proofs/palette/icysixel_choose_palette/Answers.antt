@@ -1,7 +1,6 @@
 use Rattle.std.proofs.Common.{arith}
 use Rattle.icysixel.proofs.Witnesses.{length-entries, length-witnesses}
 use Rattle.icysixel.proofs.palette.icysixel_choose_palette.Goals as goal
-use Rattle.std.proofs.lemmas.Bool.Decides.{nat_tests}
 
 pub write_choice-requires : goal.write_choice-requires
 write_choice-requires c =
@@ -20,15 +19,6 @@ write_choice-requires c =
 pub returns-in-Ok-clause-palette : goal.returns-in-Ok-clause-palette
 returns-in-Ok-clause-palette c = λ _. rw c.write_choice.ensures.colors c.in-Ok.ensures.palette
 
-pub returns-in-Ok-clause-indices : goal.returns-in-Ok-clause-indices
-returns-in-Ok-clause-indices c = grind (arith, nat_tests)
-
-pub returns-in-Ok-clause-indices_after : goal.returns-in-Ok-clause-indices_after
-returns-in-Ok-clause-indices_after c = grind (arith, nat_tests)
-
-pub returns-in-Ok-clause-error : goal.returns-in-Ok-clause-error
-returns-in-Ok-clause-error c = grind (arith, nat_tests)
-
 pub returns-in-Ok-clause-occur : goal.returns-in-Ok-clause-occur
 returns-in-Ok-clause-occur c = λ _. rw c.write_choice.ensures.colors c.in-Ok.ensures.occur
 
@@ -36,29 +26,14 @@ pub returns-in-Ok-clause-complete : goal.returns-in-Ok-clause-complete
 returns-in-Ok-clause-complete c = λ n color _ size room shown.
     rw c.write_choice.ensures.colors (c.in-Ok.ensures.complete n size room color shown)
 
-pub returns-in-Ok-clause-empty : goal.returns-in-Ok-clause-empty
-returns-in-Ok-clause-empty c = grind (arith, nat_tests)
-
-pub returns-in-Ok-clause-witnesses : goal.returns-in-Ok-clause-witnesses
-returns-in-Ok-clause-witnesses c = grind (arith, nat_tests)
-
 pub returns-in-Ok-clause-witnesses_occur : goal.returns-in-Ok-clause-witnesses_occur
 returns-in-Ok-clause-witnesses_occur c = λ _.
     rw c.write_choice.ensures.witnesses c.in-Ok.ensures.witnesses_occur
-
-pub returns-in-Ok-clause-witnesses_apart : goal.returns-in-Ok-clause-witnesses_apart
-returns-in-Ok-clause-witnesses_apart c = grind (arith, nat_tests)
 
 pub returns-in-Ok-clause-bound : goal.returns-in-Ok-clause-bound
 returns-in-Ok-clause-bound c = λ color _ shown.
     rw (c.write_choice.ensures.color_count, c.write_choice.ensures.error)
     (c.in-Ok.ensures.bound color shown)
-
-pub returns-in-Ok-clause-colors : goal.returns-in-Ok-clause-colors
-returns-in-Ok-clause-colors c = grind (arith, nat_tests)
-
-pub returns-in-Ok-clause-witness_count : goal.returns-in-Ok-clause-witness_count
-returns-in-Ok-clause-witness_count c = grind (arith, nat_tests)
 
 pub returns-in-Ok-clause-colors_after : goal.returns-in-Ok-clause-colors_after
 returns-in-Ok-clause-colors_after c = λ _. c.write_choice.ensures.colors_after
