@@ -10,10 +10,9 @@ use crate::form::TextForm;
 use crate::given_palette::{encode_drawing, validate_source};
 use crate::source::Source;
 use sixel_base::Result;
-use sixel_palette::dithering::indices_from;
-use sixel_palette::dithering::mapped::MappedImage;
+use sixel_base::size::validate_color_count;
+use sixel_palette::dithering::map_to_refined;
 use sixel_palette::mapping::Mapping;
-use sixel_palette::palette::{RefinedPalette, refine_palette};
 use std::alloc::Global;
 
 /// Returns the SIXEL output of an image in a refined palette.
@@ -37,14 +36,8 @@ pub fn encode_refined(
         IsRefinedText (source_value source.now) max_colors mapping form (string_bytes text)) }
 {
     validate_source(source)?;
-    let palette = refine_palette(alloc, source.pixels, max_colors)?;
-    let RefinedPalette {
-        colors,
-        indices,
-        error,
-        ..
-    } = palette;
-    let image = MappedImage::plain(source.pixels, source.width, &colors);
-    let indices = indices_from(alloc, &image, indices, Some(error), mapping)?;
-    encode_drawing(alloc, source, &colors, &indices, form)
+    validate_color_count(usize::from(max_colors))?;
+    let room = usize::from(max_colors);
+    let refined = map_to_refined(alloc, source.pixels, source.width, room, mapping)?;
+    encode_drawing(alloc, source, &refined.colors, &refined.indices, form)
 }

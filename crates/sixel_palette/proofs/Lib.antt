@@ -25,6 +25,7 @@ pub mod PalettePages
 pub mod PaletteRanks
 pub mod PaletteRankPages
 pub mod PaletteRefined
+pub mod PaletteRefinement
 pub mod PaletteLanes
 pub mod PaletteRelaxation
 pub mod PaletteShown

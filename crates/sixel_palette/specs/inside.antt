@@ -9,6 +9,7 @@ pub mod PaletteTraversal
 pub mod PaletteCounts
 pub mod PaletteKeys
 pub mod PaletteAssignment
+pub mod PaletteRefinement
 pub mod PaletteBoxes
 pub mod PaletteSums
 pub mod PaletteBins

@@ -4,9 +4,10 @@ ghost use Rattle.std.specs.Prelude.{◌≡◌, ◌⊎◌, ℕ, ◌+◌, ◌*◌,
 ghost use Rattle.std.specs.Prelude.{List, length, slice_index, true};
 ghost use Rattle.std.specs.Int.{abs_diff};
 ghost use Rattle.sixel_base.specs.CallFault.{FailsBy};
+ghost use Rattle.sixel_base.specs.Limits.{area_limit};
 ghost use Rattle.sixel_base.specs.Size.{verdict};
 ghost use Rattle.sixel_palette.specs.Palette.{AreIndices, IsOpaque, color_at};
-ghost use Rattle.sixel_palette.specs.Refined.{opaque_pixels, summed_error};
+ghost use Rattle.sixel_palette.specs.Refined.{IsRefined, opaque_pixels, summed_error};
 ghost use Rattle.sixel_palette.specs.Dithering.{AreDithered, HasTarget, HaveTargets, Mapped};
 ghost use Rattle.sixel_palette.specs.Dithering.{before_share, below_share, errors_of, index_error};
 ghost use Rattle.sixel_palette.specs.Dithering.{indices_fault, mapped_of, next_share, no_error};
@@ -16,11 +17,13 @@ ghost use Rattle.sixel_palette.specs.Dithering.{tolerance_of, visit_error, whole
 ghost use Rattle.sixel_palette.specs.Gray.{is_gray, maps_grays, source_pixels};
 ghost use Rattle.sixel_palette.specs.GrayDiffusion.{AreGrays, level_gap};
 ghost use Rattle.sixel_palette.specs.inside.Mapped.{IsMappable, IsPlain};
-ghost use Rattle.sixel_palette.specs.inside.PaletteError.{IsKnown};
+ghost use Rattle.sixel_palette.specs.declared.palette.refined.RefinedPalette.{RefinedPalette};
+ghost use Rattle.sixel_palette.specs.inside.PaletteError.{HasNearest};
 
 mod diffusion;
 mod gray;
 pub mod mapped;
+mod nearest;
 mod ordered;
 mod palette_error;
 mod sixteen_entries;
@@ -30,11 +33,13 @@ use crate::dither::{Amplitude, Dither};
 use crate::dithering::diffusion::diffused_indices;
 use crate::dithering::gray::{gray_pixels, maps_grays};
 use crate::dithering::mapped::MappedImage;
+use crate::dithering::nearest::Nearest;
 use crate::dithering::ordered::ordered_indices;
 use crate::dithering::palette_error::{amplitude_of, tolerance_of};
 use crate::dithering::undithered::keep_entries;
 use crate::mapping::{Mapping, Tolerance};
 use crate::palette::nearest_indices::{color_bytes, nearest_indices};
+use crate::palette::refined::Refinement;
 use sixel_base::size::validate_color_count;
 use sixel_base::{Result, SixelError};
 use std::alloc::{AllocError, Global};
@@ -130,14 +135,45 @@ pub fn dithered_indices(
     searched_indices(alloc, &image, mapping)
 }
 
-/// Returns the palette index of each pixel of whole rows, whose nearest entries are known.
-///
-/// The summed squared error of the palette may be `known`, too.
-pub fn indices_from(
+/// A refined palette of an image, and the palette index of each pixel.
+#[derive(Drop)]
+pub struct RefinedMapping {
+    pub colors: Vec<[u8; 3]>,
+    pub indices: Vec<u8>,
+}
+
+/// Refines a palette of at most `room` entries for whole rows of pixels, and maps them to it.
+pub fn map_to_refined(
+    alloc: Global,
+    pixels: &[u8],
+    width: usize,
+    room: usize,
+    mapping: Mapping,
+) -> std::result::Result<RefinedMapping, AllocError>
+    requires width { 0 < width }
+    requires rows { length pixels.now ≡ whole_rows (length pixels.now) width }
+    requires area { length pixels.now / 4 ≤ area_limit }
+    requires some { 0 < room }
+    requires few { room ≤ 256 }
+    ensures refined { IfOk result (λ it. (palette : RefinedPalette)
+        × IsRefined pixels.now room palette × (palette.colors.items ≡ it.colors.items)) }
+    ensures dithered { IfOk result (λ it.
+        AreDithered mapping width pixels.now it.colors.items it.indices.items) }
+{
+    let refinement = Refinement::of(alloc, pixels, room)?;
+    let image = MappedImage::plain(pixels, width, &refinement.entries.colors);
+    let indices = indices_from(alloc, &image, Nearest::Refined(&refinement), mapping)?;
+    Ok(RefinedMapping {
+        colors: refinement.entries.colors,
+        indices,
+    })
+}
+
+/// Returns the palette index of each pixel of whole rows, by the nearest entries.
+fn indices_from(
     alloc: Global,
     image: &MappedImage<'_>,
-    nearest: Vec<u8>,
-    known: Option<u64>,
+    nearest: Nearest<'_>,
     mapping: Mapping,
 ) -> std::result::Result<Vec<u8>, AllocError>
     requires width { 0 < image.now.width }
@@ -145,19 +181,18 @@ pub fn indices_from(
         ≡ whole_rows (length image.now.pixels.now) image.now.width }
     requires few { length image.now.colors.now ≤ 256 }
     requires plain { IsPlain image.now }
-    requires nearest { AreIndices image.now.pixels.now image.now.colors.now nearest.items }
-    requires known { IsKnown image.now.colors.now image.now.pixels.now known }
+    requires nearest { HasNearest image.now nearest }
     ensures { IfOk result (λ indices.
         AreDithered mapping image.now.width image.now.pixels.now image.now.colors.now
         indices.items) }
 {
     if image.colors.is_empty() {
-        return Ok(nearest);
+        return Ok(nearest.indices(alloc, image)?);
     }
     if maps_grays(mapping.dither, image.colors) {
         dithered_indices(alloc, image, mapping)
     } else {
-        mapped_indices(alloc, image, nearest, known, mapping)
+        mapped_indices(alloc, image, nearest, mapping)
     }
 }
 
@@ -197,44 +232,40 @@ fn searched_indices(
         }
         _ => {
             let nearest = nearest_indices(alloc, image.pixels, image.colors)?;
-            mapped_indices(alloc, image, nearest, None, mapping)
+            mapped_indices(alloc, image, Nearest::Found(nearest), mapping)
         }
     }
 }
 
-/// Returns the index of each pixel for its target, if the nearest entries are known.
-///
-/// The summed squared error of the palette may be `known`, too.
+/// Returns the index of each pixel for its target, by the nearest entries.
 fn mapped_indices(
     alloc: Global,
     image: &MappedImage<'_>,
-    nearest: Vec<u8>,
-    known: Option<u64>,
+    nearest: Nearest<'_>,
     mapping: Mapping,
 ) -> std::result::Result<Vec<u8>, AllocError>
     requires image { IsMappable image.now }
     requires plain { IsPlain image.now }
-    requires nearest { AreIndices image.now.pixels.now image.now.colors.now nearest.items }
-    requires known { IsKnown image.now.colors.now image.now.pixels.now known }
+    requires nearest { HasNearest image.now nearest }
     ensures { IfOk result (λ indices.
         HaveTargets mapping image.now.width image.now.pixels.now image.now.colors.now
         indices.items) }
 {
     channel_bytes(image.pixels, image.colors);
-    let tolerance = tolerance_of(image, &nearest, known, mapping.tolerance);
+    let tolerance = tolerance_of(image, &nearest, mapping.tolerance);
     let image = MappedImage {
         tolerance,
         ..*image
     };
     match mapping.dither {
-        Dither::Off => Ok(keep_entries(&image, nearest)),
+        Dither::Off => Ok(keep_entries(&image, nearest.indices(alloc, &image)?)),
         Dither::Ordered { amplitude } => {
-            let amplitude = amplitude_of(&image, &nearest, known, amplitude);
+            let amplitude = amplitude_of(&image, &nearest, amplitude);
             ordered_indices(alloc, &MappedImage { amplitude, ..image })
         }
         // Each pixel's color is an entry, so there is nothing to pass on.
         Dither::Diffusion { .. } if tolerance == 0 && mapping.tolerance == Tolerance::Auto => {
-            Ok(nearest)
+            nearest.indices(alloc, &image)
         }
         Dither::Diffusion { strength } => {
             let strength = strength.clamp(1, 8);

@@ -28,7 +28,7 @@ mod lloyd;
 pub mod nearest;
 pub mod nearest_entry;
 pub mod nearest_indices;
-mod refined;
+pub mod refined;
 pub mod register_color;
 mod relaxation;
 mod spread;

@@ -1,8 +1,12 @@
 -- How code sees the error of a palette.
-use Rattle.std.specs.Prelude.{◌≡◌, ℕ, ◌*◌, ◌≤◌, List, Option, Some}
-use Rattle.sixel_palette.specs.Palette.{no_entry}
+use Rattle.std.specs.Prelude.{◌≡◌, ℕ, ◌*◌, ◌≤◌, List}
+use Rattle.sixel_palette.specs.Palette.{AreIndices, no_entry}
 use Rattle.sixel_palette.specs.Refined.{opaque_pixels, summed_error}
+use Rattle.sixel_palette.specs.declared.dithering.mapped.MappedImage.{MappedImage}
+use Rattle.sixel_palette.specs.declared.dithering.nearest.Nearest.{Nearest}
+use Rattle.sixel_palette.specs.declared.dithering.nearest.Nearest.TheVariants.{Found, Refined}
 use Rattle.sixel_palette.specs.declared.dithering.palette_error.PaletteError.{PaletteError}
+use Rattle.sixel_palette.specs.inside.PaletteRefinement.{IsRefinement}
 
 -- it is the summed error and the number of opaque pixels, each of which has a small error
 pub record IsErrorOf (colors : List (List ℕ)) (pixels : List ℕ) (error : PaletteError)
@@ -11,6 +15,9 @@ pub record IsErrorOf (colors : List (List ℕ)) (pixels : List ℕ) (error : Pal
   pub count : error.pixels ≡ opaque_pixels pixels (λ _. 1)
   pub small : error.sum ≤ no_entry * error.pixels
 
--- the summed error may be known
-abbrev pub IsKnown : List (List ℕ) → List ℕ → Option ℕ → Type 0
-IsKnown colors pixels known = (sum : ℕ) → known ≡ Some sum → sum ≡ summed_error colors pixels
+-- these are the palette indices of the pixels' nearest entries, or a refined palette has them
+abbrev pub HasNearest : MappedImage → Nearest → Type 0
+HasNearest image (Found indices) = AreIndices image.pixels.now image.colors.now indices.items
+HasNearest image (Refined refinement) =
+    (image.colors.now ≡ refinement.now.entries.colors.items)
+    × (room : ℕ) × IsRefinement image.pixels.now room refinement.now

@@ -4,10 +4,11 @@ ghost use Rattle.std.specs.Prelude.{◌≡◌, ◌*◌, ◌/◌, ◌≤◌, max}
 ghost use Rattle.sixel_palette.specs.Palette.{AreIndices, no_entry};
 ghost use Rattle.sixel_palette.specs.Refined.{opaque_pixels, summed_error};
 ghost use Rattle.sixel_palette.specs.Dithering.{amplitude_of, root, tolerance_of};
-ghost use Rattle.sixel_palette.specs.inside.PaletteError.{IsErrorOf, IsKnown};
+ghost use Rattle.sixel_palette.specs.inside.PaletteError.{HasNearest, IsErrorOf};
 
 use crate::dither::Amplitude;
 use crate::dithering::mapped::MappedImage;
+use crate::dithering::nearest::Nearest;
 use crate::mapping::Tolerance;
 use crate::palette::colors::is_opaque;
 use crate::palette::distance::distance;
@@ -22,18 +23,16 @@ struct PaletteError {
 /// Returns the tolerance for the palette of an image.
 pub fn tolerance_of(
     image: &MappedImage<'_>,
-    nearest: &[u8],
-    known: Option<u64>,
+    nearest: &Nearest<'_>,
     tolerance: Tolerance,
 ) -> u32
-    requires nearest { AreIndices image.now.pixels.now image.now.colors.now nearest.now }
-    requires known { IsKnown image.now.colors.now image.now.pixels.now known }
+    requires { HasNearest image.now nearest.now }
     ensures { result ≡ tolerance_of tolerance image.now.colors.now image.now.pixels.now }
 {
     match tolerance {
         Tolerance::Squared(squared) => squared,
         Tolerance::Auto => {
-            let error = palette_error(image, nearest, known);
+            let error = palette_error(image, nearest);
             if error.sum == 0 {
                 0
             } else {
@@ -46,41 +45,45 @@ pub fn tolerance_of(
 /// Returns the amplitude for the palette of an image.
 pub fn amplitude_of(
     image: &MappedImage<'_>,
-    nearest: &[u8],
-    known: Option<u64>,
+    nearest: &Nearest<'_>,
     amplitude: Amplitude,
 ) -> u8
-    requires nearest { AreIndices image.now.pixels.now image.now.colors.now nearest.now }
-    requires known { IsKnown image.now.colors.now image.now.pixels.now known }
+    requires { HasNearest image.now nearest.now }
     ensures { result ≡ amplitude_of amplitude image.now.colors.now image.now.pixels.now }
 {
     match amplitude {
         Amplitude::Levels(levels) => levels,
-        Amplitude::Auto => root(palette_error(image, nearest, known).mean()),
+        Amplitude::Auto => root(palette_error(image, nearest).mean()),
     }
 }
 
 /// Returns the error of the palette.
-fn palette_error(image: &MappedImage<'_>, nearest: &[u8], known: Option<u64>) -> PaletteError
-    requires nearest { AreIndices image.now.pixels.now image.now.colors.now nearest.now }
-    requires known { IsKnown image.now.colors.now image.now.pixels.now known }
+fn palette_error(image: &MappedImage<'_>, nearest: &Nearest<'_>) -> PaletteError
+    requires { HasNearest image.now nearest.now }
     ensures { IsErrorOf image.now.colors.now image.now.pixels.now result }
 {
     PaletteError {
-        sum: summed_error(image, nearest, known),
+        sum: summed_error(image, nearest),
         pixels: opaque_pixels(image.pixels),
     }
 }
 
-/// Returns the summed squared error of the palette, which may be known.
-fn summed_error(image: &MappedImage<'_>, nearest: &[u8], known: Option<u64>) -> u128
-    requires nearest { AreIndices image.now.pixels.now image.now.colors.now nearest.now }
-    requires known { IsKnown image.now.colors.now image.now.pixels.now known }
+/// Returns the summed squared error of the palette, which is known of a refined one.
+fn summed_error(image: &MappedImage<'_>, nearest: &Nearest<'_>) -> u128
+    requires { HasNearest image.now nearest.now }
     ensures { result ≡ summed_error image.now.colors.now image.now.pixels.now }
 {
-    if let Some(sum) = known {
-        return u128::from(sum);
+    match nearest {
+        Nearest::Found(indices) => index_error(image, indices),
+        Nearest::Refined(refinement) => u128::from(refinement.entries.error),
     }
+}
+
+/// Returns the summed squared distance of the pixels to their nearest entries.
+fn index_error(image: &MappedImage<'_>, nearest: &[u8]) -> u128
+    requires { AreIndices image.now.pixels.now image.now.colors.now nearest.now }
+    ensures { result ≡ summed_error image.now.colors.now image.now.pixels.now }
+{
     let mut sum = 0;
     for pixel in 0..nearest.len() {
         if is_opaque(image.pixels, pixel) {

@@ -7,21 +7,22 @@ ghost use Rattle.sixel_base.specs.Limits.{area_limit};
 ghost use Rattle.sixel_base.specs.CallFault.{FailsBy, ColorCount, color_count_fault};
 ghost use Rattle.sixel_base.specs.Fault.{IsFault, TooLarge};
 ghost use Rattle.sixel_palette.specs.PaletteBound.{IsLeastApart};
-ghost use Rattle.sixel_palette.specs.Palette.{IsShown};
+ghost use Rattle.sixel_palette.specs.Palette.{AreIndices};
 ghost use Rattle.sixel_palette.specs.Refined.{IsRegisterColor, register_color, IsRefined};
 ghost use Rattle.sixel_palette.specs.inside.PaletteAssignment.{IsStart, IsWeighed};
 ghost use Rattle.sixel_palette.specs.inside.PaletteBoxes.{binned_pixels};
 ghost use Rattle.sixel_palette.specs.inside.PaletteSums.{AreBinsOf, IsWholeBin, counted_pixels};
-ghost use Rattle.sixel_palette.specs.inside.PaletteCounts.{counted_error, AreCounts};
-ghost use Rattle.sixel_palette.specs.inside.PaletteCodes.{color_of, AreColorCodes, AreShownCodes};
-ghost use Rattle.sixel_palette.specs.inside.PaletteRanks.{IsRankBitmap};
+ghost use Rattle.sixel_palette.specs.inside.PaletteCounts.{counted_error};
+ghost use Rattle.sixel_palette.specs.inside.PaletteCodes.{color_of, AreColorCodes};
+ghost use Rattle.sixel_palette.specs.inside.PaletteRefinement.{AreRefinedEntries, IsRefinement};
 
 use crate::palette::assignment::{Assignment, assign, summed};
 use crate::palette::bins::{Bin, bins_of};
-use crate::palette::color_counts::{Counts, counts_of};
+use crate::palette::color_counts::counts_of;
+use crate::palette::color_set::rank_bitmap::RankBitmap;
 use crate::palette::colors::{color_of, shown_codes};
 use crate::palette::distance::distance;
-use crate::palette::farthest_on_top::add_farthest;
+use crate::palette::farthest_on_top::{Topped, add_farthest};
 use crate::palette::gain_cut::{box_colors, boxes_of, is_final};
 use crate::palette::indices::indices_by;
 use crate::palette::lloyd::improve;
@@ -49,6 +50,27 @@ pub struct RefinedPalette {
     pub witnesses: Vec<[u8; 3]>,
     /// The least squared distance of two witnesses, 0 without witnesses.
     pub apart: u32,
+}
+
+/// The entries of a refined palette, and the palette index of each color's nearest one.
+#[derive(Drop)]
+pub struct RefinedEntries {
+    pub colors: Vec<[u8; 3]>,
+    pub indices: Vec<u8>,
+    pub error: u64,
+    pub initial: Vec<[u8; 3]>,
+    pub witnesses: Vec<[u8; 3]>,
+    pub apart: u32,
+}
+
+/// A refined palette of an image whose pixels have no indices yet.
+///
+/// They are looked up by the codes of the image's colors and the ranks of these.
+#[derive(Drop)]
+pub struct Refinement {
+    pub entries: RefinedEntries,
+    pub codes: Vec<u32>,
+    pub ranks: RankBitmap,
 }
 
 /// The entries before the rounds, and each color's nearest one after them.
@@ -114,62 +136,108 @@ fn refined_of(
     requires room { room ≤ 256 }
     ensures { IfOk result (IsRefined pixels.now room) }
 {
-    let codes = shown_codes(alloc, pixels)?;
-    if codes.is_empty() {
-        return transparent(alloc, pixels);
-    }
-    let counted = counts_of(alloc, pixels, &codes)?;
-    refined_of_counts(alloc, pixels, &codes, &counted, room)
-}
-
-/// The refined palette from the codes and the counts of the opaque pixels' colors.
-fn refined_of_counts(
-    alloc: Global,
-    pixels: &[u8],
-    codes: &[u32],
-    counted: &Counts,
-    room: usize,
-) -> std::result::Result<RefinedPalette, AllocError>
-    requires area { length pixels.now / 4 ≤ area_limit }
-    requires some_room { 0 < room }
-    requires room { room ≤ 256 }
-    requires some { 0 < length codes.now }
-    requires codes { AreShownCodes pixels.now codes.now }
-    requires counts { AreCounts pixels.now codes.now counted.now.counts.items
-        (length pixels.now / 4) }
-    requires ranks { IsRankBitmap codes.now counted.now.ranks }
-    ensures { IfOk result (IsRefined pixels.now room) }
-{
-    let counts: &[u32] = &counted.counts;
-    let start = start_of(alloc, codes, counts, room)?;
-    let topped = add_farthest(alloc, codes, start.assignment, room)?;
-    let error = summed(counts, &topped.traversal.squares);
-    let color_indices: &[u8] = &topped.traversal.indices;
-    let indices = indices_by(alloc, pixels, codes, &counted.ranks, color_indices)?;
-    let apart = least_apart(&topped.witnesses);
+    let refinement = Refinement::of(alloc, pixels, room)?;
+    let indices = refinement.indices(alloc, pixels)?;
+    let entries = refinement.entries;
     Ok(RefinedPalette {
-        colors: topped.colors,
+        colors: entries.colors,
         indices,
-        error,
-        initial: start.initial,
-        witnesses: topped.witnesses,
-        apart,
+        error: entries.error,
+        initial: entries.initial,
+        witnesses: entries.witnesses,
+        apart: entries.apart,
     })
 }
 
-/// The palette of an image without an opaque pixel.
-fn transparent(alloc: Global, pixels: &[u8]) -> std::result::Result<RefinedPalette, AllocError>
-    requires { (c : List ℕ) → ¬ IsShown pixels.now c }
-    ensures { IfOk result (λ p. (room : ℕ) → IsRefined pixels.now room p) }
+impl Refinement {
+    /// Refines a palette of at most `room` entries for whole pixels.
+    pub fn of(
+        alloc: Global,
+        pixels: &[u8],
+        room: usize,
+    ) -> std::result::Result<Refinement, AllocError>
+        requires area { length pixels.now / 4 ≤ area_limit }
+        requires some { 0 < room }
+        requires room { room ≤ 256 }
+        ensures { IfOk result (IsRefinement pixels.now room) }
+    {
+        let codes = shown_codes(alloc, pixels)?;
+        let counted = counts_of(alloc, pixels, &codes)?;
+        let entries = refined_entries(alloc, &codes, &counted.counts, room)?;
+        Ok(Refinement {
+            entries,
+            codes,
+            ranks: counted.ranks,
+        })
+    }
+
+    /// The palette index of each pixel's nearest entry, the first of equals.
+    pub fn indices(
+        &self,
+        alloc: Global,
+        pixels: &[u8],
+    ) -> std::result::Result<Vec<u8>, AllocError>
+        requires { (room : ℕ) × IsRefinement pixels.now room self.now }
+        ensures { IfOk result
+            (λ indices. AreIndices pixels.now self.now.entries.colors.items indices.items) }
+    {
+        indices_by(
+            alloc,
+            pixels,
+            &self.codes,
+            &self.ranks,
+            &self.entries.indices,
+        )
+    }
+}
+
+/// The entries for the codes of an image's colors and their counts.
+fn refined_entries(
+    alloc: Global,
+    codes: &[u32],
+    counts: &[u32],
+    room: usize,
+) -> std::result::Result<RefinedEntries, AllocError>
+    requires some { 0 < room }
+    requires room { room ≤ 256 }
+    requires ascending { IsStrictlyIncreasing codes.now }
+    requires small { AreColorCodes codes.now }
+    requires weighed { IsWeighed codes.now counts.now }
+    ensures { IfOk result (AreRefinedEntries codes.now counts.now room) }
 {
-    Ok(RefinedPalette {
+    if codes.is_empty() {
+        return Ok(no_entries(alloc));
+    }
+    let start = start_of(alloc, codes, counts, room)?;
+    let topped = add_farthest(alloc, codes, start.assignment, room)?;
+    let Topped {
+        colors,
+        witnesses,
+        traversal,
+    } = topped;
+    Ok(RefinedEntries {
+        error: summed(counts, &traversal.squares),
+        apart: least_apart(&witnesses),
+        colors,
+        indices: traversal.indices,
+        initial: start.initial,
+        witnesses,
+    })
+}
+
+/// The entries for an image without an opaque pixel.
+fn no_entries(alloc: Global) -> RefinedEntries
+    ensures { (codes counts : List ℕ) (room : ℕ) → length codes ≡ 0
+        → AreRefinedEntries codes counts room result }
+{
+    RefinedEntries {
         colors: Vec::new(alloc),
-        indices: vec![in alloc; 0; pixels.len() / 4]?,
+        indices: Vec::new(alloc),
         error: 0,
         initial: Vec::new(alloc),
         witnesses: Vec::new(alloc),
         apart: 0,
-    })
+    }
 }
 
 /// The entries to begin with: one for each color if there is room, or those of a gain cut.

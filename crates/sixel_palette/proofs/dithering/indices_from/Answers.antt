@@ -15,7 +15,7 @@ returns-then-is_empty c =
     let is = IsSource-pixels c.args.mapping.dither colors pixels in
     let m = mapped_of c.args.mapping image.width s colors in
     let none : length colors ≡ 0 = grind (arith, nat_tests) in
-    AreMapped-none m (target_of c.args.mapping.dither m c.args.nearest.items)
-    c.args.nearest.items
+    AreMapped-none m (target_of c.args.mapping.dither m c.in_ok-indices.field-0.items)
+    c.in_ok-indices.field-0.items
     (grind (arith, nat_tests, AreRowsOf-source))
     none (grind (arith, nat_tests))

@@ -6,10 +6,11 @@ use Rattle.sixel_palette.proofs.DiffusionLaws.{AreMapped-diffused}
 use Rattle.sixel_palette.proofs.DitheredIndices.{AreRows}
 use Rattle.sixel_palette.proofs.PaletteError.{error-none, held-none}
 use Rattle.std.proofs.lemmas.Bool.Decides.{nat_tests}
+use Rattle.std.proofs.lemmas.Result.{IfOk-weaker}
 use Rattle.sixel_palette.proofs.dithering.mapped_indices.Goals as goal
 
-pub returns-in-Off : goal.returns-in-Off
-returns-in-Off c = grind (arith, nat_tests)
+pub returns-in_ok-indices-in-Off : goal.returns-in_ok-indices-in-Off
+returns-in_ok-indices-in-Off c = grind (arith, nat_tests)
 
 pub returns-in-Ordered : goal.returns-in-Ordered
 returns-in-Ordered c = grind (arith, nat_tests)
@@ -25,11 +26,12 @@ returns-in-Diffusion c =
     let m = mapped_of c.args.mapping image.width pixels colors in
     let three = c.channel_bytes.ensures.three in
     let rows : AreRows m = grind (arith, nat_tests) in
-    subst
-    (λ (d : Dither). AreMapped m (target_of d m c.args.nearest.items) c.args.nearest.items)
-    (sym c.in-Diffusion.is) (AreMapped-diffused m c.args.nearest.items rows
+    IfOk-weaker c.indices-in-Diffusion.result _ _ (λ indices are.
+    subst (λ (d : Dither). AreMapped m (target_of d m indices.items) indices.items)
+    (sym c.in-Diffusion.is) (AreMapped-diffused m indices.items rows
     (record { three = three; bytes = c.channel_bytes.ensures.bytes })
-    (held-none colors pixels three (error-none colors pixels none)) exact c.requires.nearest)
+    (held-none colors pixels three (error-none colors pixels none)) exact are))
+    c.indices-in-Diffusion.ensures
 
 pub returns-in-Diffusion-2 : goal.returns-in-Diffusion-2
 returns-in-Diffusion-2 c = grind (arith, nat_tests)

@@ -1,13 +1,10 @@
-use Rattle.std.proofs.Common.{◌≡◌, length, arith}
+use Rattle.std.proofs.Common.{refl, arith}
+use Rattle.sixel_palette.proofs.PaletteRefinement.{refinement-palette}
 use Rattle.sixel_palette.proofs.palette.refined.refined_of.Goals as goal
 
-pub transparent-requires : goal.transparent-requires
-transparent-requires c = λ c' m.
-    let h = c.in_ok-codes.ensures.shown c' m in
-    let l = h.1 in
-    let e : length c.in_ok-codes.codes.items ≡ 0 = grind arith in
-    absurd (omega (arith, l, e))
-
-pub counts_of-requires-clause-listed : goal.counts_of-requires-clause-listed
-counts_of-requires-clause-listed c = λ c' m.
-    rw c.deref.ensures.value (c.in_ok-codes.ensures.shown c' m)
+pub returns : goal.returns
+returns c =
+    refinement-palette c.args.pixels.now c.args.room c.in_ok-refinement.refinement
+    (λ k. omega (arith, c.type_inv.pixels k)) c.in_ok-refinement.ensures _
+    (record { colors = refl; error = refl; initial = refl; witnesses = refl; apart = refl })
+    c.in_ok-indices.ensures

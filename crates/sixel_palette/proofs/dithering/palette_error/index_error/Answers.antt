@@ -4,7 +4,7 @@ use Rattle.sixel_palette.proofs.PaletteSums.{sum_to-more}
 use Rattle.sixel_palette.proofs.KeptEntries.{nearest-distance}
 use Rattle.sixel_palette.proofs.PaletteError.{number-light}
 use Rattle.std.proofs.lemmas.Bool.Decides.{nat_tests}
-use Rattle.sixel_palette.proofs.dithering.palette_error.summed_error.Goals as goal
+use Rattle.sixel_palette.proofs.dithering.palette_error.index_error.Goals as goal
 
 pub loop-pixel-init : goal.loop-pixel-init
 unfolding sum_to
@@ -12,7 +12,7 @@ loop-pixel-init c = record { sum = refl; small = omega arith }
 
 pub loop-pixel-preserved : goal.loop-pixel-preserved
 loop-pixel-preserved c =
-    let near = c.requires.nearest in
+    let near = c.requires in
     let opaque = c.is_opaque.ensures.opaque in
     grind (arith, nat_tests, near.opaque, sum_to-more, nearest-distance, number-light)
 

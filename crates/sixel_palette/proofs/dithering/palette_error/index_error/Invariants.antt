@@ -1,7 +1,7 @@
 use Rattle.std.proofs.Common.{◌≡◌, ◌*◌, ◌≤◌}
 use Rattle.sixel_palette.specs.Palette.{nearest, no_entry}
 use Rattle.sixel_palette.specs.Refined.{opaque_number, sum_to}
-use Rattle.sixel_palette.proofs.dithering.palette_error.summed_error.Given as goal
+use Rattle.sixel_palette.proofs.dithering.palette_error.index_error.Given as goal
 
 abbrev pub invariant-loop-pixel : goal.invariant-loop-pixel
 invariant-loop-pixel l = record {

@@ -1,0 +1,14 @@
+use Rattle.std.proofs.Common.{◌≡◌, arith}
+use Rattle.sixel_palette.proofs.GraySource.{dithered-count}
+use Rattle.sixel_palette.proofs.PaletteRefinement.{refinement-some}
+use Rattle.sixel_palette.proofs.dithering.map_to_refined.Goals as goal
+
+pub returns-clause-refined : goal.returns-clause-refined
+returns-clause-refined c =
+    let image = c.plain-image.result in
+    let indices = c.in_ok-indices.indices in
+    refinement-some c.args.pixels.now c.args.room c.in_ok-refinement.refinement
+    (λ k. omega (arith, c.type_inv.pixels k)) c.in_ok-refinement.ensures
+    indices (rw c.plain-image.ensures.pixels at
+    (dithered-count c.args.mapping image.width image.pixels.now image.colors.now indices.items
+    c.in_ok-indices.ensures))

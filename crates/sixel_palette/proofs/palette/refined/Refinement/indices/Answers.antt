@@ -1,0 +1,18 @@
+use Rattle.std.proofs.Common.{◌≡◌, arith}
+use Rattle.std.proofs.lemmas.Result.{IfOk-weaker}
+use Rattle.sixel_palette.proofs.PaletteRefinement.{refinement-below}
+use Rattle.sixel_palette.proofs.palette.refined.Refinement.indices.Goals as goal
+
+pub indices_by-requires-clause-listed : goal.indices_by-requires-clause-listed
+indices_by-requires-clause-listed c = rw c.deref.ensures.value c.requires.1.codes.shown
+
+pub returns : goal.returns
+returns c =
+    let (room, is) = c.requires in
+    let below =
+    refinement-below c.args.pixels.now room c.args.self.now
+    (λ k. omega (arith, c.type_inv.pixels k)) is in
+    IfOk-weaker c.indices_by.result _ _
+    (λ indices each. each c.args.self.now.entries.colors.items is.entries.squares
+    (rw (c.deref.ensures.value, c.deref-2.ensures.value) is.entries.nearest) below)
+    c.indices_by.ensures

@@ -1,0 +1,57 @@
+-- A refined palette whose pixels have no indices yet, by the codes of the image's colors and their
+-- counts.
+use Rattle.std.specs.Prelude.{◌≡◌, ℕ, ◌/◌, ◌<◌, ◌≤◌, List, map, length, All}
+use Rattle.sixel_base.specs.Limits.{area_limit}
+use Rattle.sixel_palette.specs.declared.palette.refined.RefinedEntries.{RefinedEntries}
+use Rattle.sixel_palette.specs.declared.palette.refined.RefinedPalette.{RefinedPalette}
+use Rattle.sixel_palette.specs.declared.palette.refined.Refinement.{Refinement}
+use Rattle.sixel_palette.specs.PaletteBound.{IsLeastApart}
+use Rattle.sixel_palette.specs.Refined.{AreOnTop, IsRegisterColor, base_entries, cut_entries}
+use Rattle.sixel_palette.specs.Refined.{register_color}
+use Rattle.sixel_palette.specs.inside.PaletteCodes.{AreShownCodes, IsListed, color_of}
+use Rattle.sixel_palette.specs.inside.PaletteCounts.{AreCounts, counted_error}
+use Rattle.sixel_palette.specs.inside.PaletteNearest.{AreNearest}
+use Rattle.sixel_palette.specs.inside.PaletteRanks.{IsRankBitmap}
+use Rattle.sixel_palette.specs.inside.PaletteSums.{counted_pixels}
+
+-- the entries are refined for these codes and counts
+pub record AreRefinedEntries (codes counts : List ℕ) (room : ℕ) (entries : RefinedEntries)
+    : Type 0 where
+  pub shown : All IsRegisterColor entries.colors.items
+  pub few : length entries.colors.items ≤ room
+  pub some : 0 < length codes → 0 < length entries.colors.items
+  pub initial_shown : All IsRegisterColor entries.initial.items
+  pub initial_few : length entries.initial.items ≤ room
+  -- before the rounds, and after them
+  pub base : List (List ℕ)
+  pub whole : length codes ≤ room
+      → (entries.initial.items ≡ map (λ code. register_color (color_of code)) codes)
+      × (base ≡ map (λ code. register_color (color_of code)) codes)
+  pub cut : room < length codes
+      → (entries.initial.items ≡ cut_entries (counted_pixels codes counts) room)
+      × (base ≡ base_entries (counted_pixels codes counts) room)
+  pub falls : counted_error base codes counts ≤ counted_error entries.initial.items codes counts
+  pub top : AreOnTop (IsListed codes) room base entries.colors.items entries.witnesses.items
+  -- each code has the palette index of its color's nearest entry
+  pub same : length entries.indices.items ≡ length codes
+  pub squares : List ℕ
+  pub nearest : AreNearest entries.colors.items codes squares entries.indices.items
+  pub error : entries.error ≡ counted_error entries.colors.items codes counts
+  pub apart : IsLeastApart entries.witnesses.items entries.apart
+
+-- the palette is refined for the image
+pub record IsRefinement (pixels : List ℕ) (room : ℕ) (it : Refinement) : Type 0 where
+  pub area : length pixels / 4 ≤ area_limit
+  pub codes : AreShownCodes pixels it.codes.items
+  pub ranks : IsRankBitmap it.codes.items it.ranks
+  pub counts : List ℕ
+  pub counted : AreCounts pixels it.codes.items counts (length pixels / 4)
+  pub entries : AreRefinedEntries it.codes.items counts room it.entries
+
+-- the palette has these entries
+pub record HasEntries (entries : RefinedEntries) (palette : RefinedPalette) : Type 0 where
+  pub colors : palette.colors.items ≡ entries.colors.items
+  pub error : palette.error ≡ entries.error
+  pub initial : palette.initial.items ≡ entries.initial.items
+  pub witnesses : palette.witnesses.items ≡ entries.witnesses.items
+  pub apart : palette.apart ≡ entries.apart
