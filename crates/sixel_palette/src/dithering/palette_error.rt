@@ -21,11 +21,7 @@ struct PaletteError {
 }
 
 /// Returns the tolerance for the palette of an image.
-pub fn tolerance_of(
-    image: &MappedImage<'_>,
-    nearest: &Nearest<'_>,
-    tolerance: Tolerance,
-) -> u32
+pub fn tolerance_of(image: &MappedImage<'_>, nearest: &Nearest<'_>, tolerance: Tolerance) -> u32
     requires { HasNearest image.now nearest.now }
     ensures { result ≡ tolerance_of tolerance image.now.colors.now image.now.pixels.now }
 {
@@ -43,11 +39,7 @@ pub fn tolerance_of(
 }
 
 /// Returns the amplitude for the palette of an image.
-pub fn amplitude_of(
-    image: &MappedImage<'_>,
-    nearest: &Nearest<'_>,
-    amplitude: Amplitude,
-) -> u8
+pub fn amplitude_of(image: &MappedImage<'_>, nearest: &Nearest<'_>, amplitude: Amplitude) -> u8
     requires { HasNearest image.now nearest.now }
     ensures { result ≡ amplitude_of amplitude image.now.colors.now image.now.pixels.now }
 {

@@ -7,12 +7,13 @@ ghost use Rattle.sixel_base.specs.Limits.{area_limit};
 ghost use Rattle.sixel_palette.specs.Palette.{IsShown};
 ghost use Rattle.sixel_palette.specs.inside.PaletteCodes.{IsListed, AreColorCodes};
 ghost use Rattle.sixel_palette.specs.inside.PaletteCodes.{AreFourWords, IsPixelWord};
-ghost use Rattle.sixel_palette.specs.inside.PaletteCounts.{AreCounts, HasPosition, IsRankingOf};
+ghost use Rattle.sixel_palette.specs.inside.PaletteCounts.{AreCounts, HasPosition};
+ghost use Rattle.sixel_palette.specs.inside.PaletteCounts.{IsPositionOf, IsRankingOf};
 ghost use Rattle.sixel_palette.specs.inside.PaletteRanks.{IsRankBitmap};
 
 use crate::palette::color_set::rank_bitmap::RankBitmap;
 use crate::palette::colors::{are_four_of, pixel_word};
-use crate::palette::indices::four_words;
+use crate::palette::indices::{are_opaque, four_words};
 use std::alloc::{AllocError, Global};
 
 /// The pixels of each distinct color, and the ranks of the colors.
@@ -90,6 +91,18 @@ impl Ranking<'_> {
         ensures counts { AreCounts pixels.now self.now.codes.now counts.new (pixel + 4) }
         ensures position { HasPosition self.now.codes.now (slice_index words 3) result }
     {
+        if are_opaque(words) {
+            // The positions come first, so that no look-up waits for a count.
+            let first = self.ranks.position_of(self.codes, words[0] / 256);
+            let second = self.ranks.position_of(self.codes, words[1] / 256);
+            let third = self.ranks.position_of(self.codes, words[2] / 256);
+            let fourth = self.ranks.position_of(self.codes, words[3] / 256);
+            self.count_at(counts, pixels, pixel, first);
+            self.count_at(counts, pixels, pixel + 1, second);
+            self.count_at(counts, pixels, pixel + 2, third);
+            self.count_at(counts, pixels, pixel + 3, fourth);
+            return fourth;
+        }
         self.count_word(counts, pixels, pixel, words[0]);
         self.count_word(counts, pixels, pixel + 1, words[1]);
         self.count_word(counts, pixels, pixel + 2, words[2]);
@@ -111,7 +124,19 @@ impl Ranking<'_> {
             return 0;
         }
         let position = self.ranks.position_of(self.codes, word / 256);
-        counts[position] += 1;
+        self.count_at(counts, pixels, pixel, position);
         position
+    }
+
+    /// Counts an opaque pixel whose color is at this position.
+    #[inline(always)]
+    fn count_at(&self, counts: &mut [u32], pixels: &[u8], pixel: usize, position: usize)
+        requires area { length pixels.now / 4 ≤ area_limit }
+        requires within { pixel < length pixels.now / 4 }
+        requires position { IsPositionOf pixels.now self.now.codes.now pixel position }
+        requires counts { AreCounts pixels.now self.now.codes.now counts.old pixel }
+        ensures { AreCounts pixels.now self.now.codes.now counts.new (pixel + 1) }
+    {
+        counts[position] += 1;
     }
 }

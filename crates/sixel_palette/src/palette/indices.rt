@@ -133,7 +133,7 @@ impl LookUp<'_> {
 
 /// Returns whether four pixels of these words are all opaque.
 #[inline(always)]
-fn are_opaque(words: [u32; 4]) -> bool
+pub fn are_opaque(words: [u32; 4]) -> bool
     ensures { IsTrue result → (k : ℕ) → k < 4 → 128 ≤ slice_index words k % 256 }
 {
     let first = words[0] % 256 >= 128;

@@ -172,11 +172,7 @@ impl Refinement {
     }
 
     /// The palette index of each pixel's nearest entry, the first of equals.
-    pub fn indices(
-        &self,
-        alloc: Global,
-        pixels: &[u8],
-    ) -> std::result::Result<Vec<u8>, AllocError>
+    pub fn indices(&self, alloc: Global, pixels: &[u8]) -> std::result::Result<Vec<u8>, AllocError>
         requires { (room : ℕ) × IsRefinement pixels.now room self.now }
         ensures { IfOk result
             (λ indices. AreIndices pixels.now self.now.entries.colors.items indices.items) }

@@ -1,4 +1,4 @@
-use Rattle.std.proofs.Common.{◌≡◌, arith}
+use Rattle.std.proofs.Common.{arith}
 use Rattle.sixel_palette.proofs.GraySource.{dithered-count}
 use Rattle.sixel_palette.proofs.PaletteRefinement.{refinement-some}
 use Rattle.sixel_palette.proofs.dithering.map_to_refined.Goals as goal

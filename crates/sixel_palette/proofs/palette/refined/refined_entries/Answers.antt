@@ -1,4 +1,4 @@
-use Rattle.std.proofs.Common.{◌<◌, length, ◌∙◌, arith}
+use Rattle.std.proofs.Common.{◌∙◌, arith}
 use Rattle.sixel_palette.proofs.PaletteCounts.{error_is, error-small}
 use Rattle.sixel_palette.proofs.PaletteTops.{tops_longer}
 use Rattle.sixel_palette.proofs.palette.refined.refined_entries.Goals as goal

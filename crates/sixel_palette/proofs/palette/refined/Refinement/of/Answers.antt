@@ -1,4 +1,3 @@
-use Rattle.std.proofs.Common.{◌≡◌, arith}
 use Rattle.sixel_palette.proofs.PaletteCounts.{weighed_from_counts}
 use Rattle.sixel_palette.proofs.palette.refined.Refinement.of.Goals as goal
 
