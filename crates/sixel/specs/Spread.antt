@@ -34,7 +34,7 @@ exact_pixel pixels colors indices pixel =
     else if is_alike (color_at pixels pixel)
     (slice_index_or colors (slice_index indices pixel) []) then 1 else 0
 
--- Flat art: at least half of the opaque pixels have exactly the colors of their entries. In a
+-- Flat art: at least a quarter of the opaque pixels have exactly the colors of their entries. In a
 -- palette of all colors all of them have.
 abbrev pub is_flat : List ℕ → List (List ℕ) → List ℕ → Bool
 is_flat pixels colors indices =

@@ -39,15 +39,28 @@ counts-once counts (suc n) l =
     let all = sum_to-more (λ k. get_or counts k 0 * 1) n in
     rw next (omega (arith, counts-once counts n (omega arith)))
 
+-- the counts add up to the number of opaque pixels
+pub counts-sum : (pixels codes counts : List ℕ) (n : ℕ) → AreCounts pixels codes counts n
+    → sum counts ≡ sum_to (opaque_number (λ _. 1) pixels) n
+counts-sum pixels codes counts n h =
+    let once = counts-once counts (length counts) (omega arith) in
+    let all = h.sums (λ _. 1) in
+    grind (arith, h.same, take_all)
+
 -- there are no more pixels than there are
 pub weighed_from_counts : (pixels codes counts : List ℕ)
     → AreCounts pixels codes counts (length pixels / 4) → length pixels / 4 ≤ area_limit
     → IsWeighed codes counts
 weighed_from_counts pixels codes counts h area =
-    let once = counts-once counts (length counts) (omega arith) in
-    let all = h.sums (λ _. 1) in
-    let le = opaque-le pixels (length pixels / 4) in
-    record { same = h.same; few = grind (arith, take_all) }
+    record {
+      same = h.same;
+      few =
+          omega (
+            arith,
+            counts-sum pixels codes counts (length pixels / 4) h,
+            opaque-le pixels (length pixels / 4),
+          );
+    }
 
 -- numbers of at most m, each as often as it is counted
 counted-le : (counts : List ℕ) (f : ℕ → ℕ) (m n : ℕ) → ((k : ℕ) → f k ≤ m) → n ≤ length counts

@@ -1,7 +1,7 @@
 //! Palette indices of an image's pixels in a given palette.
 
 ghost use Rattle.std.specs.Prelude.{◌≡◌, ◌⊎◌, ℕ, ◌+◌, ◌*◌, ◌/◌, ◌<◌, ◌≤◌, All, Contains, IfOk};
-ghost use Rattle.std.specs.Prelude.{List, length, slice_index, true};
+ghost use Rattle.std.specs.Prelude.{List, OnOk, length, slice_index, true};
 ghost use Rattle.std.specs.Int.{abs_diff};
 ghost use Rattle.sixel_base.specs.CallFault.{FailsBy};
 ghost use Rattle.sixel_base.specs.Limits.{area_limit};
@@ -155,6 +155,7 @@ pub fn map_to_refined(
     requires area { length pixels.now / 4 ≤ area_limit }
     requires some { 0 < room }
     requires few { room ≤ 256 }
+    ensures bytes { OnOk result (All (λ byte. byte < 256) pixels.now) }
     ensures refined { IfOk result (λ it. (palette : RefinedPalette)
         × IsRefined pixels.now room palette × (palette.colors.items ≡ it.colors.items)) }
     ensures dithered { IfOk result (λ it.

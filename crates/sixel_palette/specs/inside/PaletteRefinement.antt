@@ -1,6 +1,7 @@
 -- A refined palette whose pixels have no indices yet, by the codes of the image's colors and their
 -- counts.
 use Rattle.std.specs.Prelude.{◌≡◌, ℕ, ◌/◌, ◌<◌, ◌≤◌, List, map, length, All}
+use Rattle.std.specs.List.{sum}
 use Rattle.sixel_base.specs.Limits.{area_limit}
 use Rattle.sixel_palette.specs.declared.palette.refined.RefinedEntries.{RefinedEntries}
 use Rattle.sixel_palette.specs.declared.palette.refined.RefinedPalette.{RefinedPalette}
@@ -37,6 +38,7 @@ pub record AreRefinedEntries (codes counts : List ℕ) (room : ℕ) (entries : R
   pub squares : List ℕ
   pub nearest : AreNearest entries.colors.items codes squares entries.indices.items
   pub error : entries.error ≡ counted_error entries.colors.items codes counts
+  pub opaque : entries.opaque ≡ sum counts
   pub apart : IsLeastApart entries.witnesses.items entries.apart
 
 -- the palette is refined for the image

@@ -49,25 +49,20 @@ pub fn amplitude_of(image: &MappedImage<'_>, nearest: &Nearest<'_>, amplitude: A
     }
 }
 
-/// Returns the error of the palette.
+/// Returns the error of the palette, which is known of a refined one.
 fn palette_error(image: &MappedImage<'_>, nearest: &Nearest<'_>) -> PaletteError
     requires { HasNearest image.now nearest.now }
     ensures { IsErrorOf image.now.colors.now image.now.pixels.now result }
 {
-    PaletteError {
-        sum: summed_error(image, nearest),
-        pixels: opaque_pixels(image.pixels),
-    }
-}
-
-/// Returns the summed squared error of the palette, which is known of a refined one.
-fn summed_error(image: &MappedImage<'_>, nearest: &Nearest<'_>) -> u128
-    requires { HasNearest image.now nearest.now }
-    ensures { result ≡ summed_error image.now.colors.now image.now.pixels.now }
-{
     match nearest {
-        Nearest::Found(indices) => index_error(image, indices),
-        Nearest::Refined(refinement) => u128::from(refinement.entries.error),
+        Nearest::Found(indices) => PaletteError {
+            sum: index_error(image, indices),
+            pixels: opaque_pixels(image.pixels),
+        },
+        Nearest::Refined(refinement) => PaletteError {
+            sum: u128::from(refinement.entries.error),
+            pixels: refinement.entries.opaque,
+        },
     }
 }
 

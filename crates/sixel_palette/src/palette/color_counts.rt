@@ -2,6 +2,7 @@
 
 ghost use Rattle.std.specs.Prelude.{◌≡◌, ◌+◌, ◌*◌, ◌/◌, ◌<◌, ◌≤◌, ℕ, List, length, IfOk};
 ghost use Rattle.std.specs.Prelude.{slice_index};
+ghost use Rattle.std.specs.List.{sum};
 ghost use Rattle.std.specs.List.Sorted.{IsStrictlyIncreasing};
 ghost use Rattle.sixel_base.specs.Limits.{area_limit};
 ghost use Rattle.sixel_palette.specs.Palette.{IsShown};
@@ -50,6 +51,19 @@ pub fn counts_of(alloc: Global, pixels: &[u8], codes: &[u32]) -> Result<Counts, 
     };
     ranking.count_pixels(&mut counts, pixels);
     Ok(Counts { counts, ranks })
+}
+
+/// The sum of the counts.
+#[inline(never)]
+pub fn total_of(counts: &[u32]) -> u64
+    requires { sum counts.now ≤ area_limit }
+    ensures { result ≡ sum counts.now }
+{
+    let mut total = 0;
+    for count in counts {
+        total += u64::from(*count);
+    }
+    total
 }
 
 impl Ranking<'_> {

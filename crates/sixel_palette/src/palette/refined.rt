@@ -18,7 +18,7 @@ ghost use Rattle.sixel_palette.specs.inside.PaletteRefinement.{AreRefinedEntries
 
 use crate::palette::assignment::{Assignment, assign, summed};
 use crate::palette::bins::{Bin, bins_of};
-use crate::palette::color_counts::counts_of;
+use crate::palette::color_counts::{counts_of, total_of};
 use crate::palette::color_set::rank_bitmap::RankBitmap;
 use crate::palette::colors::{color_of, shown_codes};
 use crate::palette::distance::distance;
@@ -58,6 +58,8 @@ pub struct RefinedEntries {
     pub colors: Vec<[u8; 3]>,
     pub indices: Vec<u8>,
     pub error: u64,
+    /// How many pixels are opaque.
+    pub opaque: u64,
     pub initial: Vec<[u8; 3]>,
     pub witnesses: Vec<[u8; 3]>,
     pub apart: u32,
@@ -213,6 +215,7 @@ fn refined_entries(
     } = topped;
     Ok(RefinedEntries {
         error: summed(counts, &traversal.squares),
+        opaque: total_of(counts),
         apart: least_apart(&witnesses),
         colors,
         indices: traversal.indices,
@@ -223,13 +226,14 @@ fn refined_entries(
 
 /// The entries for an image without an opaque pixel.
 fn no_entries(alloc: Global) -> RefinedEntries
-    ensures { (codes counts : List ℕ) (room : ℕ) → length codes ≡ 0
+    ensures { (codes counts : List ℕ) (room : ℕ) → length codes ≡ 0 → length counts ≡ 0
         → AreRefinedEntries codes counts room result }
 {
     RefinedEntries {
         colors: Vec::new(alloc),
         indices: Vec::new(alloc),
         error: 0,
+        opaque: 0,
         initial: Vec::new(alloc),
         witnesses: Vec::new(alloc),
         apart: 0,

@@ -1,7 +1,12 @@
 use Rattle.std.proofs.Common.{arith}
+use Rattle.std.proofs.lemmas.List.{get_or_default}
 use Rattle.sixel_palette.proofs.GraySource.{dithered-count}
 use Rattle.sixel_palette.proofs.PaletteRefinement.{refinement-some}
 use Rattle.sixel_palette.proofs.dithering.map_to_refined.Goals as goal
+
+pub returns-clause-bytes : goal.returns-clause-bytes
+returns-clause-bytes c = λ k d inside.
+    omega (arith, get_or_default c.args.pixels.now k d 0 inside, c.type_inv.pixels k)
 
 pub returns-clause-refined : goal.returns-clause-refined
 returns-clause-refined c =

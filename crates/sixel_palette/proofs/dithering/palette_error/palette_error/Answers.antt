@@ -1,7 +1,14 @@
-use Rattle.std.proofs.Common.{arith}
+use Rattle.std.proofs.Common.{arith, sym, ◌∙◌}
+use Rattle.sixel_palette.proofs.PaletteCounts.{counts-sum}
 use Rattle.sixel_palette.proofs.PaletteError.{error-small}
+use Rattle.sixel_palette.proofs.PaletteRefinement.{refinement-error}
 use Rattle.std.proofs.lemmas.Bool.Decides.{nat_tests}
 use Rattle.sixel_palette.proofs.dithering.palette_error.palette_error.Goals as goal
 
-pub returns : goal.returns
-returns c = grind (arith, nat_tests, c.summed_error.ensures, c.opaque_pixels.ensures, error-small)
+pub returns-in-Found : goal.returns-in-Found
+returns-in-Found c =
+    grind (arith, nat_tests, c.index_error.ensures, c.opaque_pixels.ensures, error-small)
+
+pub returns-in-Refined : goal.returns-in-Refined
+returns-in-Refined c =
+    grind (arith, nat_tests, c.from.ensures, refinement-error, counts-sum, error-small)

@@ -6,7 +6,7 @@ use Rattle.sixel_palette.proofs.palette.refined.no_entries.Goals as goal
 
 pub returns : goal.returns
 unfolding sum_to
-returns c = λ codes counts room none.
+returns c = λ codes counts room none uncounted.
     let colors = c.new.ensures.items in
     let initial = c.new-3.ensures.items in
     let witnesses = c.new-4.ensures.items in
@@ -32,5 +32,6 @@ returns c = λ codes counts room none.
       squares = [];
       nearest = λ k l. absurd (omega (arith, l));
       error = grind arith;
+      opaque = rw (nil_from_length counts uncounted) refl;
       apart = rw witnesses (search rules);
     }

@@ -35,5 +35,6 @@ returns c =
       error =
           (rw c.deref.ensures.value at c.summed.ensures)
           ∙ error_is _ _ _ _ _ c.requires.weighed.same made.relaxed;
+      opaque = c.total_of.ensures;
       apart = rw c.deref-2.ensures.value at c.least_apart.ensures;
     }
