@@ -44,7 +44,8 @@ DEFAULTS = [
 
 # Arguments of `draw`, three grays, and how they are drawn in black and white. 90 and 7/16 of what
 # it passes on is 129 with 8 eighths, and 124 with 7. The squared distances of 150 are 67500 from
-# black and 33075 from white. The mean of the least ones is 30150 and 36450 in the last two lines.
+# black and 33075 from white. The mean of the least ones is 24550 and 24651 in the last two lines,
+# of which 7/5 is 34370 and 34511.
 GRAYS = [
     ("-t 0", [90, 90, 90], [0, 255, 0]),
     ("-t 0 -s 8", [90, 90, 90], [0, 255, 0]),
@@ -52,8 +53,8 @@ GRAYS = [
     ("-s 1 -t 0", [90, 90, 90], [0, 0, 0]),
     ("-d none -t 34425", [90, 150, 150], [0, 255, 255]),
     ("-t 34426 -d none", [90, 150, 150], [0, 0, 0]),
-    ("-d none", [90, 150, 150], [0, 255, 255]),
-    ("-d none", [120, 150, 150], [0, 0, 0]),
+    ("-d none", [50, 150, 150], [0, 255, 255]),
+    ("-d none", [51, 150, 150], [0, 0, 0]),
 ]
 
 # The most colors of a palette, and by how many 32nds its entries are spread for diffusion.

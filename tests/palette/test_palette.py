@@ -50,9 +50,10 @@ def mean_error(colors, pixels):
     return sum(errors) // max(len(errors), 1), sum(errors) > 0
 
 
-def automatic_tolerance(colors, pixels):
+def automatic_tolerance(kind, colors, pixels):
     mean, has_error = mean_error(colors, pixels)
-    return max(12, mean) if has_error else 0
+    part = 7 * mean // 5 if kind == OFF else mean
+    return max(12, part) if has_error else 0
 
 
 def automatic_amplitude(colors, pixels):
@@ -180,20 +181,18 @@ class PaletteTest(unittest.TestCase):
             diffused = source(colors, pixels)
             amount = rng.choice([1, 3, 7, 8, 64, 255])
             exact, kept = {"tolerance": 0}, {"tolerance": rng.choice([1, 12, 200, 5000])}
-            auto = {"tolerance": automatic_tolerance(colors, pixels)}
-            amplitude = automatic_amplitude(colors, pixels)
             cases = [(OFF, amount, it, it) for it in (exact, kept)]
             cases += [(ORDERED, amount, it, it | {"amplitude": amount}) for it in (exact, kept)]
             strength = {"strength": min(amount, 8)}
             cases += [(DIFFUSION, amount, it, it | strength) for it in (exact, kept)]
-            cases += [
-                (OFF, amount, {"tolerance": AUTO}, auto),
-                (ORDERED, 0, {"tolerance": AUTO}, auto | {"amplitude": amplitude}),
-                (
-                    DIFFUSION, 0, {"tolerance": AUTO},
-                    {"tolerance": automatic_tolerance(colors, diffused), "strength": 7},
-                ),
+            automatic = [
+                (OFF, amount, pixels, {}),
+                (ORDERED, 0, pixels, {"amplitude": automatic_amplitude(colors, pixels)}),
+                (DIFFUSION, 0, diffused, {"strength": 7}),
             ]
+            for kind, number, wanted, options in automatic:
+                options["tolerance"] = automatic_tolerance(kind, colors, wanted)
+                cases.append((kind, number, {"tolerance": AUTO}, options))
             for kind, number, passed, options in cases:
                 with self.subTest(turn=turn, kind=kind, amount=number, **passed):
                     found = ctypes.create_string_buffer(len(pixels))

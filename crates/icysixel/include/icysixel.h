@@ -225,7 +225,8 @@ enum icysixel_background {
     ICYSIXEL_BACKGROUND_OPAQUE = 1       /* they get the color of register 0: P2 is 0 */
 };
 
-/* A tolerance by the palette: its mean squared error, at least 12, or 0 if there is no error. */
+/* A tolerance by the palette: its mean squared error, or 7/5 of it without dithering. It is at
+ * least 12, or 0 if there is no error. */
 #define ICYSIXEL_AUTO UINT32_MAX
 
 /* Palettes of encoded images. Indexed pixels have the given palette in each mode. */

@@ -91,9 +91,9 @@ pub pixels-same : (p q : List ℕ) → AreAlike p q → (number : List ℕ → �
 pixels-same p q alike number = grind (arith, nat_tests, sum_to-same, number-dark, number-light)
 
 -- so are the tolerance and the amplitude
-tolerance-alike : (tolerance : Tolerance) (colors : List (List ℕ)) (p q : List ℕ) → AreAlike p q
-    → tolerance_of tolerance colors p ≡ tolerance_of tolerance colors q
-tolerance-alike tolerance colors p q alike = grind (arith, nat_tests, pixels-same)
+tolerance-alike : (dither : Dither) (tolerance : Tolerance) (colors : List (List ℕ)) (p q : List ℕ)
+    → AreAlike p q → tolerance_of dither tolerance colors p ≡ tolerance_of dither tolerance colors q
+tolerance-alike dither tolerance colors p q alike = grind (arith, nat_tests, pixels-same)
 
 amplitude-alike : (amplitude : Amplitude) (colors : List (List ℕ)) (p q : List ℕ) → AreAlike p q
     → amplitude_of amplitude colors p ≡ amplitude_of amplitude colors q

@@ -269,11 +269,17 @@ abbrev pub index_error : List (List ℕ) → List ℕ → List ℕ → ℕ
 index_error colors pixels indices =
     sum_to (pixel_index_error colors pixels indices) (length pixels / 4)
 
+-- the automatic tolerance for a mean error, which is greater without dithering
+abbrev pub automatic_tolerance : Dither → ℕ → ℕ
+automatic_tolerance Off mean = max 12 (7 * mean / 5)
+automatic_tolerance dither mean = max 12 mean
+
 -- the tolerance for a palette
-abbrev pub tolerance_of : Tolerance → List (List ℕ) → List ℕ → ℕ
-tolerance_of (Squared tolerance) colors pixels = tolerance
-tolerance_of Auto colors pixels =
-    if summed_error colors pixels == 0 then 0 else max 12 (mean_error colors pixels)
+abbrev pub tolerance_of : Dither → Tolerance → List (List ℕ) → List ℕ → ℕ
+tolerance_of dither (Squared tolerance) colors pixels = tolerance
+tolerance_of dither Auto colors pixels =
+    if summed_error colors pixels == 0 then 0
+    else automatic_tolerance dither (mean_error colors pixels)
 
 -- the square root of a number, rounded down, but at most so much
 unfoldable pub root : ℕ → ℕ → ℕ
@@ -305,7 +311,7 @@ mapped_of mapping width pixels colors = record {
   colors = colors;
   strength = strength_of mapping.dither;
   amplitude = pattern_of mapping.dither colors pixels;
-  tolerance = tolerance_of mapping.tolerance colors pixels;
+  tolerance = tolerance_of mapping.dither mapping.tolerance colors pixels;
 }
 
 -- the target of each visit

@@ -97,7 +97,7 @@ pub fn palette_indices(
         → IfOk result (λ indices. AreIndices pixels.now colors.now indices.items) }
     ensures summed { mapping.dither ≡ Dither.Off → IfOk result (λ indices.
         index_error colors.now pixels.now indices.items ≤ summed_error colors.now pixels.now
-        + tolerance_of mapping.tolerance colors.now pixels.now
+        + tolerance_of mapping.dither mapping.tolerance colors.now pixels.now
         * opaque_pixels pixels.now (λ _. 1)) }
     ensures exact { (strength : ℕ) → mapping.dither ≡ Dither.Diffusion strength
         → (mapping.tolerance ≡ Tolerance.Auto) ⊎ (mapping.tolerance ≡ Tolerance.Squared 0)
@@ -253,7 +253,7 @@ fn mapped_indices(
         indices.items) }
 {
     channel_bytes(image.pixels, image.colors);
-    let tolerance = tolerance_of(image, &nearest, mapping.tolerance);
+    let tolerance = tolerance_of(image, &nearest, mapping);
     let image = MappedImage {
         tolerance,
         ..*image

@@ -24,9 +24,9 @@ pub struct Mapping {
 /// the tolerance. So more pixels in a row have one entry, and the output takes fewer bytes.
 #[derive(Debug, Clone, Copy, PartialEq, Eq)]
 pub enum Tolerance {
-    /// The mean squared error of the palette over the opaque pixels, but at least 12.
+    /// The mean squared error of the palette, or 7/5 of it without dithering.
     ///
-    /// It is 0 if each opaque pixel's color is an entry.
+    /// It is over the opaque pixels, and at least 12. It is 0 if each of their colors is an entry.
     Auto,
     /// A squared distance. With 0 each pixel has the nearest entry.
     Squared(u32),

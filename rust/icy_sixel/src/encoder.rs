@@ -54,7 +54,9 @@ pub enum Amplitude {
 /// By how much an entry may be farther from a color than the nearest one.
 #[derive(Clone, Copy, Debug, PartialEq, Eq)]
 pub enum Tolerance {
-    /// The mean squared error of the palette, at least 12, or 0 if there is no error.
+    /// The mean squared error of the palette, or 7/5 of it without dithering.
+    ///
+    /// It is at least 12, or 0 if there is no error.
     Auto,
     /// A squared distance. With 0 each pixel has the nearest entry.
     Squared(u32),

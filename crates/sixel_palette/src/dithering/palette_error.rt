@@ -6,10 +6,10 @@ ghost use Rattle.sixel_palette.specs.Refined.{opaque_pixels, summed_error};
 ghost use Rattle.sixel_palette.specs.Dithering.{amplitude_of, root, tolerance_of};
 ghost use Rattle.sixel_palette.specs.inside.PaletteError.{HasNearest, IsErrorOf};
 
-use crate::dither::Amplitude;
+use crate::dither::{Amplitude, Dither};
 use crate::dithering::mapped::MappedImage;
 use crate::dithering::nearest::Nearest;
-use crate::mapping::Tolerance;
+use crate::mapping::{Mapping, Tolerance};
 use crate::palette::colors::is_opaque;
 use crate::palette::distance::distance;
 
@@ -21,16 +21,19 @@ struct PaletteError {
 }
 
 /// Returns the tolerance for the palette of an image.
-pub fn tolerance_of(image: &MappedImage<'_>, nearest: &Nearest<'_>, tolerance: Tolerance) -> u32
+pub fn tolerance_of(image: &MappedImage<'_>, nearest: &Nearest<'_>, mapping: Mapping) -> u32
     requires { HasNearest image.now nearest.now }
-    ensures { result ≡ tolerance_of tolerance image.now.colors.now image.now.pixels.now }
+    ensures { result ≡ tolerance_of mapping.dither mapping.tolerance image.now.colors.now
+        image.now.pixels.now }
 {
-    match tolerance {
+    match mapping.tolerance {
         Tolerance::Squared(squared) => squared,
         Tolerance::Auto => {
             let error = palette_error(image, nearest);
             if error.sum == 0 {
                 0
+            } else if mapping.dither == Dither::Off {
+                (7 * error.mean() / 5).max(12)
             } else {
                 error.mean().max(12)
             }

@@ -1,7 +1,7 @@
-use Rattle.std.proofs.Common.{◌≡◌, ap, arith, subst, sym, ◌∙◌}
+use Rattle.std.proofs.Common.{◌≡◌, arith, subst, sym, ◌∙◌}
 use Rattle.sixel_palette.specs.declared.dither.Dither.{Dither}
 use Rattle.sixel_palette.specs.declared.mapping.Tolerance.TheVariants.{Auto}
-use Rattle.sixel_palette.specs.Dithering.{AreMapped, mapped_of, target_of, tolerance_of}
+use Rattle.sixel_palette.specs.Dithering.{AreMapped, mapped_of, target_of}
 use Rattle.sixel_palette.proofs.DiffusionLaws.{AreMapped-diffused}
 use Rattle.sixel_palette.proofs.DitheredIndices.{AreRows}
 use Rattle.sixel_palette.proofs.PaletteError.{error-none, held-none}
@@ -22,7 +22,6 @@ returns-in-Diffusion c =
     let colors = image.colors.now in
     let auto : c.args.mapping.tolerance ≡ Auto = grind arith in
     let exact = sym c.tolerance_of-tolerance.ensures ∙ c.if-tolerance-eq0.true in
-    let none = ap (λ t. tolerance_of t colors pixels) (sym auto) ∙ exact in
     let m = mapped_of c.args.mapping image.width pixels colors in
     let three = c.channel_bytes.ensures.three in
     let rows : AreRows m = grind (arith, nat_tests) in
@@ -30,7 +29,7 @@ returns-in-Diffusion c =
     subst (λ (d : Dither). AreMapped m (target_of d m indices.items) indices.items)
     (sym c.in-Diffusion.is) (AreMapped-diffused m indices.items rows
     (record { three = three; bytes = c.channel_bytes.ensures.bytes })
-    (held-none colors pixels three (error-none colors pixels none)) exact are))
+    (held-none colors pixels three (error-none colors pixels c.args.mapping auto exact)) exact are))
     c.indices-in-Diffusion.ensures
 
 pub returns-in-Diffusion-2 : goal.returns-in-Diffusion-2

@@ -30,8 +30,7 @@ returns-clause-nearest c = λ off exact.
     let m = mapped_of c.args.mapping c.args.width pixels c.args.colors.now in
     let indices = c.in_ok-dithered_indices.field-0.items in
     AreIndices-mapped m (target_of c.args.mapping.dither m indices) indices
-    (rows-of c m refl refl refl) (ap (λ t. tolerance_of t c.args.colors.now pixels) exact)
-    (grind (arith, nat_tests))
+    (rows-of c m refl refl refl) (grind (arith, exact)) (grind (arith, nat_tests))
     (λ n l light. ap (λ d. target_of d m indices n) off)
 
 pub returns-clause-exact : goal.returns-clause-exact
@@ -49,7 +48,7 @@ returns-clause-exact c = λ strength is none held.
     → color_at s pixel ≡ color_at pixels pixel =
     λ pixel l light. grind (arith, nat_tests, chosen-own) in
     let kept : AreHeld m = λ pixel l light. grind (arith, nat_tests) in
-    let exact : tolerance_of c.args.mapping.tolerance colors s ≡ 0 =
+    let exact : tolerance_of dither c.args.mapping.tolerance colors s ≡ 0 =
     grind (arith, nat_tests, colors, s, tolerance-held, kept) in
     let three : All (λ p. length p ≡ 3) colors =
     λ k e l. grind (arith, nat_tests, get_or_default, colors) in

@@ -1,4 +1,4 @@
-use Rattle.std.proofs.Common.{arith, sym, ◌∙◌}
+use Rattle.std.proofs.Common.{arith}
 use Rattle.sixel_palette.proofs.PaletteCounts.{counts-sum}
 use Rattle.sixel_palette.proofs.PaletteError.{error-small}
 use Rattle.sixel_palette.proofs.PaletteRefinement.{refinement-error}
