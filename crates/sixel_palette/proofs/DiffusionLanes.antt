@@ -1,14 +1,15 @@
 -- Four lanes of 16 bits as a function of the lane, after each operation, where none of them wraps.
-use Rattle.std.proofs.Common.{◌≡◌, ℕ, ◌+◌, ◌-◌, ◌*◌, ◌/◌, ◌^◌, ◌%◌, ◌<◌, ◌≤◌, max, cond, false}
+use Rattle.std.proofs.Common.{◌≡◌, ℕ, ◌+◌, ◌-◌, ◌*◌, ◌/◌, ◌^◌, ◌%◌, ◌<◌, ◌≤◌, max, min, cond, false}
 use Rattle.std.proofs.Common.{List, [], ◌∷◌, length, map, get_or, take, drop, nat_lt, refl, sym, ap}
-use Rattle.std.proofs.Common.{◌∙◌, w16, arith}
+use Rattle.std.proofs.Common.{◌∙◌, Fits, w16, arith}
 use Rattle.std.proofs.lemmas.Bool.Decides.{nat_tests}
 use Rattle.std.proofs.lemmas.List.{get_or-map, get_or_past, length-map}
 use Rattle.std.proofs.lemmas.Simd.{length-zip2, get_or-zip2, get_or-replicate, length-sel_l}
 use Rattle.std.proofs.lemmas.Simd.{get_or-sel_l, tops_compared, get_or-chunk, length-chunk}
-use lib.Lanes.{sel_l, top, zip2}
+use Rattle.std.proofs.lemmas.Simd.{Each1-get_or}
+use lib.Lanes.{Each1, sel_l, top, zip2}
 use Rattle.sixel_palette.specs.Dithering.{passed_on, rounded_sixteenths}
-use Rattle.sixel_palette.specs.inside.Diffusion.{AreLanes}
+use Rattle.sixel_palette.specs.inside.Diffusion.{AreLanes, channels, rounded_color}
 
 -- a list of four
 pub lanes : (xs : List ℕ) → length xs ≡ 4 → AreLanes xs (λ k. get_or xs k 0)
@@ -75,17 +76,20 @@ lanes-max xs ys f g a b =
 
 -- a sum that saturates
 pub lanes-saturating : (xs ys : List ℕ) (f g : ℕ → ℕ) → AreLanes xs f → AreLanes ys g
-    → ((k : ℕ) → k < 4 → f k + g k < 65536)
+    → ((k : ℕ) → k < 4 → f k < 65536)
     → let rest = map (λ a. 65535 - a) xs in
     AreLanes (zip2 (λ a b. (a + b) % 65536) xs
-    (sel_l (map (top 15) (zip2 less ys rest)) ys rest)) (λ k. f k + g k)
+    (sel_l (map (top 15) (zip2 less ys rest)) ys rest)) (λ k. min 65535 (f k + g k))
 lanes-saturating xs ys f g a b fit =
     let rest = map (λ a. 65535 - a) xs in
     let spare : AreLanes rest (λ k. 65535 - f k) =
     grind (arith, nat_tests, length-map, get_or-map) in
-    lanes-plus xs _ f g a
-    (lanes-choice ys rest ys rest g (λ k. 65535 - f k) g (λ k. 65535 - f k) g b spare b spare
-    (λ k l below. refl) (λ k l above. omega (arith, fit k l))) fit
+    let all =
+    lanes-plus xs _ f (λ k. min (g k) (65535 - f k)) a
+    (lanes-choice ys rest ys rest g (λ k. 65535 - f k) g (λ k. 65535 - f k) _ b spare b spare
+    (λ k l below. omega (arith, below)) (λ k l above. omega (arith, above)))
+    (λ k l. omega (arith, fit k l)) in
+    record { four = all.four; each = λ k l. all.each k l ∙ omega (arith, fit k l) }
 
 -- lanes that get wider
 pub lanes-cast : (xs : List ℕ) (f : ℕ → ℕ) → AreLanes xs f → AreLanes (map (λ x. x) xs) f
@@ -118,16 +122,29 @@ passed-part v c s low =
     ap (λ x. x / 8)
     (product-less (v + 4096) (v + 4096 - 16 * c) (16 * c) s (omega (arith, low)))
 
--- the lanes of a color, rounded
-abbrev rounded : List ℕ → List ℕ
-rounded values =
-    zip2 (λ a b. a / 2 ^ b) (zip2 (λ a b. (a + b) % 65536) values (8 ∷ 8 ∷ 8 ∷ 8 ∷ []))
-    (4 ∷ 4 ∷ 4 ∷ 4 ∷ [])
-
-pub lanes-rounded : (values : List ℕ) → length values ≡ 4
-    → ((k : ℕ) → get_or values k 0 ≤ 4080)
-    → AreLanes (rounded values) (λ k. rounded_sixteenths (get_or values k 0))
-lanes-rounded values four small =
+-- the lanes of a color, rounded, and their limit
+pub lanes-rounded : (xs : List ℕ) → length xs ≡ 4 → Each1 (Fits w16) xs
+    → let lowest : List ℕ = 61447 ∷ 61447 ∷ 61447 ∷ 61447 ∷ [] in
+    let color =
+    zip2 (λ a b. a / 2 ^ b) (zip2 (λ a b. (a + (65536 - b)) % 65536)
+    (sel_l (map (top 15) (zip2 less xs lowest)) lowest xs) lowest) (4 ∷ 4 ∷ 4 ∷ 4 ∷ []) in
+    AreLanes color (λ k. (get_or xs k 0 - 61447) / 16) × ((k : ℕ) → get_or color k 0 ≤ 255)
+lanes-rounded xs four fits =
+    let low : (k : ℕ) → k < 4 → get_or xs k 0 < 65536 =
+    λ k l. (Each1-get_or (Fits w16) xs k 0 (omega (arith, l, four)) fits).fits in
+    let all =
     lanes-shift _ _ _ _
-    (lanes-plus _ _ (λ k. get_or values k 0) (λ k. 8) (lanes values four) (lanes-splat 8)
-    (λ k l. omega (arith, small k))) (lanes-splat 4)
+    (lanes-minus _ _ _ _
+    (lanes-max _ _ (λ k. get_or xs k 0) _ (lanes xs four) (lanes-splat 61447)) (lanes-splat 61447)
+    (λ k l. omega arith) (λ k l. omega (arith, low k l))) (lanes-splat 4) in (
+      record { four = all.four; each = λ k l. all.each k l ∙ omega arith },
+      small-lanes _ _ 255 all (λ k l. omega (arith, low k l)),
+    )
+
+pub channels-rounded : (sum values color : List ℕ) (f : ℕ → ℕ) → AreLanes sum f
+    → AreLanes values (λ k. max (f k) 61455 - 61455)
+    → AreLanes color (λ k. (get_or sum k 0 - 61447) / 16) → channels color ≡ rounded_color values
+channels-rounded sum values color f s v c =
+    let each : (k : ℕ) → k < 4 → get_or color k 0 ≡ rounded_sixteenths (get_or values k 0) =
+    λ k l. c.each k l ∙ omega (arith, s.each k l, v.each k l) in
+    λ i. each 0 (omega arith) i ∷ each 1 (omega arith) i ∷ each 2 (omega arith) i ∷ []

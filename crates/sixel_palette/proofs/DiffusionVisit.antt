@@ -133,7 +133,7 @@ IsVisit-dark image errors place old error is at size dark none lanes =
 
 -- a visit of an opaque pixel whose entry is stored
 pub IsVisit-stored : (image : MappedImage) (errors : List (List ℕ)) (place : Place) (index : ℕ)
-    (numbers values target old new error : List ℕ) → IsMappable image
+    (numbers : ℕ → ℕ) (values target old new error : List ℕ) → IsMappable image
     → IsPlace (mapped_value image) place → length old ≡ length image.pixels.now / 4
     → AreReceived (mapped_value image) errors (place.row * image.width + place.step) numbers
     → AreSixteenths image place.pixel numbers values → IsOpaque image.pixels.now place.pixel
@@ -170,6 +170,13 @@ pub beyond-line : (m : Mapped) (errors line : List (List ℕ)) (row step : ℕ) 
     → channels error ≡ error_beyond m errors step
 beyond-line m errors line row step error inside is beyond = grind (arith, nat_tests)
 
+pub AreErrors-beyond : (m : Mapped) (line : List (List ℕ)) (row step : ℕ) (error : List ℕ)
+    → step < m.width → AreErrors (no_error_lanes m.strength)
+    → ((k : ℕ) → k < m.width → AreErrors (slice_index_or line k []))
+    → IsBeyond m line row step error → AreErrors error
+AreErrors-beyond m line row step error inside none lanes beyond =
+    grind (arith, nat_tests, column-lt)
+
 -- a channel is that of its lane
 lane-channel : (lanes error : List ℕ) → channels lanes ≡ error → (k : ℕ) → k < 3
     → slice_index lanes k ≡ slice_index error k
@@ -177,14 +184,13 @@ lane-channel lanes error same k l = grind (arith, nat_tests)
 
 -- all four
 pub AreReceived-neighbors : (m : Mapped) (errors : List (List ℕ)) (n step : ℕ)
-    (neighbors : Neighbors) (numbers : List ℕ) → n % m.width ≡ step
+    (neighbors : Neighbors) → n % m.width ≡ step
     → channels neighbors.before ≡ error_before m errors step
     → channels neighbors.behind ≡ error_behind m errors step
     → channels neighbors.above ≡ error_above m errors step
     → channels neighbors.beyond ≡ error_beyond m errors step
-    → ((k : ℕ) → k < 3 → slice_index numbers k ≡ received_of neighbors k)
-    → AreReceived m errors n numbers
-AreReceived-neighbors m errors n step neighbors numbers at before behind above beyond each =
+    → AreReceived m errors n (received_of neighbors)
+AreReceived-neighbors m errors n step neighbors at before behind above beyond =
     grind (arith, nat_tests, lane-channel)
 
 -- ---- the next step

@@ -1,25 +1,25 @@
 -- The index that the least key of sixteen entries gives.
 use Rattle.std.proofs.Common.{◌≡◌, ◌⊎◌, ℕ, ◌+◌, ◌-◌, ◌*◌, ◌/◌, ◌%◌, ◌^◌, ◌<◌, ◌≤◌, List, [], ◌∷◌}
-use Rattle.std.proofs.Common.{Bool, true, false, cond, length, map, get_or, replicate, take, drop}
-use Rattle.std.proofs.Common.{min, refl, ap, sym, inl, inr, nat_eq, ◌∙◌, arith}
+use Rattle.std.proofs.Common.{false, cond, length, map, get_or, replicate}
+use Rattle.std.proofs.Common.{min, refl, ap, sym, inl, inr, nat_lt, w8, w32, Fits, zero, suc, ◌∙◌}
+use Rattle.std.proofs.Common.{arith}
 use Rattle.std.specs.Int.{abs_diff}
 use Rattle.std.specs.Prelude.{Option, Some, None, slice_index, slice_index_or}
 use Rattle.std.proofs.lemmas.Bool.{cases_lt}
 use Rattle.std.proofs.lemmas.Bool.Decides.{nat_tests}
-use Rattle.std.proofs.lemmas.List.{get_or-map, length-map}
-use Rattle.std.proofs.lemmas.List.FromFn.{get_or-map-range_with_len}
+use Rattle.std.proofs.lemmas.List.{length-map}
 use Rattle.std.proofs.lemmas.Nat.{mul-le}
-use Rattle.std.proofs.lemmas.Simd.{get_or-chunk, get_or-replicate, get_or-zip2, length-chunk}
-use Rattle.std.proofs.lemmas.Simd.{length-replicate, length-zip2}
-use Rattle.std.specs.List.{range_with_len}
-use lib.Lanes.{top, zip2}
+use Rattle.std.proofs.lemmas.Simd.{get_or-replicate, get_or-zip2}
+use Rattle.std.proofs.lemmas.Simd.{length-sel_l, length-zip2, get_or-sel_l, tops_compared}
+use lib.Lanes.{Each1, sel_l, top, zip2}
 use Rattle.sixel_palette.specs.Palette.{distance, no_entry, square_gap}
 use Rattle.sixel_palette.proofs.PaletteDistance.{below_three, square-le}
 use Rattle.sixel_palette.proofs.PaletteNearest.{nearest-le, nearest-reached}
 use Rattle.sixel_palette.specs.Dithering.{IsIndex, Mapped, entry_distance, nearer_entry}
 use Rattle.sixel_palette.specs.declared.dithering.sixteen_entries.SixteenEntries.{SixteenEntries}
 use Rattle.sixel_palette.specs.inside.Diffusion.{channels}
-use Rattle.sixel_palette.specs.inside.SixteenEntries.{AreSixteen, added, lane_key, lane_of}
+use Rattle.sixel_palette.specs.inside.SixteenEntries.{AreSixteen, added, beside, fixed_key}
+use Rattle.sixel_palette.specs.inside.SixteenEntries.{lane_key, lane_of}
 
 -- ---- colors
 
@@ -64,6 +64,12 @@ bytes t low =
 
 -- ---- lanes
 
+-- lanes of bytes are small
+pub byte_lanes : (xs : List ℕ) → Each1 (Fits w8) xs → (k : ℕ) → get_or xs k 0 ≤ 255
+byte_lanes [] fits k = omega arith
+byte_lanes (x ∷ xs) fits zero = omega (arith, fits.0.fits)
+byte_lanes (x ∷ xs) fits (suc k) = byte_lanes xs fits.1 k
+
 -- an operation on sixteen lanes
 lane_at : (h : ℕ → ℕ → ℕ) (xs ys : List ℕ) → length xs ≡ 16 → length ys ≡ 16
     → (length (zip2 h xs ys) ≡ 16)
@@ -72,25 +78,6 @@ lane_at h xs ys a b = (
   length-zip2 h xs ys (a ∙ sym b) ∙ a,
   λ k l. get_or-zip2 h xs ys k 0 0 0 (omega (arith, l, a)) (omega (arith, l, b)),
 )
-
--- the eighths of lanes that get wider
-abbrev eighths : List ℕ → List ℕ
-eighths xs = map (λ x. x) (zip2 (λ a b. a / 2 ^ b) (take 16 (drop 0 xs)) (replicate 16 3))
-
-pub length-eighths : (xs : List ℕ) → length xs ≡ 16 → length (eighths xs) ≡ 16
-length-eighths xs long =
-    grind (arith, nat_tests, length-map, length-zip2, length-chunk, length-replicate)
-
-pub get_or-eighths : (xs : List ℕ) → length xs ≡ 16 → (k : ℕ) → k < 16
-    → get_or (eighths xs) k 0 ≡ get_or xs k 0 / 8
-get_or-eighths xs long k l =
-    let first : length (take 16 (drop 0 xs)) ≡ 16 = length-chunk 0 16 xs (omega (arith, long)) in
-    let all = lane_at (λ a b. a / 2 ^ b) (take 16 (drop 0 xs)) (replicate 16 3) first refl in
-    let none : 0 + k ≡ k = omega arith in
-    get_or-map (λ x. x) _ k 0 0 (omega (arith, l, all.0))
-    ∙ (all.1 k l
-    ∙ (ap (λ b. get_or (take 16 (drop 0 xs)) k 0 / 2 ^ b) (get_or-replicate 16 k 3 0 l)
-    ∙ ap (λ x. x / 8) (rw none at (get_or-chunk 0 16 xs k 0 l))))
 
 -- sums, differences and products of lanes of 32 bits
 abbrev plus : List ℕ → List ℕ → List ℕ
@@ -102,74 +89,115 @@ minus = zip2 (λ a b. (a + (4294967296 - b)) % 4294967296)
 abbrev times : List ℕ → ℕ → List ℕ
 times xs x = zip2 (λ a b. a * b % 4294967296) xs (replicate 16 x)
 
--- the lane that two comparisons choose
-chosen_by : (test : Bool) (x y : ℕ) → cond (top 31 (cond test 4294967295 0)) x y ≡ cond test x y
-chosen_by true x y = refl
-chosen_by false x y = refl
+-- the lesser lanes of two rows
+abbrev less : ℕ → ℕ → ℕ
+less a b = cond (nat_lt a b) 4294967295 0
 
-abbrev choice : ℕ → ℕ → ℕ → ℕ → ℕ → ℕ → ℕ
-choice x y z before above k =
-    cond (top 31 (cond (nat_eq k before) 4294967295 0)) x
-    (cond (top 31 (cond (nat_eq k above) 4294967295 0)) y z)
+abbrev least : List ℕ → List ℕ → List ℕ
+least xs ys = sel_l (map (top 31) (zip2 less xs ys)) xs ys
 
-pub chosen_at : (x y z tolerance before above k : ℕ) → k < 16 → x ≡ min tolerance 1
-    → y ≡ min tolerance 1 → z ≡ min tolerance no_entry
-    → get_or (map (choice (64 * x) (128 * y) (256 * z) before above) (range_with_len 0 16)) k 0
-    ≡ added tolerance before above k
-chosen_at x y z tolerance before above k l ex ey ez =
-    get_or-map-range_with_len (choice (64 * x) (128 * y) (256 * z) before above) 0 16 k k 0 l
-    (omega arith)
-    ∙ (chosen_by (nat_eq k before) (64 * x) _
-    ∙ (ap (cond (nat_eq k before) (64 * x)) (chosen_by (nat_eq k above) (128 * y) (256 * z))
-    ∙ rw (ex, ey, ez) refl))
+least_at : (xs ys : List ℕ) → length xs ≡ 16 → length ys ≡ 16
+    → (length (least xs ys) ≡ 16)
+    × ((k : ℕ) → k < 16 → get_or (least xs ys) k 0 ≡ min (get_or xs k 0) (get_or ys k 0))
+least_at xs ys a b =
+    let tests = map (top 31) (zip2 less xs ys) in
+    let long : length tests ≡ 16 = length-map (zip2 less xs ys) (top 31)
+    ∙ (lane_at less xs ys a b).0 in (
+      length-sel_l tests xs ys (long ∙ sym a) (long ∙ sym b) ∙ long,
+      λ k l.
+          let chosen = get_or-sel_l tests xs ys k 0 (omega (arith, l, long)) (omega (arith, l, a))
+          (omega (arith, l, b)) in
+          let test = ap (λ ms. get_or ms k false) (tops_compared w32 nat_lt xs ys) in
+          let each = get_or-zip2 nat_lt xs ys k 0 0 false (omega (arith, l, a))
+          (omega (arith, l, b)) in
+          grind (arith, nat_tests),
+    )
 
 -- ---- a key
 
 -- a product in lanes
-times_at : (xs : List ℕ) (x k lane channel a : ℕ) → length xs ≡ 16 → k < 16
-    → get_or xs k 0 ≡ lane / 8 → lane ≡ 256 * channel → channel < 256 → x ≡ a * 16 → a ≤ 255
-    → (get_or (times xs x) k 0 ≡ 512 * (channel * a)) × (channel * a ≤ 65025)
-times_at xs x k lane channel a long l eighth is byte ex low =
-    let most = mul-le channel a 255 255 (omega (arith, byte)) low in
-    let eighths : get_or xs k 0 ≡ 32 * channel = omega (arith, eighth, is) in (
+times_at : (xs : List ℕ) (x k channel a : ℕ) → length xs ≡ 16 → k < 16
+    → get_or xs k 0 ≡ channel → channel < 256 → x ≡ a * 128 → a ≤ 255
+    → (get_or (times xs x) k 0 ≡ 128 * (channel * a)) × (channel * a ≤ 65025)
+times_at xs x k channel a long l is byte ex low =
+    let most = mul-le channel a 255 255 (omega (arith, byte)) low in (
       (lane_at (λ a b. a * b % 4294967296) xs (replicate 16 x) long refl).1 k l
           ∙ (ap (λ b. get_or xs k 0 * b % 4294967296) (get_or-replicate 16 k x 0 l)
-          ∙ rw (eighths, ex) (omega (arith, most))),
+          ∙ rw (is, ex) (omega (arith, most))),
       most,
     )
 
-pub key_at : (colors : List (List ℕ)) (s : SixteenEntries) (t more xs ys zs : List ℕ)
-    (x y z tolerance before above k : ℕ) → AreSixteen colors 16 s
-    → ((j : ℕ) → slice_index t j ≤ 255) → k < 16 → length s.fixed ≡ 16 → length more ≡ 16
-    → length xs ≡ 16 → length ys ≡ 16 → length zs ≡ 16
-    → get_or more k 0 ≡ added tolerance before above k → get_or xs k 0 ≡ get_or s.red k 0 / 8
-    → get_or ys k 0 ≡ get_or s.green k 0 / 8 → get_or zs k 0 ≡ get_or s.blue k 0 / 8
-    → x ≡ get_or t 0 0 * 16 → y ≡ get_or t 1 0 * 16 → z ≡ get_or t 2 0 * 16
-    → get_or (minus (plus s.fixed more) (plus (plus (times xs x) (times ys y)) (times zs z))) k 0
+pub key_at : (colors : List (List ℕ)) (s : SixteenEntries) (t us vs xs ys zs : List ℕ)
+    (x y z tolerance before above k : ℕ) → AreSixteen colors tolerance s
+    → ((j : ℕ) → slice_index t j ≤ 255) → k < 16 → before ≤ 16 → above ≤ 16
+    → length us ≡ 16 → length vs ≡ 16 → length xs ≡ 16 → length ys ≡ 16 → length zs ≡ 16
+    → get_or us k 0 ≡ get_or s.before (16 * before + k) 0
+    → get_or vs k 0 ≡ get_or s.above (16 * above + k) 0
+    → get_or xs k 0 ≡ get_or s.codes k 0 / 2 ^ 0 % 256
+    → get_or ys k 0 ≡ get_or s.codes k 0 / 2 ^ 8 % 256
+    → get_or zs k 0 ≡ get_or s.codes k 0 / 2 ^ 16 % 256
+    → x ≡ get_or t 0 0 * 128 → y ≡ get_or t 1 0 * 128 → z ≡ get_or t 2 0 * 128
+    → get_or (minus (least us vs) (plus (plus (times xs x) (times ys y)) (times zs z))) k 0
     ≡ lane_key colors (channels t) tolerance before above k
-key_at colors s t more xs ys zs x y z tolerance before above k are low l f m p q r ew eu ev et ex
-    ey ez =
-    let most : added tolerance before above k ≤ 49939456 = grind (arith, nat_tests) in
-    let sum = lane_at _ s.fixed more f m in
+key_at colors s t us vs xs ys zs x y z tolerance before above k are low l lb la f g p q r eb ea eu
+    ev et ex ey ez =
+    let color = slice_index_or colors k [] in
+    let rows = least_at us vs f g in
     let two = lane_at _ (times xs x) (times ys y) (lane_at _ xs (replicate 16 x) p refl).0
     (lane_at _ ys (replicate 16 y) q refl).0 in
-    let three = lane_at _ (plus (times xs x) (times ys y)) (times zs z) two.0
-    (lane_at _ zs (replicate 16 z) r refl).0 in
-    (lane_at _ (plus s.fixed more) _ sum.0 three.0).1 k l
+    let sums = plus (plus (times xs x) (times ys y)) (times zs z) in
+    let three = lane_at (λ a b. (a + b) % 4294967296) (plus (times xs x) (times ys y)) (times zs z)
+    two.0 (lane_at _ zs (replicate 16 z) r refl).0 in
+    let code = are.codes k l in
+    let red = are.bytes k 0 l (omega arith) in
+    let green = are.bytes k 1 l (omega arith) in
+    let blue = are.bytes k 2 l (omega arith) in
+    let dark_far = distance-small color black (λ j. are.bytes k j l) dark in
+    let more : min (beside colors tolerance before 16 k) (beside colors tolerance above 32 k)
+    ≡ fixed_key colors k + added tolerance before above k = grind (arith, nat_tests) in
+    let most : added tolerance before above k ≤ 12484864 = grind (arith, nat_tests) in
+    (lane_at _ (least us vs) sums rows.0 three.0).1 k l
     ∙ omega (
       arith,
-      sum.1 k l,
+      rows.1 k l,
+      eb,
+      ea,
+      are.before before k lb l,
+      are.above above k la l,
+      more,
+      most,
       two.1 k l,
       three.1 k l,
-      times_at xs x k _ _ _ p l eu (are.red k l) (are.bytes k 0 l (omega arith)) ex (low 0),
-      times_at ys y k _ _ _ q l ev (are.green k l) (are.bytes k 1 l (omega arith)) ey (low 1),
-      times_at zs z k _ _ _ r l et (are.blue k l) (are.bytes k 2 l (omega arith)) ez (low 2),
-      ew,
-      most,
-      are.fixed k l,
-      distance-product (slice_index_or colors k []) (channels t),
+      times_at xs x k (slice_index color 0) _ p l (omega (arith, eu, code, red, green, blue)) red
+          ex (low 0),
+      times_at ys y k (slice_index color 1) _ q l (omega (arith, ev, code, red, green, blue)) green
+          ey (low 1),
+      times_at zs z k (slice_index color 2) _ r l (omega (arith, et, code, red, green, blue)) blue
+          ez (low 2),
+      distance-product color (channels t),
       distance-small (channels t) black (bytes t low) dark,
-      distance-small (slice_index_or colors k []) black (λ j. are.bytes k j l) dark,
+      dark_far,
+    )
+
+-- a channel of each entry
+pub channel_at : (codes : List ℕ) (shift : ℕ) → length codes ≡ 16
+    → let channels =
+    zip2 (λ a b. a % b) (zip2 (λ a b. a / 2 ^ b) codes (replicate 16 shift)) (replicate 16 256) in
+    (length channels ≡ 16)
+    × ((k : ℕ) → k < 16 → get_or channels k 0 ≡ get_or codes k 0 / 2 ^ shift % 256)
+channel_at codes shift long =
+    let moved = lane_at (λ a b. a / 2 ^ b) codes (replicate 16 shift) long refl in
+    let all =
+    lane_at (λ a b. a % b) (zip2 (λ a b. a / 2 ^ b) codes (replicate 16 shift)) (replicate 16 256)
+    moved.0 refl in (
+      all.0,
+      λ k l.
+          all.1 k l
+          ∙ rw (
+            moved.1 k l,
+            get_or-replicate {A = ℕ} 16 k shift 0 l,
+            get_or-replicate {A = ℕ} 16 k 256 0 l,
+          ) refl,
     )
 
 -- ---- the least key
@@ -241,13 +269,19 @@ distance-same : (p t : List ℕ) → slice_index p 0 ≡ slice_index t 0
 unfolding distance square_gap
 distance-same p t r g b = grind (arith, nat_tests)
 
-pub entry_distance-same : (colors : List (List ℕ)) (s : SixteenEntries) (t : List ℕ) (k : ℕ)
-    → AreSixteen colors 16 s → k < 16 → get_or s.red k 0 ≡ get_or t 0 0 * 256
-    → get_or s.green k 0 ≡ get_or t 1 0 * 256 → get_or s.blue k 0 ≡ get_or t 2 0 * 256
+pub entry_distance-same : (colors : List (List ℕ)) (s : SixteenEntries) (t : List ℕ)
+    (tolerance k : ℕ) → AreSixteen colors tolerance s → k < 16
+    → ((j : ℕ) → slice_index t j ≤ 255)
+    → get_or s.codes k 0 ≡ get_or t 0 0 + 256 * get_or t 1 0 + 65536 * get_or t 2 0
     → entry_distance colors (channels t) k ≡ 0
-entry_distance-same colors s t k are l r g b =
-    distance-same _ t (omega (arith, are.red k l, r)) (omega (arith, are.green k l, g))
-    (omega (arith, are.blue k l, b))
+entry_distance-same colors s t tolerance k are l low code =
+    let red = are.bytes k 0 l (omega arith) in
+    let green = are.bytes k 1 l (omega arith) in
+    let blue = are.bytes k 2 l (omega arith) in
+    let all = are.codes k l in
+    distance-same _ t (omega (arith, all, code, red, green, blue, low 0, low 1, low 2))
+    (omega (arith, all, code, red, green, blue, low 0, low 1, low 2))
+    (omega (arith, all, code, red, green, blue, low 0, low 1, low 2))
 
 nearer-same : (colors : List (List ℕ)) (c : List ℕ) (e : ℕ) (second : Option ℕ)
     → entry_distance colors c e ≡ 0 → nearer_entry colors c (Some e) second ≡ Some e
@@ -266,7 +300,7 @@ IsIndex-before m c e second l some none =
 
 -- so it is of the keys in lanes
 pub IsIndex-keys : (m : Mapped) (s : SixteenEntries) (t keys : List ℕ) (first second : Option ℕ)
-    (i least : ℕ) → length m.colors ≡ 16 → AreSixteen m.colors 16 s
+    (i least : ℕ) → length m.colors ≡ 16 → AreSixteen m.colors m.tolerance s
     → ((entry : ℕ) → first ≡ Some entry → entry < 16)
     → ((entry : ℕ) → second ≡ Some entry → entry < 16) → ((k : ℕ) → slice_index t k ≤ 255)
     → ((k : ℕ) → k < 16
@@ -275,7 +309,7 @@ pub IsIndex-keys : (m : Mapped) (s : SixteenEntries) (t keys : List ℕ) (first 
     → slice_index keys i ≡ least → ((k : ℕ) → k < 16 → least ≤ slice_index keys k)
     → IsIndex m (channels t) (nearer_entry m.colors (channels t) first second) (least % 16)
 IsIndex-keys m s t keys first second i least all are here there low is l reached lower =
-    let rest : added m.tolerance (lane_of first) (lane_of second) i % 64 ≡ 0 =
+    let rest : added m.tolerance (lane_of first) (lane_of second) i % 16 ≡ 0 =
     grind (arith, nat_tests) in
     let index : least % 16 ≡ i = omega (arith, is i l, reached, rest, l) in
     rw index (IsIndex-least m (channels t) first second i all here there

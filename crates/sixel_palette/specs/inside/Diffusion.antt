@@ -70,23 +70,26 @@ received_of neighbors channel =
     + below_share (slice_index neighbors.above channel)
     + rest_share (slice_index neighbors.beyond channel)
 
--- no pixel receives more
-abbrev pub received_limit : ℕ
-received_limit = 8192
+-- the errors of all neighbors are errors
+pub record HaveErrors (neighbors : Neighbors) : Type 0 where
+  pub before : AreErrors neighbors.before
+  pub behind : AreErrors neighbors.behind
+  pub above : AreErrors neighbors.above
+  pub beyond : AreErrors neighbors.beyond
 
 -- these are received by the pixel of a visit
-abbrev pub AreReceived : Mapped → List (List ℕ) → ℕ → List ℕ → Type 0
+abbrev pub AreReceived : Mapped → List (List ℕ) → ℕ → (ℕ → ℕ) → Type 0
 AreReceived m errors n numbers =
-    (k : ℕ) → k < 3 → slice_index numbers k ≡ received m errors (n % m.width) k
+    (k : ℕ) → k < 3 → numbers k ≡ received m errors (n % m.width) k
 
 -- the channels of a pixel with these numbers received
-pub record AreSixteenths (image : MappedImage) (pixel : ℕ) (numbers values : List ℕ)
+pub record AreSixteenths (image : MappedImage) (pixel : ℕ) (numbers : ℕ → ℕ) (values : List ℕ)
     : Type 0 where
   pub four : length values ≡ 4
   pub each : (k : ℕ) → k < 3
       → slice_index values k
       ≡ with_received image.strength (slice_index image.pixels.now (4 * pixel + k))
-      (slice_index numbers k)
+      (numbers k)
   pub small : (k : ℕ) → slice_index values k ≤ 4080
 
 -- sixteenths as a color
@@ -127,5 +130,5 @@ pub record AreParts (image : MappedImage) (parts : List (List ℕ)) : Type 0 whe
 pub record ArePrepared (image : MappedImage) (entries : Entries) : Type 0 where
   pub search : IsSearchOf image.colors.now entries.search
   pub sixteen : (sixteen : SixteenEntries) → entries.sixteen ≡ Some sixteen
-      → (length image.colors.now ≡ 16) × AreSixteen image.colors.now 16 sixteen
+      → (length image.colors.now ≡ 16) × AreSixteen image.colors.now image.tolerance sixteen
   pub parts : AreParts image entries.parts.items

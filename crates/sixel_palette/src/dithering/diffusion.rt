@@ -3,15 +3,16 @@
 //! R. W. Floyd, L. Steinberg, "An adaptive algorithm for spatial greyscale", Proceedings of the
 //! Society for Information Display 17 (1976), 75-77.
 
-ghost use Rattle.std.specs.Prelude.{◌≡◌, ℕ, ◌<◌, ◌≤◌, ◌+◌, ◌*◌, ◌/◌, IfOk, List, OnOk, length};
-ghost use Rattle.std.specs.Prelude.{[], slice_index, slice_index_or, slice_set};
-ghost use Rattle.sixel_palette.specs.Dithering.{AreMapped, errors_of, target_of_visit};
+ghost use Rattle.std.specs.Prelude.{◌≡◌, ℕ, ◌<◌, ◌≤◌, ◌+◌, ◌-◌, ◌*◌, ◌/◌, IfOk, List, OnOk, length};
+ghost use Rattle.std.specs.Prelude.{[], Some, slice_index, slice_index_or, slice_set};
+ghost use Rattle.sixel_palette.specs.Dithering.{AreMapped, entry_before, errors_of};
+ghost use Rattle.sixel_palette.specs.Dithering.{target_of_visit};
 ghost use Rattle.sixel_palette.specs.inside.Diffusion.{AreErrors, AreLanes, AreParts};
-ghost use Rattle.sixel_palette.specs.inside.Diffusion.{ArePrepared, AreReceived, IsPart};
+ghost use Rattle.sixel_palette.specs.inside.Diffusion.{ArePrepared, AreReceived, HaveErrors};
 ghost use Rattle.sixel_palette.specs.inside.Diffusion.{AreSixteenths, AreVisited, IsBeyond, IsLine};
 ghost use Rattle.sixel_palette.specs.inside.Diffusion.{IsVisit, channels, color_error};
-ghost use Rattle.sixel_palette.specs.inside.Diffusion.{no_error_lanes, received_limit, received_of};
-ghost use Rattle.sixel_palette.specs.inside.Diffusion.{rounded_color};
+ghost use Rattle.sixel_palette.specs.inside.Diffusion.{no_error_lanes, received_of};
+ghost use Rattle.sixel_palette.specs.inside.Diffusion.{IsPart, rounded_color};
 ghost use Rattle.sixel_palette.specs.inside.Mapped.{AreEntries, IsMappable, IsPlace, mapped_value};
 
 use crate::dithering::mapped::{MappedImage, Place, column_of_step};
@@ -43,6 +44,9 @@ pub fn diffused_indices(alloc: Global, image: &MappedImage<'_>) -> Result<Vec<u8
 /// An error of each channel, in sixteenths above the lowest one. The fourth lane has no meaning.
 type PixelError = u16x4;
 
+/// What is added to sixteenths, so that their limit is that of numbers of 16 bits.
+const LOWEST: u16 = u16::MAX - 4080;
+
 /// The entries of a palette, as a visit needs them.
 #[derive(Drop)]
 pub struct Entries {
@@ -65,7 +69,7 @@ impl MappedImage<'_> {
         }
         Ok(Entries {
             search: Search::new(alloc, self.colors)?,
-            sixteen: SixteenEntries::of(self.colors),
+            sixteen: SixteenEntries::of(self.colors, self.tolerance),
             parts,
         })
     }
@@ -132,23 +136,28 @@ impl MappedImage<'_> {
             (row + 1) 0 line.new) }
         ensures prepared { OnOk result (ArePrepared self.now entries.new) }
     {
-        let mut before = self.no_error();
-        let mut behind = self.no_error();
-        for step in 0..self.width {
-            let column = column_of_step(self.width, row, step);
+        // A copy stays in registers, since no store to a slice can change it.
+        let image = *self;
+        let mut before = image.no_error();
+        let mut behind = image.no_error();
+        let mut entry = None;
+        for step in 0..image.width {
+            let column = column_of_step(image.width, row, step);
             let place = Place {
                 row,
                 step,
-                pixel: row * self.width + column,
+                pixel: row * image.width + column,
             };
             let above = line[column];
             let neighbors = Neighbors {
+                entry,
                 before,
                 behind,
                 above,
-                beyond: self.error_beyond(line, row, step),
+                beyond: image.error_beyond(line, row, step),
             };
-            self.visit(indices, entries, place, neighbors.received(), &mut before)?;
+            image.visit(indices, entries, place, neighbors, &mut before)?;
+            entry = image.entry_at(indices, place.pixel);
             line[column] = before;
             behind = above;
         }
@@ -170,28 +179,31 @@ impl MappedImage<'_> {
         }
     }
 
-    /// Stores the index and the error of a place that receives these numbers.
+    /// Stores the index and the error of a place with these neighbors.
     #[inline(always)]
     fn visit(
         &self,
         indices: &mut [u8],
         entries: &mut Entries,
         place: Place,
-        received: u16x4,
+        neighbors: Neighbors,
         error: &mut PixelError,
     ) -> Result<(), AllocError>
         requires image { IsMappable self.now }
         requires indices { length indices.old ≡ length self.now.pixels.now / 4 }
         requires entries { AreEntries self.now.colors.now indices.old }
         requires place { IsPlace (mapped_value self.now) place }
-        requires four { length received ≡ 4 }
-        requires small { (k : ℕ) → slice_index received k ≤ received_limit }
+        requires entry { neighbors.entry ≡ entry_before (mapped_value self.now) indices.old
+            (place.row * self.now.width + place.step) }
+        requires inside { (index : ℕ) → neighbors.entry ≡ Some index
+            → index < length self.now.colors.now }
+        requires errors { HaveErrors neighbors }
         requires prepared { ArePrepared self.now entries.old }
         ensures indices { OnOk result (length indices.new ≡ length self.now.pixels.now / 4) }
         ensures entries { OnOk result (AreEntries self.now.colors.now indices.new) }
         ensures visit { OnOk result ((errors : List (List ℕ))
             → AreReceived (mapped_value self.now) errors
-            (place.row * self.now.width + place.step) received
+            (place.row * self.now.width + place.step) (received_of neighbors)
             → IsVisit (mapped_value self.now) errors (place.row * self.now.width + place.step)
             indices.old indices.new error.new) }
         ensures prepared { OnOk result (ArePrepared self.now entries.new) }
@@ -201,17 +213,15 @@ impl MappedImage<'_> {
             *error = self.no_error();
             return Ok(());
         }
-        let values = self.sixteenths(place.pixel, received);
-        let lanes = rounded(values);
+        let (values, lanes) = self.sixteenths(place.pixel, neighbors);
         if let Some(sixteen) = &entries.sixteen {
-            let before = self.entry_before(indices, place);
             let above = self.entry_above(indices, place);
-            let index = sixteen.index_of(lanes, before, above, self.tolerance);
+            let index = sixteen.index_of(lanes, neighbors.entry, above, self.tolerance);
             *error = self.store(indices, &entries.parts, place.pixel, values, index);
             return Ok(());
         }
         let target = color_of(lanes);
-        let (before, above) = self.neighbors(indices, place, target);
+        let (before, above) = self.neighbors(indices, place, neighbors.entry, target);
         let kept = before.or_nearer(above);
         // In a flat area these branches are predicted, so that no distance is waited for.
         if kept.squared >= self.tolerance {
@@ -254,21 +264,28 @@ impl MappedImage<'_> {
         (whole - parts[usize::from(index)]) >> u16x4::splat(3)
     }
 
-    /// Returns the channels of a pixel with what it receives, in sixteenths.
+    /// Returns the channels of a pixel with what it receives, in sixteenths and rounded half up.
+    ///
+    /// The error before is the last one to be known. So its share is added last, to a sum that is
+    /// limited as numbers of 16 bits are.
     #[inline(always)]
-    fn sixteenths(&self, pixel: usize, received: u16x4) -> u16x4
+    fn sixteenths(&self, pixel: usize, neighbors: Neighbors) -> (u16x4, u8x4)
         requires strength { self.now.strength ≤ 8 }
         requires pixel { pixel < length self.now.pixels.now / 4 }
-        requires four { length received ≡ 4 }
-        requires small { (k : ℕ) → slice_index received k ≤ received_limit }
-        ensures { AreSixteenths self.now pixel received result }
+        requires errors { HaveErrors neighbors }
+        ensures values { AreSixteenths self.now pixel (received_of neighbors) result.0 }
+        ensures target { channels result.1 ≡ rounded_color result.0 }
     {
-        let none = u16x4::splat(512 * u16::from(self.strength));
+        let none = 512 * u16::from(self.strength);
         let color = color_lanes(self.pixels, pixel);
-        let sum = color * u16x4::splat(16) + received;
-        let value = sum.saturating_sub(none);
-        let above = value.saturating_sub(u16x4::splat(4080));
-        value - above
+        let below_before = share(neighbors.behind, 3);
+        let below = share(neighbors.above, 5);
+        let whole = neighbors.beyond;
+        let rest = whole - share(whole, 7) - share(whole, 3) - share(whole, 5);
+        let known = color * u16x4::splat(16) + below_before + below + rest;
+        let raised = known.saturating_add(u16x4::splat(LOWEST - none));
+        let sum = raised.saturating_add(next_share(neighbors.before));
+        (sum.saturating_sub(u16x4::splat(LOWEST)), rounded(sum))
     }
 
     /// Returns the error of a pixel that passes nothing on.
@@ -282,39 +299,19 @@ impl MappedImage<'_> {
     }
 }
 
-/// The errors of the pixels that pass something on to one pixel.
+/// What a pixel gets of its neighbors: an entry, and the errors of those that pass something on.
 #[derive(Clone, Copy)]
 pub struct Neighbors {
-    /// The pixel before it in its row.
+    /// The entry of the pixel before it in its row.
+    pub entry: Option<u8>,
+    /// The error of that pixel.
     pub before: PixelError,
-    /// The one above that.
+    /// The one of the pixel above that.
     pub behind: PixelError,
-    /// The pixel above it.
+    /// The one of the pixel above it.
     pub above: PixelError,
-    /// The pixel above the next one.
+    /// The one of the pixel above the next one.
     pub beyond: PixelError,
-}
-
-impl Neighbors {
-    /// Returns what the pixel receives in each channel.
-    #[inline(always)]
-    fn received(&self) -> u16x4
-        requires before { AreErrors self.now.before }
-        requires behind { AreErrors self.now.behind }
-        requires above { AreErrors self.now.above }
-        requires beyond { AreErrors self.now.beyond }
-        ensures four { length result ≡ 4 }
-        ensures value { (k : ℕ) → k < 3 → slice_index result k ≡ received_of self.now k }
-        ensures small { (k : ℕ) → slice_index result k ≤ received_limit }
-    {
-        let next = next_share(self.before);
-        let below_before = share(self.behind, 3);
-        let below = share(self.above, 5);
-        let whole = self.beyond;
-        let rest = whole - share(whole, 7) - share(whole, 3) - share(whole, 5);
-        // The error before is the last one to be known, and LLVM adds saturating terms in order.
-        (below_before + below + rest).saturating_add(next)
-    }
 }
 
 /// Returns the bytes of a pixel: its channels, and then its alpha.
@@ -346,25 +343,19 @@ fn next_share(error: u16x4) -> u16x4
     (error * u16x4::splat(8)).saturating_sub(error) >> u16x4::splat(4)
 }
 
-/// Returns sixteenths as the lanes of a color, rounded half up.
+/// Returns the color of sums that are `LOWEST` above sixteenths, rounded half up.
 #[inline(always)]
-fn rounded(values: u16x4) -> u16x4
-    requires four { length values ≡ 4 }
-    requires small { (k : ℕ) → slice_index values k ≤ 4080 }
-    ensures four { length result ≡ 4 }
-    ensures small { (k : ℕ) → slice_index result k ≤ 255 }
-    ensures value { channels result ≡ rounded_color values }
+fn rounded(sum: u16x4) -> u8x4
+    ensures { AreLanes result (λ k. (slice_index sum k - 61447) / 16) }
 {
-    (values + u16x4::splat(8)) >> u16x4::splat(4)
+    (sum.saturating_sub(u16x4::splat(LOWEST - 8)) >> u16x4::splat(4)).cast::<u8>()
 }
 
 /// Returns the color of lanes.
 #[inline(always)]
-fn color_of(lanes: u16x4) -> [u8; 3]
-    requires four { length lanes ≡ 4 }
-    requires small { (k : ℕ) → slice_index lanes k ≤ 255 }
+fn color_of(lanes: u8x4) -> [u8; 3]
     ensures { result ≡ channels lanes }
 {
     let color = lanes.to_array();
-    [color[0] as u8, color[1] as u8, color[2] as u8]
+    [color[0], color[1], color[2]]
 }

@@ -170,17 +170,27 @@ impl MappedImage<'_> {
             (neighbor_of (mapped_value self.now) target indices.now
             (place.row * self.now.width + place.step)) result }
     {
-        let (before, above) = self.neighbors(indices, place, target);
+        let before = self.entry_before(indices, place);
+        let (before, above) = self.neighbors(indices, place, before, target);
         before.or_nearer(above)
     }
 
     /// Returns the entries of the pixels before and above. Without a tolerance there are none.
     #[inline(always)]
-    pub fn neighbors(&self, indices: &[u8], place: Place, target: [u8; 3]) -> (Kept, Kept)
+    pub fn neighbors(
+        &self,
+        indices: &[u8],
+        place: Place,
+        before: Option<u8>,
+        target: [u8; 3],
+    ) -> (Kept, Kept)
         requires image { IsMappable self.now }
         requires place { IsPlace (mapped_value self.now) place }
         requires size { length indices.now ≡ length self.now.pixels.now / 4 }
         requires entries { AreEntries self.now.colors.now indices.now }
+        requires before { before ≡ entry_before (mapped_value self.now) indices.now
+            (place.row * self.now.width + place.step) }
+        requires inside { (index : ℕ) → before ≡ Some index → index < length self.now.colors.now }
         ensures above { result.1.squared < result.0.squared → IsKept (mapped_value self.now) target
             (neighbor_of (mapped_value self.now) target indices.now
             (place.row * self.now.width + place.step)) result.1 }
@@ -191,7 +201,7 @@ impl MappedImage<'_> {
         if self.tolerance == 0 {
             return (NONE, NONE);
         }
-        let before = self.kept_at(self.entry_before(indices, place), target);
+        let before = self.kept_at(before, target);
         let above = self.kept_at(self.entry_above(indices, place), target);
         (before, above)
     }
@@ -249,7 +259,7 @@ impl MappedImage<'_> {
 
     /// Returns the entry of a pixel, if the pixel is opaque.
     #[inline(always)]
-    fn entry_at(&self, indices: &[u8], pixel: usize) -> Option<u8>
+    pub fn entry_at(&self, indices: &[u8], pixel: usize) -> Option<u8>
         requires pixel { pixel < length self.now.pixels.now / 4 }
         requires size { length indices.now ≡ length self.now.pixels.now / 4 }
         ensures value { result ≡ entry_of self.now.pixels.now indices.now pixel }

@@ -3,8 +3,8 @@
 //! The square of a difference is the sum of two squares less twice the product. So the key of an
 //! entry is a number of its own less its product with the target.
 
-ghost use Rattle.std.specs.Prelude.{◌≡◌, ◌/◌, ◌<◌, ◌≤◌, ℕ, List, Option, Some, length, slice_index};
-ghost use Rattle.std.specs.Prelude.{true};
+ghost use Rattle.std.specs.Prelude.{◌≡◌, ◌+◌, ◌*◌, ◌/◌, ◌%◌, ◌^◌, ◌<◌, ◌≤◌, ℕ, List};
+ghost use Rattle.std.specs.Prelude.{Option, Some, length, slice_index, true};
 ghost use Rattle.sixel_palette.specs.Dithering.{IsIndex, Mapped, entry_distance, nearer_entry};
 ghost use Rattle.sixel_palette.specs.inside.Diffusion.{channels};
 ghost use Rattle.sixel_palette.specs.inside.SixteenEntries.{AreSixteen, lane_key, lane_of};
@@ -14,46 +14,53 @@ use crate::palette::nearest_entry::NO_ENTRY;
 use crate::palette::nearest_indices::channel_bytes;
 use std::simd::prelude::*;
 
-/// What each key has, so that none is below 0: more than 256 times the square of any color.
-const KEY_BASE: u32 = 0x400_0000;
+/// What each key has, so that none is below 0: more than 64 times the square of any color.
+const KEY_BASE: u32 = 0x100_0000;
 
 /// The entries of a palette of sixteen.
 #[derive(Clone, Copy)]
 pub struct SixteenEntries {
-    /// 256 times each channel.
-    pub red: [u16; 16],
-    pub green: [u16; 16],
-    pub blue: [u16; 16],
-    /// What a key has beside the product.
-    pub fixed: [u32; 16],
+    /// The colors: red, 256 times green, and 65536 times blue.
+    pub codes: [u32; 16],
+    /// A row for each lane of the entry before: what each key has beside the product.
+    pub before: [u32; 272],
+    /// The same for the entry above.
+    pub above: [u32; 272],
 }
 
 impl SixteenEntries {
     /// Returns the entries of a palette of sixteen colors.
-    pub fn of(colors: &[[u8; 3]]) -> Option<SixteenEntries>
+    pub fn of(colors: &[[u8; 3]], tolerance: u32) -> Option<SixteenEntries>
         ensures sixteen { (entries : SixteenEntries) → result ≡ Some entries
             → length colors.now ≡ 16 }
         ensures lanes { (entries : SixteenEntries) → result ≡ Some entries
-            → AreSixteen colors.now 16 entries }
+            → AreSixteen colors.now tolerance entries }
     {
         if colors.len() != 16 {
             return None;
         }
-        let mut entries = SixteenEntries {
-            red: [0; 16],
-            green: [0; 16],
-            blue: [0; 16],
-            fixed: [0; 16],
-        };
+        let mut codes = [0; 16];
+        let mut fixed = [0; 16];
         for index in 0..16 {
             let color = colors[index];
             channel_bytes(color);
-            entries.red[index] = 256 * u16::from(color[0]);
-            entries.green[index] = 256 * u16::from(color[1]);
-            entries.blue[index] = 256 * u16::from(color[2]);
-            entries.fixed[index] = KEY_BASE + 256 * distance(color, [0, 0, 0]) + index as u32;
+            codes[index] = u32::from_le_bytes([color[0], color[1], color[2], 0]);
+            fixed[index] = KEY_BASE + 64 * distance(color, [0, 0, 0]) + index as u32;
         }
-        Some(entries)
+        let near = tolerance.min(1);
+        let far = 64 * tolerance.min(NO_ENTRY);
+        let mut before = [0; 272];
+        let mut above = [0; 272];
+        for at in 0..272 {
+            let in_lane = at % 16 == at / 16;
+            before[at] = fixed[at % 16] + if in_lane { 16 * near } else { far };
+            above[at] = fixed[at % 16] + if in_lane { 32 * near } else { far };
+        }
+        Some(SixteenEntries {
+            codes,
+            before,
+            above,
+        })
     }
 
     /// Returns the index for a target whose neighbors have these entries.
@@ -62,18 +69,16 @@ impl SixteenEntries {
     #[inline(always)]
     pub fn index_of(
         &self,
-        target: u16x4,
+        target: u8x4,
         before: Option<u8>,
         above: Option<u8>,
         tolerance: u32,
     ) -> u8
-        requires four { length target ≡ 4 }
-        requires small { (k : ℕ) → slice_index target k ≤ 255 }
         requires before { (entry : ℕ) → before ≡ Some entry → entry < 16 }
+        requires above { (entry : ℕ) → above ≡ Some entry → entry < 16 }
         ensures within { result < 16 }
         ensures index { (m : Mapped) → length m.colors ≡ 16 → m.tolerance ≡ tolerance
-            → AreSixteen m.colors 16 self.now
-            → ((entry : ℕ) → above ≡ Some entry → entry < 16)
+            → AreSixteen m.colors m.tolerance self.now
             → IsIndex m (channels target)
             (nearer_entry m.colors (channels target) before above) result }
     {
@@ -83,7 +88,7 @@ impl SixteenEntries {
         {
             return index;
         }
-        let keys = self.keys(target, lane_of(before), lane_of(above), tolerance);
+        let keys = self.keys(target, lane_of(before), lane_of(above));
         let mut least = keys[0];
         for lane in 1..16 {
             least = keys[lane].min(least);
@@ -93,62 +98,66 @@ impl SixteenEntries {
 
     /// Whether an entry has this color.
     #[inline(always)]
-    fn is_entry(&self, index: u8, color: u16x4) -> bool
-        requires index { index < 16 }
-        requires four { length color ≡ 4 }
-        requires small { (k : ℕ) → slice_index color k ≤ 255 }
-        ensures { (colors : List (List ℕ)) → result ≡ true → AreSixteen colors 16 self.now
+    fn is_entry(&self, index: u8, color: u8x4) -> bool
+        requires { index < 16 }
+        ensures { (colors : List (List ℕ)) (tolerance : ℕ) → result ≡ true
+            → AreSixteen colors tolerance self.now
             → entry_distance colors (channels color) index ≡ 0 }
     {
-        let lane = usize::from(index);
-        let scaled = (color * u16x4::splat(256)).to_array();
-        self.red[lane] == scaled[0] && self.green[lane] == scaled[1] && self.blue[lane] == scaled[2]
+        let code = u32::from_le_bytes(color.to_array());
+        self.codes[usize::from(index)] == code % 0x100_0000
     }
 
     /// Returns the key of each entry.
+    ///
+    /// LLVM multiplies lanes of 16 bits, since it knows that those of a channel have 8.
     #[inline(always)]
-    fn keys(&self, target: u16x4, before: u32, above: u32, tolerance: u32) -> [u32; 16]
-        requires four { length target ≡ 4 }
-        requires small { (k : ℕ) → slice_index target k ≤ 255 }
-        ensures { (colors : List (List ℕ)) (k : ℕ) → AreSixteen colors 16 self.now → k < 16
-            → slice_index result k
+    fn keys(&self, target: u8x4, before: usize, above: usize) -> [u32; 16]
+        requires before { before ≤ 16 }
+        requires above { above ≤ 16 }
+        ensures { (colors : List (List ℕ)) (tolerance k : ℕ) → AreSixteen colors tolerance self.now
+            → k < 16 → slice_index result k
             ≡ lane_key colors (channels target) tolerance before above k }
     {
-        let places = u32x16::from_array([0, 1, 2, 3, 4, 5, 6, 7, 8, 9, 10, 11, 12, 13, 14, 15]);
-        let added = places.simd_eq(u32x16::splat(before)).select(
-            u32x16::splat(64 * tolerance.min(1)),
-            places.simd_eq(u32x16::splat(above)).select(
-                u32x16::splat(128 * tolerance.min(1)),
-                u32x16::splat(256 * tolerance.min(NO_ENTRY)),
-            ),
-        );
-        let scaled = (target * u16x4::splat(16)).cast::<u32>().to_array();
-        let products = wide(&self.red) * u32x16::splat(scaled[0])
-            + wide(&self.green) * u32x16::splat(scaled[1])
-            + wide(&self.blue) * u32x16::splat(scaled[2]);
-        (u32x16::from_array(self.fixed) + added - products).to_array()
+        let scaled = (target.cast::<u16>() * u16x4::splat(128))
+            .cast::<u32>()
+            .to_array();
+        let products = self.channel(0) * u32x16::splat(scaled[0])
+            + self.channel(8) * u32x16::splat(scaled[1])
+            + self.channel(16) * u32x16::splat(scaled[2]);
+        let least = row(&self.before, before).simd_min(row(&self.above, above));
+        (least - products).to_array()
+    }
+
+    /// Returns the channel of each entry that has this place in the codes.
+    #[inline(always)]
+    fn channel(&self, shift: u32) -> u32x16
+        requires { shift < 32 }
+        ensures sixteen { length result ≡ 16 }
+        ensures each { (k : ℕ) → k < 16
+            → slice_index result k ≡ slice_index self.now.codes k / 2 ^ shift % 256 }
+    {
+        (u32x16::from_array(self.codes) >> u32x16::splat(shift)) % u32x16::splat(256)
     }
 }
 
-/// Returns the eighths of lanes.
-///
-/// By the shift LLVM knows that they have 13 bits, so that it multiplies lanes of 16 bits.
+/// Returns the row of a lane.
 #[inline(always)]
-fn wide(lanes: &[u16]) -> u32x16
-    requires { length lanes.now ≡ 16 }
+fn row(rows: &[u32], lane: usize) -> u32x16
+    requires { 16 * lane + 16 ≤ length rows.now }
     ensures sixteen { length result ≡ 16 }
-    ensures each { (k : ℕ) → k < 16 → slice_index result k ≡ slice_index lanes.now k / 8 }
+    ensures each { (k : ℕ) → k < 16 → slice_index result k ≡ slice_index rows.now (16 * lane + k) }
 {
-    (u16x16::from_slice(lanes) >> u16x16::splat(3)).cast::<u32>()
+    u32x16::from_slice(&rows[16 * lane..])
 }
 
 /// Returns the lane of an entry, or one that is none.
 #[inline(always)]
-fn lane_of(entry: Option<u8>) -> u32
+fn lane_of(entry: Option<u8>) -> usize
     ensures { result ≡ lane_of entry }
 {
     match entry {
-        Some(index) => u32::from(index),
+        Some(index) => usize::from(index),
         None => 16,
     }
 }

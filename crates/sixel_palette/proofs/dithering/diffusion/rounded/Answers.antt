@@ -1,13 +1,12 @@
-use Rattle.std.proofs.Common.{◌∷◌, [], arith}
-use Rattle.sixel_palette.proofs.DiffusionLanes.{lanes-rounded, small-lanes}
+use Rattle.std.proofs.Common.{arith}
+use Rattle.std.proofs.lemmas.Simd.{Each1-from_get_or}
+use Rattle.sixel_palette.proofs.DiffusionLanes.{lanes-cast, lanes-rounded}
 use Rattle.sixel_palette.proofs.dithering.diffusion.rounded.Goals as goal
 
+pub overflow_cast-result : goal.overflow_cast-result
+overflow_cast-result c =
+    let all = lanes-rounded c.args.sum c.fits-sum.0 c.fits-sum.1 in
+    Each1-from_get_or _ _ 0 (λ i l. record { fits = omega (arith, all.1 i) })
+
 pub returns : goal.returns
-returns c =
-    let all = lanes-rounded c.args.values c.requires.four c.requires.small in
-    record {
-      four = all.four;
-      small = small-lanes _ _ 255 all (λ k l. omega (arith, c.requires.small k));
-      value = λ i.
-          all.each 0 (omega arith) i ∷ all.each 1 (omega arith) i ∷ all.each 2 (omega arith) i ∷ [];
-    }
+returns c = lanes-cast _ _ (lanes-rounded c.args.sum c.fits-sum.0 c.fits-sum.1).0

@@ -1,18 +1,35 @@
-use Rattle.std.proofs.Common.{◌≡◌, ◌+◌, ◌*◌, [], get_or, ap, ◌∙◌, arith}
+use Rattle.std.proofs.Common.{◌≡◌, ◌+◌, ◌*◌, [], get_or, ap, refl, sym, ◌∙◌, arith}
 use Rattle.std.proofs.lemmas.Nat.{mod-mul-add}
 use Rattle.sixel_palette.specs.declared.dithering.diffusion.Neighbors.{Neighbors}
-use Rattle.sixel_palette.specs.Dithering.{error_above, errors_of}
+use Rattle.sixel_palette.specs.Dithering.{column_of_step, entry_of, error_above, error_back}
+use Rattle.sixel_palette.specs.Dithering.{errors_of}
 use Rattle.sixel_palette.specs.inside.Diffusion.{channels}
 use Rattle.sixel_palette.specs.inside.Mapped.{mapped_value}
 use Rattle.sixel_palette.proofs.DiffusionVisit.{AreVisited-more, IsLine-more, errors_of-more}
 use Rattle.sixel_palette.proofs.DiffusionVisit.{AreReceived-neighbors, before-more, behind-more}
-use Rattle.sixel_palette.proofs.DiffusionVisit.{beyond-line}
-use Rattle.sixel_palette.proofs.Serpentine.{serpentine-step, column-next_row}
+use Rattle.sixel_palette.proofs.DiffusionVisit.{AreErrors-beyond, beyond-line}
+use Rattle.sixel_palette.proofs.Serpentine.{column-next_row, serpentine-step}
+use Rattle.sixel_palette.proofs.KeptEntries.{before-none, before-some}
 use Rattle.std.proofs.lemmas.Bool.Decides.{nat_tests}
 use Rattle.sixel_palette.proofs.dithering.mapped.MappedImage.diffuse_row.Goals as goal
 
 pub loop-step-init : goal.loop-step-init
-loop-step-init c = grind (arith, nat_tests)
+loop-step-init c =
+    let m = mapped_value c.args.self.now in
+    let first : c.args.row * m.width + 0 ≡ c.args.row * m.width = omega arith in
+    record {
+      size = c.requires.indices;
+      entries = c.requires.entries;
+      visited = rw first c.requires.visited;
+      line = rw first c.requires.line;
+      entry = λ some. sym (before-none m c.args.indices.now c.args.row 0 some refl);
+      inside = λ index is. absurd cc;
+      before = ap channels c.no_error-before.ensures.value;
+      behind = ap channels c.no_error-behind.ensures.value;
+      lanes_before = c.no_error-before.ensures.lanes;
+      lanes_behind = c.no_error-behind.ensures.lanes;
+      prepared = c.requires.prepared;
+    }
 
 pub loop-step-preserved : goal.loop-step-preserved
 loop-step-preserved c =
@@ -30,10 +47,12 @@ loop-step-preserved c =
     let column = c.column_of_step-column.result in
     let same = c.column_of_step-column.ensures.value in
     let above : channels (get_or line column []) ≡ error_above m errors step =
-    ap (λ k. channels (get_or line k [])) same ∙ grind (arith, nat_tests) in
+    ap (λ k. channels (get_or line k [])) same
+    ∙ (h.line.above step (omega arith) inside ∙ ap (error_back m errors) (omega arith)) in
     let beyond =
     beyond-line m errors line row step c.error_beyond.result inside h.line c.error_beyond.ensures in
     let neighbors : Neighbors = record {
+      entry = c.loop-step.entry;
       before = c.loop-step.before;
       behind = c.loop-step.behind;
       above = get_or line column [];
@@ -41,9 +60,8 @@ loop-step-preserved c =
     } in
     let visit =
     c.in_ok-visit.ensures.visit errors
-    (AreReceived-neighbors m errors n step neighbors c.received.result
-    (mod-mul-add row m.width step inside) h.before h.behind above beyond
-    c.received.ensures.value) in
+    (AreReceived-neighbors m errors n step neighbors (mod-mul-add row m.width step inside) h.before
+    h.behind above beyond) in
     let wide = c.requires.image.whole.wide in
     let next : n + 1 ≡ row * m.width + (step + 1) = omega arith in
     let more = rw next at (errors_of-more m old new error n wide visit) in
@@ -52,6 +70,12 @@ loop-step-preserved c =
       entries = c.in_ok-visit.ensures.entries;
       visited = rw next at (AreVisited-more m old new error n wide h.visited visit);
       line = rw (more, same) (IsLine-more m errors line row step error inside visit.lanes h.line);
+      entry = λ later.
+          c.entry_at-entry.ensures.value
+          ∙ (ap (λ k. entry_of m.pixels new (row * m.width + k))
+          (same ∙ ap (column_of_step m.width row) (omega arith))
+          ∙ sym (before-some m new row (step + 1) later (omega arith)));
+      inside = λ index is. c.entry_at-entry.ensures.inside index c.in_ok-visit.ensures.entries is;
       before = rw more (before-more m errors step (channels error));
       behind = rw more (above ∙ behind-more m errors step (channels error));
       lanes_before = visit.lanes;
@@ -76,24 +100,25 @@ error_beyond-requires-clause-image c = c.requires.image
 pub error_beyond-requires-clause-line : goal.error_beyond-requires-clause-line
 error_beyond-requires-clause-line c = c.loop-step.invariant.line.whole
 
-pub received-requires : goal.received-requires
-received-requires c =
-    grind (
-      arith,
-      nat_tests,
-      c.loop-step.invariant.lanes_before,
-      c.loop-step.invariant.lanes_behind,
-    )
-
 pub visit-requires : goal.visit-requires
 visit-requires c =
+    let m = mapped_value c.args.self.now in
     let h = c.loop-step.invariant in
     record {
       image = c.requires.image;
       indices = h.size;
       entries = h.entries;
       place = grind (arith, c.loop-step-test.true, c.requires.row, serpentine-step);
-      four = c.received.ensures.four;
-      small = c.received.ensures.small;
+      entry = h.entry c.loop-step-test.true;
+      inside = h.inside;
+      errors = record {
+        before = h.lanes_before;
+        behind = h.lanes_behind;
+        above = h.line.lanes c.column_of_step-column.result c.column_of_step-column.ensures.within;
+        beyond = AreErrors-beyond m c.loop-step.line c.args.row c.loop-step.step
+            c.error_beyond.result c.loop-step-test.true
+            (rw c.no_error-before.ensures.value at c.no_error-before.ensures.lanes) h.line.lanes
+            c.error_beyond.ensures;
+      };
       prepared = h.prepared;
     }

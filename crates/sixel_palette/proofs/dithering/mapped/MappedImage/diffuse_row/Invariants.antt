@@ -1,6 +1,6 @@
-use Rattle.std.proofs.Common.{◌≡◌, ◌+◌, ◌*◌, length}
-use Rattle.std.specs.Prelude.{◌/◌}
-use Rattle.sixel_palette.specs.Dithering.{error_before, error_behind, errors_of}
+use Rattle.std.proofs.Common.{◌≡◌, ℕ, ◌+◌, ◌*◌, ◌<◌, length}
+use Rattle.std.specs.Prelude.{◌/◌, Some}
+use Rattle.sixel_palette.specs.Dithering.{entry_before, error_before, error_behind, errors_of}
 use Rattle.sixel_palette.specs.inside.Diffusion.{AreErrors, ArePrepared, AreVisited, IsLine}
 use Rattle.sixel_palette.specs.inside.Diffusion.{channels}
 use Rattle.sixel_palette.specs.inside.Mapped.{AreEntries, mapped_value}
@@ -14,6 +14,9 @@ invariant-loop-step l = record {
   line : IsLine (mapped_value l.self)
       (errors_of (mapped_value l.self) l.indices (l.row * l.self.width + l.step)) l.row l.step
       l.line;
+  entry : l.step < l.self.width → l.entry
+      ≡ entry_before (mapped_value l.self) l.indices (l.row * l.self.width + l.step);
+  inside : (index : ℕ) → l.entry ≡ Some index → index < length l.self.colors.now;
   before : channels l.before
       ≡ error_before (mapped_value l.self)
       (errors_of (mapped_value l.self) l.indices (l.row * l.self.width + l.step)) l.step;

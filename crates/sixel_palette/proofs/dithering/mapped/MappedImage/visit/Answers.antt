@@ -26,15 +26,20 @@ returns-then-not-is_opaque c = record {
 
 pub index_of-index-requires-clause-before : goal.index_of-index-requires-clause-before
 index_of-index-requires-clause-before c = λ entry is.
-    let (all, lanes) = c.requires.prepared.sixteen c.in-Some.sixteen c.in-Some.is in
-    rw (sym all) (c.entry_before-before.ensures.inside entry c.requires.entries is)
+    rw (sym (c.requires.prepared.sixteen c.in-Some.sixteen c.in-Some.is).0)
+    (c.requires.inside entry is)
+
+pub index_of-index-requires-clause-above : goal.index_of-index-requires-clause-above
+index_of-index-requires-clause-above c = λ entry is.
+    rw (sym (c.requires.prepared.sixteen c.in-Some.sixteen c.in-Some.is).0)
+    (c.entry_above-above.ensures.inside entry c.requires.entries is)
 
 pub store-requires : goal.store-requires
 store-requires c = record {
   strength = c.requires.image.strength;
   pixel = rw c.requires.indices c.requires.place.within;
-  four = c.sixteenths-values.ensures.four;
-  values = c.sixteenths-values.ensures.small;
+  four = c.sixteenths.ensures.values.four;
+  values = c.sixteenths.ensures.values.small;
   index =
       rw (c.requires.prepared.sixteen c.in-Some.sixteen c.in-Some.is).0
       c.index_of-index.ensures.within;
@@ -51,18 +56,17 @@ returns-in-Some c =
           let image = c.args.self.now in
           let m = mapped_value image in
           let n = c.args.place.row * m.width + c.args.place.step in
-          let target = channels c.rounded-lanes.result in
-          let before = c.entry_before-before.ensures in
+          let target = channels c.sixteenths.result.1 in
           let above = c.entry_above-above.ensures in
           let chosen : IsIndex m target (neighbor_of m target c.args.indices.now n)
           c.index_of-index.result =
           let (all, lanes) = c.requires.prepared.sixteen c.in-Some.sixteen c.in-Some.is in
-          rw (sym before.value, sym above.value) (c.index_of-index.ensures.index m all refl lanes
-          (λ index is. rw (sym all) (above.inside index c.requires.entries is))) in
+          rw (sym c.requires.entry, sym above.value)
+          (c.index_of-index.ensures.index m all refl lanes) in
           IsVisit-stored image errors c.args.place c.index_of-index.result _ _ target _ _ _
           c.requires.image c.requires.place c.requires.indices received
-          c.sixteenths-values.ensures (c.is_opaque.ensures.opaque c.if-not-is_opaque.false)
-          c.rounded-lanes.ensures.value chosen stored.indices stored.error stored.lanes;
+          c.sixteenths.ensures.values (c.is_opaque.ensures.opaque c.if-not-is_opaque.false)
+          c.sixteenths.ensures.target chosen stored.indices stored.error stored.lanes;
       prepared = c.requires.prepared;
     }
 
@@ -75,8 +79,8 @@ pub store-requires-then-kept-self : goal.store-requires-then-kept-self
 store-requires-then-kept-self c = record {
   strength = c.requires.image.strength;
   pixel = rw c.requires.indices c.requires.place.within;
-  four = c.sixteenths-values.ensures.four;
-  values = c.sixteenths-values.ensures.small;
+  four = c.sixteenths.ensures.values.four;
+  values = c.sixteenths.ensures.values.small;
   index =
       (c.in_ok-index.ensures.index _
       (IsKept-nearer (mapped_value c.args.self.now) c.color_of-target.result
@@ -100,8 +104,8 @@ returns-in_ok-index c =
           let neighbor = neighbor_of m target c.args.indices.now n in
           IsVisit-stored c.args.self.now errors c.args.place c.in_ok-index.index _ _ target _ _ _
           c.requires.image c.requires.place c.requires.indices received
-          c.sixteenths-values.ensures (c.is_opaque.ensures.opaque c.if-not-is_opaque.false)
-          (c.color_of-target.ensures ∙ c.rounded-lanes.ensures.value)
+          c.sixteenths.ensures.values (c.is_opaque.ensures.opaque c.if-not-is_opaque.false)
+          (c.color_of-target.ensures ∙ c.sixteenths.ensures.target)
           (c.in_ok-index.ensures.index neighbor
           (IsKept-nearer m target neighbor _ _ _ c.neighbors.ensures.above
           c.neighbors.ensures.before c.or_nearer-kept.ensures.second
@@ -120,8 +124,8 @@ store-requires-then-above-before c =
     record {
       strength = c.requires.image.strength;
       pixel = rw c.requires.indices c.requires.place.within;
-      four = c.sixteenths-values.ensures.four;
-      values = c.sixteenths-values.ensures.small;
+      four = c.sixteenths.ensures.values.four;
+      values = c.sixteenths.ensures.values.small;
       index = (kept.some (omega (arith, ap (λ (k : Kept). k.squared) nearer))).1;
       parts = rw c.deref-then-above-before.ensures.value c.requires.prepared.parts;
     }
@@ -138,9 +142,9 @@ returns-then-above-before c =
       visit = λ errors received.
           IsVisit-stored c.args.self.now errors c.args.place c.neighbors.result.1.index _ _
           c.color_of-target.result _ _ _ c.requires.image c.requires.place c.requires.indices
-          received c.sixteenths-values.ensures
+          received c.sixteenths.ensures.values
           (c.is_opaque.ensures.opaque c.if-not-is_opaque.false)
-          (c.color_of-target.ensures ∙ c.rounded-lanes.ensures.value)
+          (c.color_of-target.ensures ∙ c.sixteenths.ensures.target)
           (IsIndex-near _ _ _ c.neighbors.result.1
           (c.neighbors.ensures.above c.if-above-before.true) near (omega (arith, near)))
           stored.indices stored.error stored.lanes;
@@ -154,8 +158,8 @@ store-requires-else-above-before c =
     record {
       strength = c.requires.image.strength;
       pixel = rw c.requires.indices c.requires.place.within;
-      four = c.sixteenths-values.ensures.four;
-      values = c.sixteenths-values.ensures.small;
+      four = c.sixteenths.ensures.values.four;
+      values = c.sixteenths.ensures.values.small;
       index = (kept.some (omega (arith, ap (λ (k : Kept). k.squared) nearer))).1;
       parts = rw c.deref-else-above-before.ensures.value c.requires.prepared.parts;
     }
@@ -172,9 +176,9 @@ returns-else-above-before c =
       visit = λ errors received.
           IsVisit-stored c.args.self.now errors c.args.place c.neighbors.result.0.index _ _
           c.color_of-target.result _ _ _ c.requires.image c.requires.place c.requires.indices
-          received c.sixteenths-values.ensures
+          received c.sixteenths.ensures.values
           (c.is_opaque.ensures.opaque c.if-not-is_opaque.false)
-          (c.color_of-target.ensures ∙ c.rounded-lanes.ensures.value)
+          (c.color_of-target.ensures ∙ c.sixteenths.ensures.target)
           (IsIndex-near _ _ _ c.neighbors.result.0
           (c.neighbors.ensures.before c.if-above-before.false) near (omega (arith, near)))
           stored.indices stored.error stored.lanes;

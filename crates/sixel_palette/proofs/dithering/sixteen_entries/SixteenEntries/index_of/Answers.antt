@@ -1,6 +1,6 @@
 use Rattle.std.proofs.Common.{◌≡◌, get_or, inl, inr, refl, arith}
 use Rattle.std.proofs.lemmas.Bool.{cases_lt}
-use Rattle.sixel_palette.proofs.SixteenEntries.{IsIndex-before, IsIndex-keys}
+use Rattle.sixel_palette.proofs.SixteenEntries.{IsIndex-before, IsIndex-keys, byte_lanes}
 use Rattle.sixel_palette.proofs.dithering.sixteen_entries.SixteenEntries.index_of.Goals as goal
 
 pub loop-lane-preserved : goal.loop-lane-preserved
@@ -19,18 +19,19 @@ loop-lane-preserved c =
     })
 
 pub returns-clause-index : goal.returns-clause-index
-returns-clause-index c = λ m all same are there.
+returns-clause-index c = λ m all same are.
     let entry = c.requires.before c.in-Some.index c.in-Some.is in
     rw (c.in-Some.is) (IsIndex-before m _ c.in-Some.index c.args.above
     (omega (arith, all, entry)) (omega (arith, same, c.if-tolerance-gt0.true))
-    (c.if-is_entry.ensures m.colors refl are))
+    (c.if-is_entry.ensures m.colors m.tolerance refl are))
 
 pub returns-2-clause-index : goal.returns-2-clause-index
-returns-2-clause-index c = λ m all same are there.
+returns-2-clause-index c = λ m all same are.
     let (i, l, reached) = c.loop-lane.invariant.reached in
     IsIndex-keys m c.args.self.now c.args.target c.keys-keys.result c.args.before c.args.above i
-    c.loop-lane.least all are c.requires.before there c.requires.small
+    c.loop-lane.least all are c.requires.before c.requires.above
+    (byte_lanes c.args.target c.fits-target.1)
     (λ k lk.
-    let key = c.keys-keys.ensures m.colors k are lk in
-    grind (arith, same, c.lane_of.ensures, c.lane_of-2.ensures)) l reached
+    let key = c.keys-keys.ensures m.colors m.tolerance k are lk in
+    grind (arith, c.lane_of.ensures, c.lane_of-2.ensures)) l reached
     (λ k lk. c.loop-lane.invariant.lower k (omega (arith, lk, c.loop-lane-test.false)))
