@@ -32,21 +32,20 @@ pub fn read_word(word: &str, a: Option<&str>, b: Option<&str>, c: Option<&str>) 
         (option_map (λ t. t.now) c.entry)) }
     ensures servable { IfSome result IsServable }
 {
-    match (a, b, c) {
-        (None, None, None) => match word {
-            "payload" => Some(Word::Payload),
-            "decode" => Some(Word::Decode),
-            _ => None,
+    match (a, b, c, word) {
+        (None, None, None, "payload") => Some(Word::Payload),
+        (None, None, None, "decode") => Some(Word::Decode),
+        (Some(len), None, None, "frames") => match number(len.as_bytes()) {
+            None | Some(0) => None,
+            Some(len) => Some(Word::Frames(len)),
         },
-        (Some(len), None, None) if word == "frames" => match number(len.as_bytes())? {
-            0 => None,
-            len => Some(Word::Frames(len)),
-        },
-        (Some(width), Some(height), Some(colors)) if word == "encode" => Some(Word::Encode(
-            number(width.as_bytes())?,
-            number(height.as_bytes())?,
-            number_within(colors, 0, 65535)? as u16,
-        )),
+        (Some(width), Some(height), Some(colors), "encode") => {
+            let colors = number_within(colors, 0, 65535)? as u16;
+            match (number(width.as_bytes()), number(height.as_bytes())) {
+                (Some(width), Some(height)) => Some(Word::Encode(width, height, colors)),
+                _ => None,
+            }
+        }
         _ => None,
     }
 }
