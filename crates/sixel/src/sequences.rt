@@ -38,10 +38,15 @@ pub fn write_sequences<O: Write>(
 {
     let mut receiver = SixelReceiver::new();
     let mut rest = bytes;
-    'sequences: while !rest.is_empty() {
-        rest = write_sequence(alloc, &mut receiver, chunk_len, rest, output)?;
+    'sequences: loop {
+        if rest.is_empty() {
+            break Ok(());
+        }
+        match write_sequence(alloc, &mut receiver, chunk_len, rest, output) {
+            Ok(after) => rest = after,
+            Err(fault) => break Err(fault),
+        }
     }
-    Ok(())
 }
 
 /// Writes the image of the first DCS sequence, and returns the bytes to read next.
