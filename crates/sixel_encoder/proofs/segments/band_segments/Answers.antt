@@ -1,5 +1,7 @@
-use Rattle.std.proofs.Common.{◌≡◌, ◌+◌, ◌<◌, length, ap, refl, ◌∙◌, arith}
-use Rattle.sixel_encoder.specs.Segments.{with_pixel}
+use Rattle.std.proofs.Common.{◌≡◌, ◌+◌, ◌<◌, ◌≤◌, length, ap, refl, ◌∙◌, arith}
+use Rattle.sixel_encoder.specs.Segments.{gap_of, with_pixel}
+use Rattle.sixel_encoder.specs.Text.{Drawing}
+use Rattle.sixel_encoder.specs.inside.Indexed.{drawing_of}
 use Rattle.sixel_encoder.proofs.EntryLaneMasks.{opaque-lane, transparent-lane}
 use Rattle.sixel_encoder.proofs.PassSteps.{none-replicated, segment-pixel, segment-skip}
 use Rattle.sixel_encoder.proofs.PassSteps.{segments_up_to-none, with_pixel-twice}
@@ -9,6 +11,10 @@ use Rattle.sixel_encoder.proofs.segments.band_segments.Goals as goal
 use Rattle.sixel_encoder.proofs.segments.band_segments.Goals.{then-is_new+in_ok-push_run-2}
 use Rattle.sixel_encoder.proofs.segments.band_segments.Goals.{else-is_new}
 use Rattle.std.proofs.lemmas.Bool.Decides.{nat_tests}
+use Rattle.std.proofs.lemmas.Result.{IfOk-from_err}
+
+gap-small : (drawing : Drawing) → gap_of drawing ≤ drawing.width + 10
+gap-small drawing = grind (arith, nat_tests)
 
 pub columns-init : goal.columns-init
 columns-init c = record {
@@ -98,3 +104,17 @@ push_run-requires-then-is_new-clause-last c = grind (arith, nat_tests)
 
 pub columns-preserved : goal.columns-preserved
 columns-preserved c = grind (arith, nat_tests)
+
+pub push_run-requires-clause-small : goal.push_run-requires-clause-small
+push_run-requires-clause-small c =
+    omega (arith, gap-small (drawing_of c.args.entries.now.image.now))
+
+pub push_run-requires-then-is_new-clause-small : goal.push_run-requires-then-is_new-clause-small
+push_run-requires-then-is_new-clause-small c =
+    omega (arith, gap-small (drawing_of c.args.entries.now.image.now))
+
+pub returns-in_err-push_run : goal.returns-in_err-push_run
+returns-in_err-push_run c = IfOk-from_err _ _ c.from_residual.ensures.0
+
+pub returns-in_err-push_run-2 : goal.returns-in_err-push_run-2
+returns-in_err-push_run-2 c = IfOk-from_err _ _ c.from_residual-in_err-push_run-2.ensures.0
