@@ -7,3 +7,10 @@ returns-clause-improved c = grind (arith, improved_taken)
 
 pub returns-then-before-after-clause-improved : goal.returns-then-before-after-clause-improved
 returns-then-before-after-clause-improved c = grind (arith, improved_kept)
+
+pub returns-then-before-after-clause-shown : goal.returns-then-before-after-clause-shown
+returns-then-before-after-clause-shown c = rw c.in_ok-assign.ensures.colors c.requires.shown
+
+pub returns-clause-shown : goal.returns-clause-shown
+returns-clause-shown c =
+    rw (c.in_ok-after.ensures.colors, c.deref.ensures.value) c.in_ok-moved.ensures.shown
