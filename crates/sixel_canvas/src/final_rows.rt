@@ -151,7 +151,7 @@ impl FinalRows {
         'copied: for row in 0..self.rows {
             let start = 4 * (row * self.width);
             let old = &self.bytes[start..start + 4 * kept];
-            add_row(&mut bytes, old, width - kept, self.background)?;
+            let _added = add_row(&mut bytes, old, width - kept, self.background);
         }
         self.bytes = bytes;
         self.width = width;

@@ -1,9 +1,16 @@
-use Rattle.std.proofs.Common.{◌≡◌, ◌+◌, ◌-◌, ◌*◌, ◌≤◌, ◌<◌, min, take, drop, ap}
-use Rattle.std.proofs.Common.{arith}
+use Rattle.std.proofs.Common.{◌≡◌, ℕ, ◌+◌, ◌-◌, ◌*◌, ◌≤◌, ◌<◌, ◌++◌, length, max, min, take, drop}
+use Rattle.std.proofs.Common.{ap, arith, length-take}
+use Rattle.std.proofs.Math.Nat.{mul-le-mul, mul-le-mul_right}
+use Rattle.sixel_base.specs.Picture.{joined}
+use Rattle.std.proofs.lemmas.Grind.{common_steps}
 use Rattle.sixel_canvas.specs.inside.FinalRows.{RowsState}
 use Rattle.sixel_canvas.proofs.MovedRows.{moved_within}
-use Rattle.sixel_canvas.proofs.RowBytes.{part_len_is, row_copied, row_len}
+use Rattle.sixel_canvas.proofs.RowBytes.{part_len_is, row_copied, row_len, when_ok}
 use Rattle.sixel_canvas.proofs.final_rows.FinalRows.lay_out.Goals as goal
+
+row_room : (row rows width kept : ℕ) → row < rows → kept ≤ width
+    → 4 * (row * width) + 4 * kept + 4 * (width - kept) ≤ 4 * (rows * width)
+row_room row rows width kept inside narrow = omega (arith, mul-le-mul_right width inside)
 
 pub copied-preserved : goal.copied-preserved
 copied-preserved c =
@@ -20,13 +27,24 @@ copied-preserved c =
     let narrow : kept ≤ width = omega (arith, least) in
     let part_len =
     part_len_is old.bytes.items part old.width width row old.rows kept least inside
-    c.self.invariant.fits cut in (
-      row_len c.copied.bytes.items part c.add_row.new.bytes.items old.background width row kept
-          narrow c.self.told before.0 part_len c.in_ok-add_row.ensures.ok,
-      omega (arith, before.1, c.in_ok-add_row.ensures.capacity),
-      row_copied old.bytes.items c.copied.bytes.items part c.add_row.new.bytes.items old.background
-          old.width width row old.rows kept least c.self.told inside c.self.invariant.fits before.0
-          cut c.in_ok-add_row.ensures.ok before.2,
+    c.self.invariant.fits cut in
+    let added = c.add_row-added in
+    let new = added.new.bytes.items in
+    let told = added.ensures in
+    let ok : new ≡ c.copied.bytes.items ++ (part ++ joined (λ _. old.background) (width - kept)) =
+    when_ok added.result
+    (told.within_capacity (omega (
+      arith,
+      before,
+      part_len,
+      row_room row (max c.args.rows old.rows) width kept (omega (arith, inside)) narrow,
+    )))
+    told.ok in (
+      row_len c.copied.bytes.items part new old.background width row kept narrow c.self.told
+          before.0 part_len ok,
+      omega (arith, before.1, told.capacity),
+      row_copied old.bytes.items c.copied.bytes.items part new old.background old.width width row
+          old.rows kept least c.self.told inside c.self.invariant.fits before.0 cut ok before.2,
     )
 
 pub returns-clause-moved_within : goal.returns-clause-moved_within
@@ -37,3 +55,49 @@ returns-clause-rows c = ap (λ (r : RowsState). r.rows) c.self.view_is
 
 pub returns-clause-background : goal.returns-clause-background
 returns-clause-background c = ap (λ (r : RowsState). r.background) c.self.view_is
+
+pub overflow_mul-max-2 : goal.overflow_mul-max-2
+overflow_mul-max-2 c =
+    let most : c.max.result ≤ 1000006 = omega (arith, c.max.ensures, c.self.invariant.few) in
+    omega (arith, mul-le-mul most c.requires.narrow)
+
+pub overflow_mul-start-in-copied : goal.overflow_mul-start-in-copied
+overflow_mul-start-in-copied c =
+    let few : c.copied.row ≤ 1000006 = omega (arith, c.self.invariant.few) in
+    omega (arith, mul-le-mul few c.self.invariant.narrow)
+
+pub overflow_add-old : goal.overflow_add-old
+overflow_add-old c =
+    let few : c.copied.row ≤ 1000006 = omega (arith, c.self.invariant.few) in
+    omega (arith, c.min-kept.ensures, mul-le-mul few c.self.invariant.narrow)
+
+pub add_row-added-requires : goal.add_row-added-requires
+add_row-added-requires c =
+    let width = c.args.width in
+    let kept : c.min-kept.result ≤ width = omega (arith, c.min-kept.ensures) in
+    let room = row_room c.copied.row c.self.inside.rows width _ c.copied-test.true kept in
+    omega (
+      arith,
+      length-take {A = ℕ},
+      c.copied.invariant,
+      room,
+      mul-le-mul c.self.invariant.few c.requires.narrow,
+    )
+
+pub returns-clause-shown : goal.returns-clause-shown
+returns-clause-shown c = grind (arith, common_steps)
+
+pub returns-clause-all : goal.returns-clause-all
+returns-clause-all c = grind (arith, common_steps)
+
+pub returns-clause-room : goal.returns-clause-room
+returns-clause-room c =
+    let most : c.args.rows ≤ max c.args.rows c.self.inside.rows = omega arith in
+    omega (arith, c.copied.invariant, mul-le-mul_right c.args.width most)
+
+pub slice_bounds-old-end : goal.slice_bounds-old-end
+slice_bounds-old-end c =
+    let old = c.self.inside in
+    let kept : c.min-kept.result ≤ old.width = omega (arith, c.min-kept.ensures) in
+    let room = row_room c.copied.row old.rows old.width _ c.copied-test.true kept in
+    omega (arith, room, c.self.invariant.fits, ap length c.deref.ensures.value)
