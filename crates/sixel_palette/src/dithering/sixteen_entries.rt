@@ -17,15 +17,21 @@ use std::simd::prelude::*;
 /// What each key has, so that none is below 0: more than 64 times the square of any color.
 const KEY_BASE: u32 = 0x100_0000;
 
+/// How many entries there are.
+const ENTRIES: usize = 16;
+
+/// How many keys are stored: a row of 16 for each lane, and one for no entry.
+const KEYS: usize = 272;
+
 /// The entries of a palette of sixteen.
 #[derive(Clone, Copy)]
 pub struct SixteenEntries {
     /// The colors: red, 256 times green, and 65536 times blue.
-    pub codes: [u32; 16],
+    pub codes: [u32; ENTRIES],
     /// A row for each lane of the entry before: what each key has beside the product.
-    pub before: [u32; 272],
+    pub before: [u32; KEYS],
     /// The same for the entry above.
-    pub above: [u32; 272],
+    pub above: [u32; KEYS],
 }
 
 impl SixteenEntries {
@@ -36,12 +42,12 @@ impl SixteenEntries {
         ensures lanes { (entries : SixteenEntries) → result ≡ Some entries
             → AreSixteen colors.now tolerance entries }
     {
-        if colors.len() != 16 {
+        if colors.len() != ENTRIES {
             return None;
         }
-        let mut codes = [0; 16];
-        let mut fixed = [0; 16];
-        for index in 0..16 {
+        let mut codes = [0; ENTRIES];
+        let mut fixed = [0; ENTRIES];
+        for index in 0..ENTRIES {
             let color = colors[index];
             channel_bytes(color);
             codes[index] = u32::from_le_bytes([color[0], color[1], color[2], 0]);
@@ -49,12 +55,12 @@ impl SixteenEntries {
         }
         let near = tolerance.min(1);
         let far = 64 * tolerance.min(NO_ENTRY);
-        let mut before = [0; 272];
-        let mut above = [0; 272];
-        for at in 0..272 {
-            let in_lane = at % 16 == at / 16;
-            before[at] = fixed[at % 16] + if in_lane { 16 * near } else { far };
-            above[at] = fixed[at % 16] + if in_lane { 32 * near } else { far };
+        let mut before = [0; KEYS];
+        let mut above = [0; KEYS];
+        for at in 0..KEYS {
+            let in_lane = at % ENTRIES == at / ENTRIES;
+            before[at] = fixed[at % ENTRIES] + if in_lane { 16 * near } else { far };
+            above[at] = fixed[at % ENTRIES] + if in_lane { 32 * near } else { far };
         }
         Some(SixteenEntries {
             codes,
@@ -90,7 +96,7 @@ impl SixteenEntries {
         }
         let keys = self.keys(target, lane_of(before), lane_of(above));
         let mut least = keys[0];
-        for lane in 1..16 {
+        for lane in 1..ENTRIES {
             least = keys[lane].min(least);
         }
         (least % 16) as u8
@@ -112,7 +118,7 @@ impl SixteenEntries {
     ///
     /// LLVM multiplies lanes of 16 bits, since it knows that those of a channel have 8.
     #[inline(always)]
-    fn keys(&self, target: u8x4, before: usize, above: usize) -> [u32; 16]
+    fn keys(&self, target: u8x4, before: usize, above: usize) -> [u32; ENTRIES]
         requires before { before ≤ 16 }
         requires above { above ≤ 16 }
         ensures { (colors : List (List ℕ)) (tolerance k : ℕ) → AreSixteen colors tolerance self.now
@@ -148,7 +154,7 @@ fn row(rows: &[u32], lane: usize) -> u32x16
     ensures sixteen { length result ≡ 16 }
     ensures each { (k : ℕ) → k < 16 → slice_index result k ≡ slice_index rows.now (16 * lane + k) }
 {
-    u32x16::from_slice(&rows[16 * lane..])
+    u32x16::from_slice(&rows[ENTRIES * lane..])
 }
 
 /// Returns the lane of an entry, or one that is none.
