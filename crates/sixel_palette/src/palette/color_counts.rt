@@ -95,7 +95,7 @@ impl Ranking<'_> {
     }
 
     /// Counts four pixels of these words, and returns the position of the last one's color.
-    #[inline(never)]
+    #[inline(always)]
     fn count_four(&self, counts: &mut [u32], pixels: &[u8], pixel: usize, words: [u32; 4]) -> usize
         requires area { length pixels.now / 4 ≤ area_limit }
         requires within { pixel + 4 ≤ length pixels.now / 4 }
@@ -117,6 +117,20 @@ impl Ranking<'_> {
             self.count_at(counts, pixels, pixel + 3, fourth);
             return fourth;
         }
+        self.count_each(counts, pixels, pixel, words)
+    }
+
+    /// Counts the same pixels one after the other, because some may be transparent.
+    #[inline(never)]
+    fn count_each(&self, counts: &mut [u32], pixels: &[u8], pixel: usize, words: [u32; 4]) -> usize
+        requires area { length pixels.now / 4 ≤ area_limit }
+        requires within { pixel + 4 ≤ length pixels.now / 4 }
+        requires words { AreFourWords pixels.now pixel words }
+        requires ranking { IsRankingOf pixels.now self.now }
+        requires counts { AreCounts pixels.now self.now.codes.now counts.old pixel }
+        ensures counts { AreCounts pixels.now self.now.codes.now counts.new (pixel + 4) }
+        ensures position { HasPosition self.now.codes.now (slice_index words 3) result }
+    {
         self.count_word(counts, pixels, pixel, words[0]);
         self.count_word(counts, pixels, pixel + 1, words[1]);
         self.count_word(counts, pixels, pixel + 2, words[2]);
