@@ -108,10 +108,6 @@ pub small-lanes : (xs : List ℕ) (f : ℕ → ℕ) (most : ℕ) → AreLanes xs
     → ((k : ℕ) → k < 4 → f k ≤ most) → (k : ℕ) → get_or xs k 0 ≤ most
 small-lanes xs f most are small k = grind (arith, nat_tests, get_or_past)
 
--- what holds of each of four
-pub each_of_four : (P : ℕ → Type 0) → P 0 → P 1 → P 2 → P 3 → (k : ℕ) → k < 4 → P k
-each_of_four P a b c d k less = grind (arith, nat_tests)
-
 -- what is passed on, as a difference of products
 product-less : (w d e s : ℕ) → w ≡ d + e → w * s - e * s ≡ d * s
 product-less w d e s is = rw is (omega arith)

@@ -36,6 +36,7 @@ pub mod PaletteTops
 pub mod DiffusionLanes
 pub mod DiffusionLaws
 pub mod DiffusionVisit
+pub mod ErrorLine
 pub mod DitheredIndices
 pub mod GraySource
 pub mod KeptEntries

@@ -3,7 +3,9 @@ use Rattle.std.proofs.Common.{arith}
 use Rattle.std.specs.Prelude.{slice_index}
 use Rattle.std.proofs.lemmas.Nat.{mul-le}
 use Rattle.sixel_palette.proofs.PaletteDistance.{below_three}
-use Rattle.sixel_palette.proofs.DiffusionLanes.{each_of_four, lanes, lanes-cast, lanes-splat}
+use Rattle.sixel_palette.proofs.PaletteLists.{four_cases}
+use Rattle.sixel_palette.proofs.DiffusionLanes.{lanes, lanes-cast, lanes-splat}
+use Rattle.sixel_palette.proofs.PaletteLists.{four_cases}
 use Rattle.sixel_palette.proofs.DiffusionLanes.{lanes-times, small-lanes}
 use Rattle.sixel_palette.proofs.dithering.mapped.MappedImage.part.Goals as goal
 
@@ -16,7 +18,7 @@ returns c =
     let same : strength ≡ c.args.self.now.strength = c.from-strength.ensures in
     let channel = c.channel_bytes.ensures in
     let byte : (k : ℕ) → k < 4 → slice_index color k < 256 =
-    each_of_four (λ k. slice_index color k < 256) (channel 0 (omega arith))
+    four_cases (λ k. slice_index color k < 256) (channel 0 (omega arith))
     (channel 1 (omega arith)) (channel 2 (omega arith)) (omega arith) in
     let low : (k : ℕ) → k < 4 → slice_index color k * (16 * strength) ≤ 4080 * strength =
     λ k l.
