@@ -44,3 +44,4 @@ pub mod PaletteError
 pub mod Serpentine
 pub mod SameVisits
 pub mod SixteenEntries
+pub mod Weights

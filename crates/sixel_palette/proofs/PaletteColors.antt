@@ -44,7 +44,7 @@ color_of-rank c h =
 pub ruleset ranks = (nat_tests, color_of-rank)
 
 -- in one channel bytes are at most 255 apart
-square_gap-le : (a b : List ℕ) (k : ℕ) → get_or a k 0 < 256 → get_or b k 0 < 256
+pub square_gap-le : (a b : List ℕ) (k : ℕ) → get_or a k 0 < 256 → get_or b k 0 < 256
     → square_gap a b k ≤ 65025
 unfolding square_gap
 square_gap-le a b k p q =

@@ -2,9 +2,11 @@
 
 use crate::codes::{BAD_DIMENSIONS, BUFFER_MISMATCH, error_of};
 use crate::error::{Result, SixelError};
-use crate::ffi::{self, Color, Dithering, Handle};
+use crate::ffi::{self, Color, Handle};
 use crate::sixel_image::{BackgroundMode, PixelAspectRatio};
 use crate::size::{pixel_bytes, validate_buffer, validate_encode_dimensions};
+
+pub use crate::mapping::{Amplitude, Dither, Mapping, Tolerance, Weights};
 
 /// How an image is encoded.
 #[derive(Clone, Debug)]
@@ -16,78 +18,6 @@ pub struct EncodeOptions {
 impl Default for EncodeOptions {
     fn default() -> Self {
         Self { max_colors: 256 }
-    }
-}
-
-/// Which color a pixel's entry is chosen for.
-#[derive(Clone, Copy, Debug, PartialEq, Eq)]
-pub enum Dither {
-    /// The color of the pixel.
-    Off,
-    /// Error diffusion by Floyd and Steinberg, in serpentine order.
-    ///
-    /// In a palette of grays it maps the brightness of the pixels.
-    Diffusion {
-        /// How many eighths of the error are diffused, clamped to 1 to 8.
-        ///
-        /// 7 suits palettes chosen for an image, 8 fixed palettes.
-        strength: u8,
-    },
-    /// A fixed pattern is added to the pixels, which is stable from frame to frame.
-    Ordered {
-        /// How far apart the pattern moves a channel at most.
-        amplitude: Amplitude,
-    },
-}
-
-/// How far apart the pattern of ordered dithering moves a channel at most.
-#[derive(Clone, Copy, Debug, PartialEq, Eq)]
-pub enum Amplitude {
-    /// The square root of the palette's mean squared error over the opaque pixels.
-    Auto,
-    /// A number of the 256 levels.
-    ///
-    /// The distance of neighboring entries suits a fixed palette, as 51 six equal levels.
-    Levels(u8),
-}
-
-/// By how much an entry may be farther from a color than the nearest one.
-#[derive(Clone, Copy, Debug, PartialEq, Eq)]
-pub enum Tolerance {
-    /// The mean squared error of the palette, or 7/5 of it without dithering.
-    ///
-    /// It is at least 12, or 0 if there is no error.
-    Auto,
-    /// A squared distance. With 0 each pixel has the nearest entry.
-    Squared(u32),
-}
-
-/// How each pixel of an image gets an entry of a palette.
-///
-/// A pixel keeps the entry of the pixel before or above if its squared distance is below that of
-/// the nearest entry plus the tolerance.
-#[derive(Clone, Copy, Debug, PartialEq, Eq)]
-pub struct Mapping {
-    /// Which color a pixel's entry is chosen for.
-    pub dither: Dither,
-    /// How far a neighbor's entry may be from that color.
-    pub tolerance: Tolerance,
-}
-
-impl Mapping {
-    /// The mapping as C passes it. There an amount of 0 is a default.
-    fn in_c(self) -> (Dithering, u32) {
-        let (kind, amount) = match self.dither {
-            Dither::Off | Dither::Ordered { amplitude: Amplitude::Levels(0) } => (0, 0),
-            Dither::Diffusion { strength } => (1, strength.max(1)),
-            Dither::Ordered { amplitude: Amplitude::Auto } => (2, 0),
-            Dither::Ordered { amplitude: Amplitude::Levels(levels) } => (2, levels),
-        };
-        let tolerance = match self.tolerance {
-            Tolerance::Auto => u32::MAX,
-            Tolerance::Squared(distance) => distance.min(u32::MAX - 1),
-        };
-        (Dithering { kind, amount }, tolerance)
     }
 }
 
@@ -194,7 +124,11 @@ impl<'a> Encoding<'a> {
             aspect_ratio: PixelAspectRatio::default(),
             background_mode: BackgroundMode::default(),
             palette: PaletteMode::Refined(256),
-            mapping: Mapping { dither: Dither::Off, tolerance: Tolerance::Squared(0) },
+            mapping: Mapping {
+                dither: Dither::Off,
+                tolerance: Tolerance::Squared(0),
+                weights: Weights::Equal,
+            },
             form: TextForm::Plain,
         }
     }
@@ -308,12 +242,12 @@ impl<'a> Encoding<'a> {
 /// Returns the palette index of each pixel in a palette of 1 to 256 colors.
 ///
 /// ```
-/// use icy_sixel::encoder::{Dither, Mapping, Tolerance, palette_indices};
+/// use icy_sixel::encoder::{Dither, Mapping, Tolerance, Weights, palette_indices};
 ///
 /// let gray = [100, 100, 100, 255].repeat(3);
 /// let colors = [[0, 0, 0], [255, 255, 255]];
-/// let tolerance = Tolerance::Squared(0);
-/// let mapping = |dither| Mapping { dither, tolerance };
+/// let (tolerance, weights) = (Tolerance::Squared(0), Weights::Equal);
+/// let mapping = |dither| Mapping { dither, tolerance, weights };
 /// let diffused = mapping(Dither::Diffusion { strength: 8 });
 /// assert_eq!(palette_indices(&gray, 3, &colors, diffused)?, [0, 1, 0]);
 /// assert_eq!(palette_indices(&gray, 3, &colors, mapping(Dither::Off))?, [0, 0, 0]);

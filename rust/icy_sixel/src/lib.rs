@@ -7,6 +7,7 @@ mod error;
 #[allow(unsafe_code)]
 mod ffi;
 mod handle;
+mod mapping;
 pub mod palette;
 pub mod receiver;
 pub mod script;
@@ -21,7 +22,7 @@ pub use decoder::{
 };
 pub use encoder::{
     Amplitude, Dither, EncodeOptions, Encoding, Mapping, PaletteMode, PixelFormat, TextForm,
-    Tolerance, palette_indices, sixel_encode, sixel_encode_default,
+    Tolerance, Weights, palette_indices, sixel_encode, sixel_encode_default,
 };
 pub use error::{Result, SixelError};
 pub use palette::{PaletteChoice, RefinedPalette, choose_palette, refine_palette, witnesses_hold};

@@ -94,6 +94,7 @@ impl SixelImage {
     /// let mapping = Mapping {
     ///     dither: Dither::Diffusion { strength: 8 },
     ///     tolerance: Tolerance::Squared(0),
+    ///     weights: Weights::Equal,
     /// };
     /// image.encode_with_palette(alloc, colors, mapping, TextForm::Compact)
     /// ```
@@ -134,6 +135,7 @@ impl SixelImage {
     /// let mapping = Mapping {
     ///     dither: Dither::Off,
     ///     tolerance: Tolerance::Squared(0),
+    ///     weights: Weights::Equal,
     /// };
     /// let indices = palette_indices(alloc, &image.pixels, image.width, colors, mapping)?;
     /// image.encode_indexed(alloc, colors, &indices, TextForm::Plain)
@@ -174,6 +176,7 @@ impl SixelImage {
     /// let mapping = Mapping {
     ///     dither: Dither::Diffusion { strength: 7 },
     ///     tolerance: Tolerance::Auto,
+    ///     weights: Weights::Luma,
     /// };
     /// image.encode_refined(alloc, 16, mapping, TextForm::Compact)
     /// ```

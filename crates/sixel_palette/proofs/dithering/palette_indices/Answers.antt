@@ -8,7 +8,7 @@ use Rattle.sixel_palette.specs.declared.dither.Dither.{Dither}
 use Rattle.sixel_palette.specs.Dithering.{AreMapped, Mapped, mapped_of, target_of, tolerance_of}
 use Rattle.sixel_palette.specs.Gray.{source_pixels}
 use Rattle.sixel_palette.proofs.DiffusionLaws.{AreHeld, AreIndices-exact}
-use Rattle.sixel_palette.proofs.DitheredIndices.{AreIndices-mapped, AreRows}
+use Rattle.sixel_palette.proofs.DitheredIndices.{AreIndices-mapped, AreRows, IsWeightless-equal}
 use Rattle.sixel_palette.proofs.GraySource.{AreIndices-source, AreRowsOf-source, IsSource-pixels}
 use Rattle.sixel_palette.proofs.GraySource.{bytes-source, dithered-count, chosen-own}
 use Rattle.sixel_palette.proofs.PaletteError.{error-bound, tolerance-held}
@@ -25,12 +25,13 @@ returns-clause-count c =
     c.in_ok-dithered_indices.field-0.items (grind (arith, nat_tests))
 
 pub returns-clause-nearest : goal.returns-clause-nearest
-returns-clause-nearest c = λ off exact.
+returns-clause-nearest c = λ off exact equal.
     let pixels = c.args.pixels.now in
     let m = mapped_of c.args.mapping c.args.width pixels c.args.colors.now in
     let indices = c.in_ok-dithered_indices.field-0.items in
     AreIndices-mapped m (target_of c.args.mapping.dither m indices) indices
-    (rows-of c m refl refl refl) (grind (arith, exact)) (grind (arith, nat_tests))
+    (rows-of c m refl refl refl) (IsWeightless-equal m equal) (grind (arith, exact))
+    (grind (arith, nat_tests))
     (λ n l light. ap (λ d. target_of d m indices n) off)
 
 pub returns-clause-exact : goal.returns-clause-exact
@@ -48,7 +49,7 @@ returns-clause-exact c = λ strength is none held.
     → color_at s pixel ≡ color_at pixels pixel =
     λ pixel l light. grind (arith, nat_tests, chosen-own) in
     let kept : AreHeld m = λ pixel l light. grind (arith, nat_tests) in
-    let exact : tolerance_of dither c.args.mapping.tolerance colors s ≡ 0 =
+    let exact : tolerance_of c.args.mapping colors s ≡ 0 =
     grind (arith, nat_tests, colors, s, tolerance-held, kept) in
     let three : All (λ p. length p ≡ 3) colors =
     λ k e l. grind (arith, nat_tests, get_or_default, colors) in
