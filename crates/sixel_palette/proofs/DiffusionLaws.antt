@@ -14,7 +14,9 @@ use Rattle.sixel_palette.specs.Dithering.{target_of_visit, visit_error}
 use Rattle.sixel_palette.proofs.DitheredIndices.{AreIndices-mapped, AreMapped-exact, AreRows}
 use Rattle.sixel_palette.proofs.DitheredIndices.{IsWeightless, visit-inside}
 use Rattle.sixel_palette.specs.Weights.{IsWeightedNearest}
-use Rattle.sixel_palette.proofs.Weights.{own-nearest, own-weighted, weighted_nearest-le}
+use Rattle.sixel_palette.proofs.Weights.{own-nearest, weighted_nearest-le}
+use Rattle.sixel_palette.specs.declared.mapping.Weights.{Weights}
+use Rattle.sixel_palette.specs.declared.mapping.Weights.TheVariants.{Equal}
 use Rattle.std.proofs.lemmas.Bool.Decides.{nat_tests}
 use Rattle.std.proofs.lemmas.Grind.{common_steps}
 
@@ -128,15 +130,10 @@ AreHeld m =
     → Contains m.colors (color_at m.pixels pixel)
 
 -- so weights do not matter
-IsWeightless-held : (m : Mapped) → AreHeld m → IsWeightless m
-IsWeightless-held m held = record {
-  weighted = λ pixel i l light is.
-      let (k, inside, same) = held pixel l light in
-      own-weighted m.weights m.colors _ i k inside (own k pixel inside same) is;
-  plain = λ pixel i l light is.
-      let (k, inside, same) = held pixel l light in
-      own-nearest m.weights m.colors _ i k inside (own k pixel inside same) is;
-}
+IsWeightless-held : (v w : Weights) (m : Mapped) → AreHeld m → IsWeightless v w m
+IsWeightless-held v w m held = λ pixel i l light is.
+    let (k, inside, same) = held pixel l light in
+    own-nearest v w m.colors _ i k inside (own k pixel inside same) is
   where
     own : (k pixel : ℕ) → k < length m.colors
         → slice_index_or m.colors k (color_at m.pixels pixel) ≡ color_at m.pixels pixel
@@ -153,7 +150,7 @@ pub AreIndices-exact : (m : Mapped) (indices : List ℕ) → AreRows m → AreCo
     → AreIndices m.pixels m.colors indices
 AreIndices-exact m indices rows exact held none are =
     AreIndices-mapped m (λ n. target_of_visit m (errors_of m indices n) n) indices rows
-    (IsWeightless-held m held) none are
+    (IsWeightless-held m.weights Equal m held) none are
     (λ n l light.
     target-none m (errors_of m indices n) n
     (errors-own m indices n exact
@@ -162,7 +159,7 @@ AreIndices-exact m indices rows exact held none are =
     let inside : k < length m.pixels / 4 = omega arith in
     nearest-own m.colors (color_at m.pixels at) (slice_index indices at) exact.three refl
     (held at (visit-inside m k rows.rows inside) lit)
-    ((IsWeightless-held m held).plain at _ (visit-inside m k rows.rows inside) lit
+    (IsWeightless-held m.weights Equal m held at _ (visit-inside m k rows.rows inside) lit
     (subst (λ (c : List ℕ). IsWeightedNearest m.weights m.colors c (slice_index indices at))
     (target-none m (errors_of m indices k) k before exact.bytes)
     (grind (arith, nat_tests, weighted_nearest-le))))))
@@ -174,7 +171,7 @@ pub AreMapped-diffused : (m : Mapped) (indices : List ℕ) → AreRows m → Are
     → AreMapped m (λ n. target_of_visit m (errors_of m indices n) n) indices
 AreMapped-diffused m indices rows exact held none are =
     AreMapped-exact m (λ n. target_of_visit m (errors_of m indices n) n) indices rows
-    (IsWeightless-held m held) none are
+    (IsWeightless-held Equal m.weights m held) none are
     (λ n l light.
     target-none m (errors_of m indices n) n
     (grind (arith, nat_tests, errors-own, visit-inside, nearest-own))

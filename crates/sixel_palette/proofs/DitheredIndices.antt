@@ -6,8 +6,9 @@ use Rattle.std.proofs.lemmas.Bool.{cases_lt}
 use Rattle.std.proofs.lemmas.Bool.Decides.{nat_tests}
 use Rattle.std.proofs.lemmas.List.{get_or_past, get_or-set_other, get_or-set_same}
 use Rattle.std.proofs.lemmas.Nat.{div-add-mod'}
-use Rattle.sixel_palette.specs.Palette.{AreIndices, IsNearest, IsOpaque, color_at}
+use Rattle.sixel_palette.specs.Palette.{AreIndices, IsOpaque, color_at}
 use Rattle.sixel_palette.specs.Weights.{IsWeightedNearest}
+use Rattle.sixel_palette.specs.declared.mapping.Weights.{Weights}
 use Rattle.sixel_palette.specs.declared.mapping.Weights.TheVariants.{Equal}
 use Rattle.sixel_palette.specs.Dithering.{AreMapped, HasTarget, IsIndex, Mapped, neighbor_of}
 use Rattle.sixel_palette.specs.Dithering.{moved_channel, ordered_color, serpentine, whole_rows}
@@ -16,7 +17,7 @@ use Rattle.sixel_palette.specs.inside.Mapped.{AreEntries, IsIndexAt, IsLater, Is
 use Rattle.sixel_palette.specs.inside.Mapped.{mapped_value}
 use Rattle.sixel_palette.proofs.KeptEntries.{AreSame, IsIndex-exact, neighbor-inside, neighbor-same}
 use Rattle.sixel_palette.proofs.Serpentine.{serpentine-apart, serpentine-serpentine}
-use Rattle.sixel_palette.proofs.Weights.{IsEqual-nearest, IsNearest-equal, weighted_nearest-le}
+use Rattle.sixel_palette.proofs.Weights.{weighted_nearest-le}
 
 -- ---- one more index
 
@@ -101,20 +102,12 @@ pub AreEntries-indices : (m : Mapped) (indices : List ℕ) → AreRows m
     → AreIndices m.pixels m.colors indices → AreEntries m.colors indices
 AreEntries-indices m indices rows are = grind (arith, nat_tests, get_or_past)
 
--- the entry nearest to the color of an opaque pixel is the same by the weights
-pub record IsWeightless (m : Mapped) : Type 0 where
-  pub weighted : (pixel i : ℕ) → pixel < length m.pixels / 4 → IsOpaque m.pixels pixel
-      → IsNearest m.colors (color_at m.pixels pixel) i
-      → IsWeightedNearest m.weights m.colors (color_at m.pixels pixel) i
-  pub plain : (pixel i : ℕ) → pixel < length m.pixels / 4 → IsOpaque m.pixels pixel
-      → IsWeightedNearest m.weights m.colors (color_at m.pixels pixel) i
-      → IsNearest m.colors (color_at m.pixels pixel) i
-
-pub IsWeightless-equal : (m : Mapped) → m.weights ≡ Equal → IsWeightless m
-IsWeightless-equal m equal = record {
-  weighted = λ pixel i l light is. rw equal (IsNearest-equal _ _ _ is);
-  plain = λ pixel i l light is. IsEqual-nearest _ _ _ (rw (sym equal) is);
-}
+-- the entry nearest to the color of an opaque pixel by the first weights is that by the second
+abbrev pub IsWeightless : Weights → Weights → Mapped → Type 0
+IsWeightless v w m =
+    (pixel i : ℕ) → pixel < length m.pixels / 4 → IsOpaque m.pixels pixel
+    → IsWeightedNearest v m.colors (color_at m.pixels pixel) i
+    → IsWeightedNearest w m.colors (color_at m.pixels pixel) i
 
 -- before the visits each has that of its nearest entry
 pub IsLater-indices : (m : Mapped) (indices : List ℕ) (n : ℕ) → AreRows m → m.weights ≡ Equal
@@ -122,8 +115,7 @@ pub IsLater-indices : (m : Mapped) (indices : List ℕ) (n : ℕ) → AreRows m 
 IsLater-indices m indices n rows equal are l =
     let inside = visit-inside m n rows.rows l in
     record {
-      opaque = λ light.
-          (IsWeightless-equal m equal).weighted _ _ inside light (are.opaque _ inside light);
+      opaque = λ light. rw equal (are.opaque _ inside light);
       hidden = λ dark. are.hidden _ inside dark;
     }
 
@@ -134,7 +126,7 @@ IsLater-set m indices n index k some later is = grind (arith, get_or-set_other, 
 
 -- without a tolerance the nearest entries of the colors have the colors as targets
 pub AreMapped-exact : (m : Mapped) (target : ℕ → List ℕ) (indices : List ℕ) → AreRows m
-    → IsWeightless m → m.tolerance ≡ 0 → AreIndices m.pixels m.colors indices
+    → IsWeightless Equal m.weights m → m.tolerance ≡ 0 → AreIndices m.pixels m.colors indices
     → ((n : ℕ) → n < length m.pixels / 4 → IsOpaque m.pixels (serpentine m.width n)
     → target n ≡ color_at m.pixels (serpentine m.width n))
     → AreMapped m target indices
@@ -149,14 +141,14 @@ AreMapped-exact m target indices rows weightless none are same = record {
             (slice_index indices pixel) none
             (neighbor-inside m (target n) indices n (AreEntries-indices m indices rows are))
             (rw (same n l light)
-            (weightless.weighted pixel _ inside light (are.opaque pixel inside light)));
+            (weightless pixel _ inside light (are.opaque pixel inside light)));
         hidden = λ dark. are.hidden pixel inside dark;
       };
 }
 
 -- and the other way round
 pub AreIndices-mapped : (m : Mapped) (target : ℕ → List ℕ) (indices : List ℕ) → AreRows m
-    → IsWeightless m → m.tolerance ≡ 0 → AreMapped m target indices
+    → IsWeightless m.weights Equal m → m.tolerance ≡ 0 → AreMapped m target indices
     → ((n : ℕ) → n < length m.pixels / 4 → IsOpaque m.pixels (serpentine m.width n)
     → target n ≡ color_at m.pixels (serpentine m.width n))
     → AreIndices m.pixels m.colors indices
@@ -166,7 +158,7 @@ AreIndices-mapped m target indices rows weightless none are same = record {
       let back = serpentine-serpentine m.width pixel rows.rows.some in
       let has = HasTarget-pixel m target indices pixel rows.rows are l in
       let own = same (serpentine m.width pixel) (visit-inside m pixel rows.rows l) in
-      weightless.plain pixel _ l light (grind (arith, nat_tests, weighted_nearest-le));
+      weightless pixel _ l light (grind (arith, nat_tests, weighted_nearest-le));
   hidden = λ pixel l dark.
       let back = serpentine-serpentine m.width pixel rows.rows.some in
       let has = HasTarget-pixel m target indices pixel rows.rows are l in

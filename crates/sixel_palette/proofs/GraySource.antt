@@ -239,7 +239,7 @@ pub weighted-gray : (w : Weights) (a b : List ℕ) → is_gray a ≡ true → is
     → weighted w a b
     ≡ total_weight w * (abs_diff (slice_index a 0) (slice_index b 0)
     * abs_diff (slice_index a 0) (slice_index b 0))
-unfolding weighted distance square_gap
+unfolding distance square_gap
 weighted-gray Equal a b first second = grind (arith, nat_tests)
 weighted-gray Luma a b first second = grind (arith, nat_tests)
 

@@ -1,14 +1,12 @@
 -- Entries of neighbors: the nearer one of two, and the index of a pixel that may keep it.
 use Rattle.std.proofs.Common.{◌≡◌, ℕ, ◌+◌, ◌-◌, ◌*◌, ◌<◌, ◌≤◌, List, false, cond, length, ap, subst}
-use Rattle.std.proofs.Common.{◌∙◌, arith, nat_le}
+use Rattle.std.proofs.Common.{◌∙◌, arith, get_or, nat_le}
 use Rattle.std.specs.Prelude.{◌/◌, ◌%◌, ◌==◌, Option, Some, None, slice_index}
 use Rattle.std.proofs.lemmas.Bool.{cases_eq, cases_lt}
 use Rattle.std.proofs.lemmas.Bool.Decides.{nat_tests}
 use Rattle.std.proofs.lemmas.Nat.{div-add-mod', div-mul-add, mod-mul-add, mod_below, mul-le}
-use Rattle.sixel_palette.specs.Palette.{IsNearest, distance, nearest, no_entry}
 use Rattle.sixel_palette.specs.Weights.{IsWeightedNearest}
 use Rattle.sixel_palette.proofs.Weights.{weighted_nearest-le}
-use Rattle.sixel_palette.proofs.PaletteNearest.{nearest-le, nearest-reached}
 use Rattle.sixel_palette.specs.declared.dithering.mapped.Kept.{Kept}
 use Rattle.sixel_palette.specs.Dithering.{IsIndex, Mapped, column_of_step, entry_above}
 use Rattle.sixel_palette.specs.Dithering.{entry_before, entry_of, neighbor_of}
@@ -17,8 +15,6 @@ use Rattle.sixel_palette.specs.inside.Mapped.{AreEntries, IsInside, IsKept, kept
 use Rattle.sixel_palette.specs.inside.Mapped.{no_distance}
 use Rattle.sixel_palette.proofs.Serpentine.{column-lt, serpentine-lt, serpentine-serpentine}
 use Rattle.sixel_palette.proofs.Serpentine.{serpentine-step}
-use Rattle.std.proofs.lemmas.Grind.{common_steps}
-use Rattle.std.proofs.Common.{[], get_or}
 
 pub entry_of-opaque : (pixels indices : List ℕ) (pixel : ℕ) → 128 ≤ get_or pixels (4 * pixel + 3) 0
     → entry_of pixels indices pixel ≡ Some (get_or indices pixel 0)
@@ -56,13 +52,7 @@ neighbor-inside m c indices n are = grind (arith, nat_tests)
 
 -- ---- the index
 
--- the nearest entry is at the distance of the nearest one
-pub nearest-distance : (colors : List (List ℕ)) (c : List ℕ) (i : ℕ) → IsNearest colors c i
-    → distance (get_or colors i []) c < no_entry
-    → distance (get_or colors i []) c ≡ nearest colors c
-nearest-distance colors c i is small = grind (arith, common_steps, nearest-le, nearest-reached)
-
--- and where no entry may be farther
+-- where no entry may be farther, it is that of the nearest one
 pub IsIndex-exact : (m : Mapped) (c : List ℕ) (neighbor : Option ℕ) (index : ℕ)
     → m.tolerance ≡ 0
     → ((entry : ℕ) → neighbor ≡ Some entry → entry < length m.colors)

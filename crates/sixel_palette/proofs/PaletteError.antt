@@ -153,8 +153,8 @@ error-bound m indices rows bytes all are =
           subst (λ (p : ℕ).
           entry_distance m (color_at m.pixels p) (slice_index indices p)
           ≤ least_distance m (color_at m.pixels p) + m.tolerance) back (index-near _ _ _ _
-          (λ i li. weighted-lt m.weights _ _ (all i [] li)
-          (IsColor-color_at _ (serpentine m.width n) bytes))
+          (λ i li. weighted-lt m.weights _ _ (all i [] li).bytes
+          (IsColor-color_at _ (serpentine m.width n) bytes).bytes)
           has) in
           let lit = number-light (least_distance m) m.pixels pixel light in
           let one = ap (λ h. m.tolerance * h) (number-light (λ _. 1) m.pixels pixel light) in

@@ -16,8 +16,8 @@ use Rattle.sixel_palette.specs.Palette.{distance, square_gap}
 use Rattle.sixel_palette.specs.Weights.{no_weighted, weighted}
 use Rattle.sixel_palette.specs.declared.mapping.Weights.{Weights}
 use Rattle.sixel_palette.specs.declared.mapping.Weights.TheVariants.{Equal, Luma}
-use Rattle.sixel_palette.proofs.PaletteDistance.{below_three, square-le}
-use Rattle.sixel_palette.proofs.Weights.{weighted_nearest-le, weighted_nearest-reached}
+use Rattle.sixel_palette.proofs.PaletteDistance.{below_three}
+use Rattle.sixel_palette.proofs.Weights.{weighted-lt, weighted_nearest-le, weighted_nearest-reached}
 use Rattle.sixel_palette.specs.Dithering.{IsIndex, Mapped, entry_distance, nearer_entry}
 use Rattle.sixel_palette.specs.declared.dithering.sixteen_entries.SixteenEntries.{SixteenEntries}
 use Rattle.sixel_palette.specs.inside.Diffusion.{channels}
@@ -44,19 +44,9 @@ product w p c =
 
 weighted-product : (w : Weights) (p c : List ℕ)
     → weighted w p c + 2 * product w p c ≡ weighted w p black + weighted w c black
-unfolding weighted distance square_gap
+unfolding distance square_gap
 weighted-product Equal p c = grind (arith, square-apart)
 weighted-product Luma p c = grind (arith, square-apart)
-
--- a distance of bytes
-gap-small : (x y : ℕ) → x < 256 → y < 256 → abs_diff x y * abs_diff x y ≤ 65025
-gap-small x y p q = square-le (abs_diff x y) 255 (255 - abs_diff x y) (omega (arith, p, q))
-
-weighted-small : (w : Weights) (p c : List ℕ) → ((j : ℕ) → j < 3 → slice_index p j < 256)
-    → ((j : ℕ) → j < 3 → slice_index c j < 256) → weighted w p c < no_weighted w
-unfolding weighted distance square_gap
-weighted-small Equal p c ps cs = grind (arith, gap-small, ps, cs)
-weighted-small Luma p c ps cs = grind (arith, gap-small, ps, cs)
 
 -- no distance is greater by any weights
 no_weighted-le : (w : Weights) → no_weighted w ≤ 455176
@@ -168,7 +158,7 @@ key_at m s t us vs xs ys zs x y z before above k are low l lb la f g p q r eb ea
     let red = channel-small w color 0 (are.bytes k 0 l (omega arith)) in
     let green = channel-small w color 1 (are.bytes k 1 l (omega arith)) in
     let blue = channel-small w color 2 (are.bytes k 2 l (omega arith)) in
-    let dark_far = weighted-small w color black (λ j. are.bytes k j l) dark in
+    let dark_far = weighted-lt w color black (λ j. are.bytes k j l) dark in
     let more : min (beside w m.colors m.tolerance before 16 k)
     (beside w m.colors m.tolerance above 32 k)
     ≡ fixed_key w m.colors k + added w m.tolerance before above k = grind (arith, nat_tests) in
@@ -193,7 +183,7 @@ key_at m s t us vs xs ys zs x y z before above k are low l lb la f g p q r eb ea
       times_at zs z k (weighted_channel w color 2) _ r l
           (omega (arith, et, are.blue k l, blue)) blue ez (low 2),
       weighted-product w color (channels t),
-      weighted-small w (channels t) black (bytes t low) dark,
+      weighted-lt w (channels t) black (bytes t low) dark,
       dark_far,
       limit,
     )
@@ -279,7 +269,7 @@ IsIndex-least m c first second i all here there small l rise =
 weighted-same : (w : Weights) (p t : List ℕ) → slice_index p 0 ≡ slice_index t 0
     → slice_index p 1 ≡ slice_index t 1 → slice_index p 2 ≡ slice_index t 2
     → weighted w p (channels t) ≡ 0
-unfolding weighted distance square_gap
+unfolding distance square_gap
 weighted-same Equal p t r g b = grind (arith, nat_tests)
 weighted-same Luma p t r g b = grind (arith, nat_tests)
 
@@ -328,5 +318,5 @@ IsIndex-keys m s t keys first second i least all are here there low is l reached
     let index : least % 16 ≡ i = omega (arith, is i l, reached, rest, l) in
     rw index (IsIndex-least m (channels t) first second i all here there
     (λ k lk.
-    weighted-small m.weights (slice_index_or m.colors k []) (channels t) (λ j. are.bytes k j lk)
+    weighted-lt m.weights (slice_index_or m.colors k []) (channels t) (λ j. are.bytes k j lk)
     (bytes t low)) l (λ k lk. omega (arith, is i l, is k lk, reached, lower k lk)))

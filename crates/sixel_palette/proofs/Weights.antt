@@ -1,20 +1,19 @@
--- Weighted distances: the nearest entry by them, and what they are for equal weights.
+-- Weighted distances: the nearest entry by them, which for an equal color is the same by all.
 use Rattle.std.proofs.Common.{◌≡◌, ℕ, zero, suc, ◌<◌, ◌≤◌, List, [], ◌∷◌}
-use Rattle.std.proofs.Common.{length, get_or, refl, ⊎_elim, arith, inl, inr}
+use Rattle.std.proofs.Common.{length, get_or, ⊎_elim, arith}
 use Rattle.std.proofs.lemmas.Bool.{cases_lt}
 use Rattle.std.proofs.lemmas.Grind.{common_steps}
 use Rattle.std.proofs.lemmas.Bool.Decides.{nat_tests}
-use Rattle.sixel_palette.proofs.PaletteColors.{IsColor, square_gap-le}
-use Rattle.sixel_palette.specs.Palette.{IsNearest, distance, nearest}
-use Rattle.sixel_palette.specs.Weights.{IsWeightedNearest, no_weighted, weighted}
-use Rattle.sixel_palette.specs.Weights.{weighted_nearest}
+use Rattle.sixel_palette.proofs.PaletteColors.{square_gap-le}
+use Rattle.sixel_palette.specs.Palette.{distance, nearest_by}
+use Rattle.sixel_palette.specs.Weights.{IsWeightedNearest, no_weighted, weighted, weighted_nearest}
 use Rattle.sixel_palette.specs.declared.mapping.Weights.{Weights}
 use Rattle.sixel_palette.specs.declared.mapping.Weights.TheVariants.{Equal, Luma}
 
 -- no entry is nearer
 pub weighted_nearest-le : (w : Weights) (ps : List (List ℕ)) (c : List ℕ) (i : ℕ) (d : List ℕ)
     → i < length ps → weighted_nearest w ps c ≤ weighted w (get_or ps i d) c
-unfolding weighted_nearest
+unfolding nearest_by
 weighted_nearest-le w [] c i d l = absurd (omega arith)
 weighted_nearest-le w (p ∷ ps) c zero d l = omega arith
 weighted_nearest-le w (p ∷ ps) c (suc i) d l =
@@ -24,7 +23,7 @@ weighted_nearest-le w (p ∷ ps) c (suc i) d l =
 pub weighted_nearest-reached : (w : Weights) (ps : List (List ℕ)) (c d : List ℕ)
     → weighted_nearest w ps c < no_weighted w
     → (i : ℕ) × (i < length ps) × (weighted w (get_or ps i d) c ≡ weighted_nearest w ps c)
-unfolding weighted_nearest
+unfolding nearest_by
 weighted_nearest-reached w [] c d l = absurd (omega arith)
 weighted_nearest-reached w (p ∷ ps) c d l =
     ⊎_elim (λ h.
@@ -40,83 +39,31 @@ weighted_nearest-distance w colors c i is small =
     grind (arith, common_steps, weighted_nearest-le, weighted_nearest-reached)
 
 -- the distance of two colors is below that of no entry
-pub weighted-lt : (w : Weights) (a b : List ℕ) → IsColor a → IsColor b
-    → weighted w a b < no_weighted w
-unfolding weighted distance
+pub weighted-lt : (w : Weights) (a b : List ℕ) → ((k : ℕ) → k < 3 → get_or a k 0 < 256)
+    → ((k : ℕ) → k < 3 → get_or b k 0 < 256) → weighted w a b < no_weighted w
+unfolding distance
 weighted-lt Equal a b p q = grind (arith, nat_tests, square_gap-le)
 weighted-lt Luma a b p q = grind (arith, nat_tests, square_gap-le)
 
--- ---- equal weights
-
-pub weighted-equal : (a b : List ℕ) → weighted Equal a b ≡ distance a b
-unfolding weighted
-weighted-equal a b = refl
-
-pub nearest-equal : (ps : List (List ℕ)) (c : List ℕ) → weighted_nearest Equal ps c ≡ nearest ps c
-unfolding weighted_nearest nearest
-nearest-equal [] c = refl
-nearest-equal (p ∷ ps) c = omega (arith, nearest-equal ps c, weighted-equal p c)
-
-pub IsNearest-equal : (ps : List (List ℕ)) (c : List ℕ) (i : ℕ) → IsNearest ps c i
-    → IsWeightedNearest Equal ps c i
-unfolding weighted
-IsNearest-equal ps c i is = record { entry = is.entry; least = is.least; first = is.first }
-
-pub IsEqual-nearest : (ps : List (List ℕ)) (c : List ℕ) (i : ℕ) → IsWeightedNearest Equal ps c i
-    → IsNearest ps c i
-unfolding weighted
-IsEqual-nearest ps c i is = record { entry = is.entry; least = is.least; first = is.first }
-
 -- ---- equal colors
 
-weighted-none : (w : Weights) (a b : List ℕ) → distance a b ≡ 0 → weighted w a b ≡ 0
-unfolding weighted distance
-weighted-none Equal a b none = none
-weighted-none Luma a b none = omega (arith, none)
-
-distance-none : (w : Weights) (a b : List ℕ) → weighted w a b ≡ 0 → distance a b ≡ 0
-unfolding weighted distance
-distance-none Equal a b none = none
-distance-none Luma a b none = omega (arith, none)
+weighted-none : (v w : Weights) (a b : List ℕ) → weighted v a b ≡ 0 → weighted w a b ≡ 0
+unfolding distance
+weighted-none Equal Equal a b none = none
+weighted-none Equal Luma a b none = omega (arith, none)
+weighted-none Luma Equal a b none = omega (arith, none)
+weighted-none Luma Luma a b none = none
 
 -- the nearest entry of a color that is an entry is the same by any weights
-module _ (w : Weights) (colors : List (List ℕ)) (c : List ℕ) (i k : ℕ) (inside : k < length colors)
-    (own : distance (get_or colors k []) c ≡ 0) where
-  both : (j : ℕ) → distance (get_or colors j []) c ≡ 0 → weighted w (get_or colors j []) c ≡ 0
-  both j = weighted-none w (get_or colors j []) c
-
-  back : (j : ℕ) → weighted w (get_or colors j []) c ≡ 0 → distance (get_or colors j []) c ≡ 0
-  back j = distance-none w (get_or colors j []) c
-
-  pub own-weighted : IsNearest colors c i → IsWeightedNearest w colors c i
-  own-weighted is =
-      let least = is.least k inside in
-      let none = both i (omega (arith, least, own)) in
-      record {
-        entry = is.entry;
-        least = λ j l. omega (arith, none);
-        first = λ j l.
-            let before = is.first j l in
-            elim (cases_lt 0 (weighted w (get_or colors j []) c)) [
-              | inl more ↦ omega (arith, none, more)
-              | inr same ↦
-                  let exact = back j (omega (arith, same)) in absurd (omega (arith, before, exact))
-            ];
-      }
-
-  pub own-nearest : IsWeightedNearest w colors c i → IsNearest colors c i
-  own-nearest is =
-      let least = is.least k inside in
-      let exact = both k own in
-      let none = back i (omega (arith, least, exact)) in
-      record {
-        entry = is.entry;
-        least = λ j l. omega (arith, none);
-        first = λ j l.
-            let before = is.first j l in
-            elim (cases_lt 0 (distance (get_or colors j []) c)) [
-              | inl more ↦ omega (arith, none, more)
-              | inr same ↦
-                  let exact = both j (omega (arith, same)) in absurd (omega (arith, before, exact))
-            ];
-      }
+pub own-nearest : (v w : Weights) (colors : List (List ℕ)) (c : List ℕ) (i k : ℕ)
+    → k < length colors → distance (get_or colors k []) c ≡ 0
+    → IsWeightedNearest v colors c i → IsWeightedNearest w colors c i
+own-nearest v w colors c i k inside own is =
+    let exact = weighted-none Equal v (get_or colors k []) c own in
+    let none =
+    weighted-none v w (get_or colors i []) c (omega (arith, is.least k inside, exact)) in
+    record {
+      entry = is.entry;
+      least = λ j l. omega (arith, none);
+      first = λ j l. grind (arith, none, is.first j l, weighted-none w v (get_or colors j []) c);
+    }

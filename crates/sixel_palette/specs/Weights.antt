@@ -1,8 +1,7 @@
 -- Squared distances in which the channels have weights, and the nearest entry by them. The weights
 -- of luma are about those of ITU-R BT.601 for red, green and blue: 0.299, 0.587 and 0.114.
-use Rattle.std.specs.Prelude.{ℕ, ◌+◌, ◌*◌, ◌/◌, ◌<◌, ◌≤◌, min, zero, suc, List, [], ◌∷◌, length}
-use Rattle.std.specs.Prelude.{slice_index_or}
-use Rattle.sixel_palette.specs.Palette.{distance, square_gap}
+use Rattle.std.specs.Prelude.{ℕ, ◌+◌, ◌*◌, ◌/◌, zero, suc, List}
+use Rattle.sixel_palette.specs.Palette.{IsNearestBy, distance, nearest_by, square_gap}
 use Rattle.sixel_palette.specs.declared.mapping.Weights.{Weights}
 use Rattle.sixel_palette.specs.declared.mapping.Weights.TheVariants.{Equal, Luma}
 
@@ -14,9 +13,9 @@ channel_weight Luma (suc zero) = 4
 channel_weight Luma (suc (suc _)) = 1
 
 -- the weighted squared distance of two colors
-unfoldable pub weighted : Weights → List ℕ → List ℕ → ℕ
-weighted Equal a b = distance a b
-weighted Luma a b = 2 * square_gap a b 0 + 4 * square_gap a b 1 + square_gap a b 2
+abbrev pub weighted : Weights → List ℕ → List ℕ → ℕ
+weighted Equal = distance
+weighted Luma = λ a b. 2 * square_gap a b 0 + 4 * square_gap a b 1 + square_gap a b 2
 
 -- the sum of the weights
 abbrev pub total_weight : Weights → ℕ
@@ -29,20 +28,12 @@ abbrev pub no_weighted : Weights → ℕ
 no_weighted weights = 65025 * total_weight weights + 1
 
 -- the weighted squared distance of a color to the nearest entry
-unfoldable pub weighted_nearest : Weights → List (List ℕ) → List ℕ → ℕ
-weighted_nearest weights [] c = no_weighted weights
-weighted_nearest weights (p ∷ ps) c = min (weighted weights p c) (weighted_nearest weights ps c)
+abbrev pub weighted_nearest : Weights → List (List ℕ) → List ℕ → ℕ
+weighted_nearest weights = nearest_by (weighted weights) (no_weighted weights)
 
 -- the palette index of the entry nearest to the color by the weights, the first of those
-pub record IsWeightedNearest (weights : Weights) (entries : List (List ℕ)) (c : List ℕ) (i : ℕ)
-    : Type 0 where
-  pub entry : i < length entries
-  pub least : (j : ℕ) → j < length entries
-      → weighted weights (slice_index_or entries i []) c
-      ≤ weighted weights (slice_index_or entries j []) c
-  pub first : (j : ℕ) → j < i
-      → weighted weights (slice_index_or entries i []) c
-      < weighted weights (slice_index_or entries j []) c
+abbrev pub IsWeightedNearest : Weights → List (List ℕ) → List ℕ → ℕ → Type 0
+IsWeightedNearest weights = IsNearestBy (weighted weights)
 
 -- a squared distance of equal weights as one of these: with the mean weight as a factor
 abbrev pub scaled : Weights → ℕ → ℕ

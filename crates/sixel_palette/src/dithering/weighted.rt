@@ -9,7 +9,7 @@ use crate::palette::distance::{distance, square_gap};
 use crate::palette::nearest_entry::{NO_ENTRY, NearestEntry};
 
 /// Returns the weighted squared distance of two colors.
-#[tactic(auto, unfolding(crate::specs::Weights::weighted, crate::specs::Palette::square_gap))]
+#[tactic(auto, unfolding(crate::specs::Palette::square_gap))]
 #[inline(always)]
 pub fn weighted_distance(weights: Weights, a: [u8; 3], b: [u8; 3]) -> u32
     ensures value { result ≡ weighted weights a b }

@@ -8,7 +8,7 @@ use Rattle.sixel_palette.specs.declared.dither.Dither.{Dither}
 use Rattle.sixel_palette.specs.Dithering.{AreMapped, Mapped, mapped_of, target_of, tolerance_of}
 use Rattle.sixel_palette.specs.Gray.{source_pixels}
 use Rattle.sixel_palette.proofs.DiffusionLaws.{AreHeld, AreIndices-exact}
-use Rattle.sixel_palette.proofs.DitheredIndices.{AreIndices-mapped, AreRows, IsWeightless-equal}
+use Rattle.sixel_palette.proofs.DitheredIndices.{AreIndices-mapped, AreRows}
 use Rattle.sixel_palette.proofs.GraySource.{AreIndices-source, AreRowsOf-source, IsSource-pixels}
 use Rattle.sixel_palette.proofs.GraySource.{bytes-source, dithered-count, chosen-own}
 use Rattle.sixel_palette.proofs.PaletteError.{error-bound, tolerance-held}
@@ -30,7 +30,7 @@ returns-clause-nearest c = λ off exact equal.
     let m = mapped_of c.args.mapping c.args.width pixels c.args.colors.now in
     let indices = c.in_ok-dithered_indices.field-0.items in
     AreIndices-mapped m (target_of c.args.mapping.dither m indices) indices
-    (rows-of c m refl refl refl) (IsWeightless-equal m equal) (grind (arith, exact))
+    (rows-of c m refl refl refl) (λ pixel i l light is. rw equal at is) (grind (arith, exact))
     (grind (arith, nat_tests))
     (λ n l light. ap (λ d. target_of d m indices n) off)
 

@@ -6,7 +6,7 @@ use Rattle.sixel_palette.specs.Dithering.{serpentine}
 use Rattle.sixel_palette.specs.inside.Mapped.{IsIndexAt, mapped_value}
 use Rattle.sixel_palette.proofs.DitheredIndices.{AreEntries-indices, AreEntries-set}
 use Rattle.sixel_palette.proofs.DitheredIndices.{AreMapped-exact, AreRows-image, HasTarget-more}
-use Rattle.sixel_palette.proofs.DitheredIndices.{IsLater-indices, IsLater-set, IsWeightless-equal}
+use Rattle.sixel_palette.proofs.DitheredIndices.{IsLater-indices, IsLater-set}
 use Rattle.std.proofs.lemmas.Bool.Decides.{nat_tests}
 use Rattle.sixel_palette.proofs.dithering.undithered.keep_entries.Goals as goal
 
@@ -63,8 +63,8 @@ pub returns-then-image-eq0 : goal.returns-then-image-eq0
 returns-then-image-eq0 c =
     let m = mapped_value c.args.image.now in
     AreMapped-exact m (λ n. color_at m.pixels (serpentine m.width n)) c.args.nearest.items
-    (AreRows-image c.args.image.now c.requires.image) (IsWeightless-equal m c.requires.weights)
-    (omega (arith, c.if-image-eq0.true))
+    (AreRows-image c.args.image.now c.requires.image)
+    (λ pixel i l light is. rw c.requires.weights is) (omega (arith, c.if-image-eq0.true))
     c.requires.nearest (λ n l light. refl)
 
 pub kept_index-index-requires-clause-nearest : goal.kept_index-index-requires-clause-nearest
