@@ -1,26 +1,19 @@
 -- The second trip: what a transparent image has become by a trip it stays, if it may use as many
 -- colors again.
 use Rattle.std.proofs.Common.{◌≡◌, ℕ, zero, suc, ◌+◌, ◌*◌, ◌<◌, ◌≤◌, Bool, true, false, List, []}
-use Rattle.std.proofs.Common.{◌∷◌, ◌++◌, map, length, refl, ap, sym, subst, ◌∙◌, arith}
+use Rattle.std.proofs.Common.{◌∷◌, map, length, refl, ap, sym, subst, ◌∙◌, arith}
 use Rattle.std.specs.Prelude.{Option, Some, None, slice_index_or, All, Contains}
 use Rattle.std.proofs.lemmas.Nat.{mul-add-lt}
-use Rattle.std.proofs.lemmas.List.{get_or_default, length-map, length_push}
-use Rattle.std.proofs.lemmas.List.Quantifiers.{all_pairs_push}
-use Rattle.std.proofs.lemmas.List.Elements.{All-push}
+use Rattle.std.proofs.lemmas.List.{length-map}
 use Rattle.sixel_base.specs.declared.settings.BackgroundMode.TheVariants.{Transparent}
-use Rattle.sixel_palette.specs.Palette.{distance, nearest, IsShown, IsOpaque, IsNearest, HasSize}
-use Rattle.sixel_palette.specs.Palette.{IsFarthestFirst, color_at}
-use Rattle.sixel_palette.specs.PaletteBound.{AreApart}
+use Rattle.sixel_palette.specs.Palette.{IsShown, IsOpaque, HasSize, color_at}
 use Rattle.sixel_base.specs.Picture.{picture}
 use Rattle.sixel_base.specs.Size.{banded}
 use Rattle.sixel_base.specs.declared.state.DecoderState.{DecoderState}
 use Rattle.sixel_base.specs.Payload.{Image}
-use Rattle.sixel_palette.proofs.PaletteDistance.{distance_self, same_from_distance}
-use Rattle.sixel_palette.proofs.PaletteNearest.{nearest-le}
-use Rattle.sixel_palette.proofs.PaletteColors.{Contains-nearest}
-use Rattle.sixel_palette.proofs.PaletteApart.{far_from_others}
-use Rattle.sixel_palette.proofs.PaletteOrder.{entry-apart, members_from_order}
-use Rattle.sixel_palette.proofs.PaletteSize.{near_from_contains, size-le}
+use Rattle.sixel_palette.proofs.DiffusionLaws.{nearest-own}
+use Rattle.sixel_palette.proofs.PaletteOrder.{members_from_order}
+use Rattle.sixel_palette.proofs.PaletteSize.{complete_from_size, size-le}
 use Rattle.sixel_palette.proofs.PaletteChoices.{three_from_shown}
 use Rattle.sixel_encoder.specs.Text.{Drawing, entry_at, bands}
 use Rattle.sixel_encoder.specs.Trip.{IsWritable, CanRead, rounded, trip_pixel, trip_height}
@@ -37,31 +30,6 @@ use Rattle.sixel_encoder.proofs.TripPixels.{entry_in, known_in, rounded_entry, l
 use Rattle.sixel_encoder.proofs.TripPixels.{alpha-some, color-some, alpha-none, shown-among}
 use Rattle.sixel_base.specs.Limits.{Limit}
 use Rattle.std.proofs.lemmas.Bool.Decides.{nat_tests}
-
--- ---- palettes with room for all colors
-
--- farthest first, with an entry for each member the entries hold each
-complete_from_order : (M : List ℕ → Type 0) → ((c : List ℕ) → M c → length c ≡ 3)
-    → (entries : List (List ℕ)) (n : ℕ) → IsFarthestFirst M entries → HasSize M n
-    → n ≤ length entries → (c : List ℕ) → M c → Contains entries c
-complete_from_order M three entries n order size room c m =
-    let least : ℕ = nearest entries c in
-    let apart : AreApart (entries ++ c ∷ []) least =
-    all_pairs_push (λ a b. least ≤ distance a b) entries c (entry-apart M entries c order m)
-    (λ k d l. nearest-le entries c k d l) in
-    let far =
-    far_from_others M least size.0 (entries ++ c ∷ []) apart
-    (All-push M entries c (members_from_order M entries order) m)
-    (omega (arith, length_push entries c, size.2)) in
-    Contains-nearest entries c (λ k d h. three _ (members_from_order M entries order k d h))
-    (three c m) (near_from_contains size.0 far.0 least (size.1.complete far.0 far.1) far.2)
-
--- the nearest entry to a color among the entries is the color
-nearest-held : (entries : List (List ℕ)) (c : List ℕ) (i : ℕ) → All (λ p. length p ≡ 3) entries
-    → length c ≡ 3 → Contains entries c → IsNearest entries c i → slice_index_or entries i [] ≡ c
-nearest-held entries c i three long held near =
-    let place = get_or_default entries held.0 [] c held.1 in
-    grind (arith, nat_tests, distance_self, same_from_distance)
 
 -- ---- an image and its trip, each drawn with as many colors
 
@@ -88,7 +56,7 @@ module _ (crop : Bool) (max_colors : ℕ) (image : Image) (first second : Drawin
   held c again m =
       let size = again.drawn.palette.size in
       let few = size-shown size.0 again size.1 in
-      complete_from_order _ (three_from_shown (trip crop first).pixels) _ size.0
+      complete_from_size _ (three_from_shown (trip crop first).pixels) _ size.0
       again.drawn.palette.order size.1 (omega (arith, size.2, again.from.palette.size.2, few)) c m
 
 -- a color that was rounded stays
@@ -117,7 +85,7 @@ module _ (crop : Bool) (max_colors : ℕ) (image : Image) (first second : Drawin
       let found = again.drawn.shown place (omega arith) opaque in
       let kept =
       held crop max_colors image first second c again (place, omega arith, opaque, refl) in
-      (found.0, found.1, found.2.entry, nearest-held _ c _ all_three refl kept found.2 ∙ color)
+      (found.0, found.1, found.2.entry, nearest-own _ c _ all_three refl kept found.2 ∙ color)
 
   -- a pixel with none has none again
   again-none : (place : ℕ) → place < first.width * trip_height crop first

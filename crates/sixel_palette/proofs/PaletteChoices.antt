@@ -97,7 +97,8 @@ module _ (pixels : List ℕ) (room : ℕ) (choice : PaletteChoice)
   pub chosen_apart : AreApart choice.witnesses.items choice.error
   chosen_apart =
       ⊎_elim (λ l. rw (h.witnesses_some l, h.error_some (omega arith))
-      (apart_from_order (IsShown pixels) _ h.far chosen_order (chosen_farthest (omega arith))))
+      (apart_from_order (IsShown pixels) _ h.far chosen_order
+      (chosen_farthest (omega arith)).member))
       (λ l. rw (h.witnesses_none l) (grind arith))
       (cases_lt (length choice.colors.items) (length h.codes))
 
@@ -117,7 +118,7 @@ module _ (pixels : List ℕ) (room : ℕ) (choice : PaletteChoice)
   chosen_bound c m =
       let some = some_from_shown c m in
       rw (h.error_some some) (bound_from_order (IsShown pixels) choice.colors.items h.far
-      chosen_order (chosen_farthest some))
+      chosen_order (chosen_farthest some).member)
 
   -- where there is room for all of these colors each is an entry
   pub chosen_complete : (n : ℕ) → HasSize (IsShown pixels) n → n ≤ room → (c : List ℕ)
@@ -125,8 +126,8 @@ module _ (pixels : List ℕ) (room : ℕ) (choice : PaletteChoice)
   chosen_complete n s l c m =
       let e = only_size n s in
       let size = h.size in
-      complete_from_size (IsShown pixels) (three_from_shown pixels) choice.colors.items h.far n
-      chosen_order (chosen_farthest (some_from_shown c m)) s (omega arith) c m
+      complete_from_size (IsShown pixels) (three_from_shown pixels) choice.colors.items n
+      chosen_order s (omega arith) c m
 
   -- each of these colors has a nearest entry
   pub chosen_near : ((k : ℕ) → get_or pixels k 0 < 256) → 0 < room → (c : List ℕ) → IsShown pixels c

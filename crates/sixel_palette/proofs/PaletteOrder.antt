@@ -28,20 +28,19 @@ entry-apart e entries c order m i j d l h =
 
 -- the entries and the next color lie as far apart as that color from its nearest entry
 pub apart_from_order : (Member : List ℕ → Type 0) (entries : List (List ℕ)) (c : List ℕ)
-    → IsFarthestFirst Member entries → IsFarthest Member entries c
-    → AreApart (entries ++ c ∷ []) (nearest entries c)
-apart_from_order Member entries c order far =
+    → IsFarthestFirst Member entries → Member c → AreApart (entries ++ c ∷ []) (nearest entries c)
+apart_from_order Member entries c order m =
     all_pairs_push (λ a b. nearest entries c ≤ distance a b) entries c
-    (entry-apart Member entries c order far.member) (λ k d l. nearest-le entries c k d l)
+    (entry-apart Member entries c order m) (λ k d l. nearest-le entries c k d l)
 
 -- no list of as many colors is better than a fourth of the next color's distance
 pub bound_from_order : (Member : List ℕ → Type 0) (entries : List (List ℕ)) (c : List ℕ)
-    → IsFarthestFirst Member entries → IsFarthest Member entries c
+    → IsFarthestFirst Member entries → Member c
     → NoListIsBetter Member (length entries) (nearest entries c)
-bound_from_order Member entries c order far = λ others l.
+bound_from_order Member entries c order m = λ others l.
     far_from_others Member (nearest entries c) others (entries ++ c ∷ [])
-    (apart_from_order Member entries c order far)
-    (All-push Member entries c (members_from_order Member entries order) far.member)
+    (apart_from_order Member entries c order m)
+    (All-push Member entries c (members_from_order Member entries order) m)
     (omega (arith, length_push entries c))
 
 -- one more farthest color

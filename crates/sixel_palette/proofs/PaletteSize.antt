@@ -1,8 +1,7 @@
 -- How many members a set has, and when all of them are entries.
 use Rattle.std.proofs.Common.{◌≡◌, ℕ, ◌*◌, ◌<◌, ◌≤◌, List, length, arith}
 use Rattle.std.specs.List.{All, AllPairs, Contains}
-use Rattle.sixel_palette.specs.Palette.{distance, nearest, rank, AreMembers, HasSize, IsFarthest}
-use Rattle.sixel_palette.specs.Palette.{IsFarthestFirst}
+use Rattle.sixel_palette.specs.Palette.{distance, rank, AreMembers, HasSize, IsFarthestFirst}
 use Rattle.sixel_palette.specs.PaletteBound.{AreApart}
 use Rattle.sixel_palette.proofs.PaletteDistance.{distance_self, same_from_distance}
 use Rattle.sixel_palette.proofs.PaletteApart.{far_from_others}
@@ -38,20 +37,11 @@ one_size M three m n g h =
     let down = size-le M three h.0 g.0 h.1 g.1.complete in
     omega (arith, g.2, h.2)
 
--- with an entry for each member the next color is at no distance
-nearest-complete : (M : List ℕ → Type 0) (entries : List (List ℕ)) (c : List ℕ) (n : ℕ)
-    → IsFarthestFirst M entries → IsFarthest M entries c → HasSize M n → n ≤ length entries
-    → nearest entries c ≡ 0
-nearest-complete M entries c n order far size l =
-    let w = bound_from_order M entries c order far size.0 (omega (arith, size.2)) in
-    near_from_contains size.0 w.0 (nearest entries c) (size.1.complete w.0 w.1) w.2
-
 -- with as many entries as members each member is an entry
 pub complete_from_size : (M : List ℕ → Type 0) → ((c : List ℕ) → M c → length c ≡ 3)
-    → (entries : List (List ℕ)) (far : List ℕ) (n : ℕ) → IsFarthestFirst M entries
-    → IsFarthest M entries far → HasSize M n → n ≤ length entries → (c : List ℕ) → M c
-    → Contains entries c
-complete_from_size M three entries far n order f size l c m =
-    Contains-nearest entries c
-    (λ k d h. three _ (members_from_order M entries order k d h))
-    (three c m) (omega (arith, f.farthest c m, nearest-complete M entries far n order f size l))
+    → (entries : List (List ℕ)) (n : ℕ) → IsFarthestFirst M entries → HasSize M n
+    → n ≤ length entries → (c : List ℕ) → M c → Contains entries c
+complete_from_size M three entries n order size l c m =
+    let far = bound_from_order M entries c order m size.0 (omega (arith, size.2)) in
+    Contains-nearest entries c (λ k d h. three _ (members_from_order M entries order k d h))
+    (three c m) (near_from_contains size.0 far.0 _ (size.1.complete far.0 far.1) far.2)
