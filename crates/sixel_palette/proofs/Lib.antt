@@ -22,6 +22,7 @@ pub mod PaletteNearestEntry
 pub mod PaletteOne
 pub mod PaletteOrder
 pub mod PalettePages
+pub mod PalettePositions
 pub mod PaletteRanks
 pub mod PaletteRankPages
 pub mod PaletteRefined

@@ -16,6 +16,7 @@ mod assignment;
 mod bins;
 mod buckets;
 mod color_counts;
+mod color_positions;
 mod color_set;
 mod color_sums;
 pub mod colors;
