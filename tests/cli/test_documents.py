@@ -16,6 +16,16 @@ EXAMPLES = {
 }
 DOCUMENTS = [*ROOT.glob("*.md"), *sorted(ROOT.glob("docs/*.md"))]
 LINK = re.compile(r"\]\(([^)#:]+)(?:#[^)]*)?\)|^\[[^]]+\]: ([^#:\n]+)$", re.M)
+# The commands of README that run, prove and test this repository. The first two write the same.
+TRY = [
+    "(cd crates/sixel && printf '#1~' | rt try -- payload)",
+    "printf '#1~' | ./sixel payload",
+    "./check",
+]
+SECTION = re.compile(r"^## Try it\n.*?^```sh\n(.*?)^```\n(.*?)^## ", re.M | re.S)
+WRITTEN = re.compile(r"print `(image 1 6 9 0)`, 24 bytes of RGBA and a newline\.")
+# Register 1 of VT340: 20, 20 and 80 percent.
+BLUE = bytes([51, 51, 204, 255])
 # The lines of README on other image formats.
 LINES = re.compile(r"`((?:convert|sixel pam) [^`]*)`")
 SESSION = re.compile(r"^```sh\n(.*?)^```\n(?:\n?^```text\n(.*?)^```\n)?", re.M | re.S)
@@ -61,6 +71,17 @@ class TestDocuments(unittest.TestCase):
             for link in LINK.finditer(page.read_text()):
                 with self.subTest(page=str(page), link=link[0]):
                     self.assertTrue((page.parent / (link[1] or link[2])).exists())
+
+    @needs("rt")
+    def test_try_it(self):
+        """README says how to run, prove and test this repository, and what the program writes."""
+        commands, text = SECTION.search((ROOT / "README.md").read_text()).groups()
+        self.assertEqual(re.findall(r"^(.+?)(?: +# .*)?$", commands, re.M), TRY)
+        output = WRITTEN.search(text)[1].encode() + b"\n" + 6 * BLUE + b"\n"
+        for command in TRY[:2]:
+            with self.subTest(command=command):
+                ended = run("sh", "-c", command, cwd=ROOT, timeout=600)
+                self.assertEqual(ended[:2], (0, output), ended[2].decode())
 
     def test_readme_lines(self):
         """The lines of README on PNG files keep an image in black and white."""
