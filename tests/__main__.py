@@ -1,7 +1,9 @@
-"""Runs the tests of the folders beside this file, in what is built: python3 tests [PATTERN..]
+"""Runs the tests of the folders beside this file, in what is built.
 
-A pattern selects tests, as for `python3 -m unittest -k`. The last line is `N passed, N failed`.
+A pattern selects tests, as for `python3 -m unittest -k`. The last line is `N passed, N failed`, then
+`, N skipped` if any were.
 """
+import argparse
 import sys
 import unittest
 from pathlib import Path
@@ -19,16 +21,25 @@ class Result(unittest.TextTestResult):
         self.passed += 1
 
 
-def main(patterns):
+def arguments():
+    parser = argparse.ArgumentParser("python3 tests", description=__doc__)
+    parser.add_argument("patterns", nargs="*", metavar="PATTERN")
+    parser.add_argument("--skipped", type=int, default=0, metavar="N",
+                        help="counts N mutants that `./check` did not try")
+    return parser.parse_args()
+
+
+def main(patterns, skipped):
     loader = unittest.TestLoader()
     loader.testNamePatterns = [f"*{it}*" for it in patterns] or None
     suite = loader.discover(str(Path(__file__).parent), top_level_dir=str(Path(__file__).parent))
     result = unittest.TextTestRunner(sys.stdout, verbosity=2, resultclass=Result).run(suite)
     failed = len(result.failures) + len(result.errors) + len(result.unexpectedSuccesses)
-    skipped = f", {len(result.skipped)} skipped" if result.skipped else ""
-    print(f"{result.passed} passed, {failed} failed{skipped}")
+    skipped += len(result.skipped)
+    told = f", {skipped} skipped" if skipped else ""
+    print(f"{result.passed} passed, {failed} failed{told}")
     return 1 if failed or not result.passed else 0
 
 
 if __name__ == "__main__":
-    sys.exit(main(sys.argv[1:]))
+    sys.exit(main(**vars(arguments())))

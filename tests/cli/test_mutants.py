@@ -1,4 +1,5 @@
-"""Tests that must-fail/ has the mutants that each run of `./check` has to try."""
+"""Tests that must-fail/ has the mutants that each run of `./check` has to try, and first."""
+import re
 import unittest
 
 from build import ROOT
@@ -52,3 +53,9 @@ class TestMutants(unittest.TestCase):
             for name in names.split():
                 with self.subTest(crate=crate, name=name):
                     self.assertTrue((ROOT / f"crates/{crate}/must-fail/{name}.edit").is_file())
+
+    def test_order(self):
+        """`./check` goes through crates.txt, and skips what it has no time for at the end."""
+        names = re.findall(r"^(\w+).*:", (ROOT / "crates.txt").read_text(), re.M)
+        tried = [it for it in names if any((ROOT / f"crates/{it}/must-fail").glob("*.edit"))]
+        self.assertEqual(tried[:len(TRIED)], [*TRIED])
