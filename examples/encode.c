@@ -12,7 +12,7 @@ int main(void)
     icysixel handle = {0};
     size_t length = 0;
     icysixel_encoding encoding = {.width = WIDTH, .height = HEIGHT, .max_colors = 16};
-    encoding.dithering.kind = ICYSIXEL_DITHER_DIFFUSION + ICYSIXEL_WEIGHTS_LUMA;
+    encoding.dithering.kind = ICYSIXEL_DITHER_DIFFUSION;
     encoding.tolerance = ICYSIXEL_AUTO;
     encoding.form = ICYSIXEL_FORM_COMPACT;
     uint32_t code = icysixel_new(&handle);

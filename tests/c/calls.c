@@ -843,34 +843,6 @@ static void test_tolerance(void)
     }
 }
 
-/* The second pixel is black. Its squared distances to the entries are 51 * 51 = 2601 and 89 * 89 =
- * 7921 by equal weights, but 4 * 2601 = 10404 and 7921 by those of luma. It keeps the first entry
- * if the tolerance is above 2483. The mean squared error is 2601 / 2 = 1300, and 7/5 of it 1820.
- * The automatic tolerance is 7/3 of that by luma: 4246. */
-static void test_weights(void)
-{
-    enum { EQUAL = ICYSIXEL_WEIGHTS_EQUAL, LUMA = ICYSIXEL_WEIGHTS_LUMA };
-    static const uint8_t pixels[] = {0, 51, 0, 255, 0, 0, 0, 255};
-    static const icysixel_color green_blue[] = {{0, 51, 0}, {0, 0, 89}};
-    static const char *const ends[] = {"#0@@$-\033\\", "#0@?$#1?@$-\033\\"};
-    static const struct { uint8_t kind; uint32_t tolerance; uint8_t index; } runs[] = {
-        {EQUAL, 0, 0}, {127, 0, 0}, {LUMA, 0, 1}, {255, 0, 1}, {LUMA, 2483, 1}, {LUMA, 2484, 0},
-        {EQUAL, ICYSIXEL_AUTO, 0}, {LUMA, ICYSIXEL_AUTO, 0},
-    };
-    icysixel_encoding e = {.width = 2, .height = 1, .palette = ICYSIXEL_PALETTE_GIVEN};
-    memcpy(e.colors, green_blue, sizeof green_blue);
-    e.color_count = 2;
-    EACH(it, runs) {
-        uint8_t found[2] = {7, 7};
-        e.tolerance = it->tolerance, e.dithering.kind = it->kind;
-        CHECK(has_text(ENCODE(pixels), "\033P9;1;0q\"1;1;2;1#0;2;0;20;0#1;2;0;0;35",
-                       ends[it->index]));
-        RETURNS(OK, icysixel_palette_indices(SIZED(pixels), 2, green_blue, 2, &e.dithering,
-                                             it->tolerance, SIZED(found)));
-        CHECK(found[0] == 0 && found[1] == it->index);
-    }
-}
-
 /* Buffers of palettes: those that are too small, and what is left of larger ones. Both darker
  * pixels have the refined entry of their mean, 5 from each. */
 static void test_palettes(void)
@@ -935,7 +907,7 @@ int main(void)
         TEST(drawn_height), TEST(raster_size), TEST(take_pixels), TEST(new_on_full_handle),
         TEST(registers), TEST(settings), TEST(encode), TEST(shapes), TEST(take_text),
         TEST(encodings), TEST(formats), TEST(widest), TEST(palettes), TEST(indices),
-        TEST(tolerance), TEST(weights), TEST(code_texts), TEST(version),
+        TEST(tolerance), TEST(code_texts), TEST(version),
     };
     for (size_t i = 0; i < COUNT_OF(tests); i++) subject = tests[i].name, tests[i].test();
     icysixel_free(h);

@@ -6,17 +6,15 @@ from collections import Counter, defaultdict
 
 # The greatest number of colors of which each is a bin of its own.
 FEW = 4096
-# How often red, green and blue count in a distance.
-EQUAL, LUMA = (1, 1, 1), (2, 4, 1)
 
 
-def distance(one, other, weights=EQUAL):
-    return sum(by * (a - b) ** 2 for by, a, b in zip(weights, one, other))
+def distance(one, other):
+    return sum((a - b) ** 2 for a, b in zip(one, other))
 
 
-def nearest(colors, color, weights=EQUAL):
+def nearest(colors, color):
     """The index of the nearest entry, the first of equals."""
-    return min(range(len(colors)), key=lambda it: (distance(colors[it], color, weights), it))
+    return min(range(len(colors)), key=lambda it: (distance(colors[it], color), it))
 
 
 def grid_color(color):

@@ -16,7 +16,7 @@ from pathlib import Path
 from build import needs, run
 from library import AUTO, CLEAR, COMPACT, DIFFUSION, INDEXED, OFF, ORDERED, PLAIN, REFINED
 from library import SHARED, Encoding, call, encoded
-from palette.refined import EQUAL, LUMA, distance, grid_color, nearest, refined_entries
+from palette.refined import distance, grid_color, nearest, refined_entries
 
 COUNT, SEED = int(os.environ.get("FUZZ_COUNT", "300")), int(os.environ.get("FUZZ_SEED", "1"))
 # Where the error of a pixel goes: sixteenths, columns ahead, rows down. The last takes the rest.
@@ -50,22 +50,22 @@ def mean_error(colors, pixels):
     return sum(errors) // max(len(errors), 1), sum(errors) > 0
 
 
-def automatic_tolerance(kind, colors, pixels, weights):
+def automatic_tolerance(kind, colors, pixels):
     mean, has_error = mean_error(colors, pixels)
     part = 7 * mean // 5 if kind == OFF else mean
-    return sum(weights) * max(12, part) // 3 if has_error else 0
+    return max(12, part) if has_error else 0
 
 
 def automatic_amplitude(colors, pixels):
     return min(math.isqrt(mean_error(colors, pixels)[0]), 255)
 
 
-def chosen(colors, color, tolerance, neighbors, weights):
+def chosen(colors, color, tolerance, neighbors):
     """The index for a color that keeps a neighbor's entry, the first of equally near ones."""
-    best = nearest(colors, color, weights)
-    gaps = {it: distance(colors[it], color, weights) for it in (*neighbors, best)}
-    kept = min(neighbors, key=gaps.get, default=best)
-    return kept if gaps[kept] < gaps[best] + tolerance else best
+    best = nearest(colors, color)
+    kept = min(neighbors, key=lambda it: distance(colors[it], color), default=best)
+    is_kept = distance(colors[kept], color) < distance(colors[best], color) + tolerance
+    return kept if is_kept else best
 
 
 def source(colors, pixels):
@@ -85,7 +85,7 @@ def moved(width, place, color, amplitude):
         yield min(max(color[channel] + offset, 0), 255)
 
 
-def mapped(width, pixels, colors, weights=EQUAL, amplitude=0, strength=0, tolerance=0):
+def mapped(width, pixels, colors, amplitude=0, strength=0, tolerance=0):
     """Indices with the pattern, error diffusion, and entries of neighbors that are kept.
 
     Each visit adds shares of its error to pixels still to come.
@@ -105,7 +105,7 @@ def mapped(width, pixels, colors, weights=EQUAL, amplitude=0, strength=0, tolera
         around = [place - ahead] * (step > 0) + [place - width] * (row % 6 > 0)
         neighbors = [indices[it] for it in around if pixels[it][3] >= 128]
         target = [(it + 8) // 16 for it in wanted]
-        indices[place] = chosen(colors, target, tolerance, neighbors, weights)
+        indices[place] = chosen(colors, target, tolerance, neighbors)
         for channel, entry in enumerate(colors[indices[place]]):
             error = rest = (wanted[channel] - 16 * entry) * strength // 8
             for part, right, down in SHARES:
@@ -180,8 +180,7 @@ class PaletteTest(unittest.TestCase):
             if rng.random() < 0.2:
                 colors = [(it, it, it) for it, *_ in colors]
             diffused = source(colors, pixels)
-            amount, luma = rng.choice([1, 3, 7, 8, 64, 255]), rng.choice([0, 128])
-            weights = LUMA if luma else EQUAL
+            amount = rng.choice([1, 3, 7, 8, 64, 255])
             exact, kept = {"tolerance": 0}, {"tolerance": rng.choice([1, 12, 200, 5000])}
             cases = [(OFF, amount, it, it) for it in (exact, kept)]
             cases += [(ORDERED, amount, it, it | {"amplitude": amount}) for it in (exact, kept)]
@@ -193,19 +192,17 @@ class PaletteTest(unittest.TestCase):
                 (DIFFUSION, 0, diffused, {"strength": 7}),
             ]
             for kind, number, wanted, options in automatic:
-                options["tolerance"] = automatic_tolerance(kind, colors, wanted, weights)
+                options["tolerance"] = automatic_tolerance(kind, colors, wanted)
                 cases.append((kind, number, {"tolerance": AUTO}, options))
             for kind, number, passed, options in cases:
-                with self.subTest(turn=turn, kind=kind, amount=number, luma=luma, **passed):
+                with self.subTest(turn=turn, kind=kind, amount=number, **passed):
                     found = ctypes.create_string_buffer(len(pixels))
-                    dithering = bytes([kind + luma, number])
                     call(
                         "icysixel_palette_indices", pixels, 4 * len(pixels), width, colors,
-                        len(colors), dithering, *passed.values(), found, len(pixels),
+                        len(colors), bytes([kind, number]), *passed.values(), found, len(pixels),
                     )
                     wanted = diffused if kind == DIFFUSION else pixels
-                    expected = mapped(width, wanted, colors, weights, **options)
-                    self.assertEqual(list(found.raw), expected)
+                    self.assertEqual(list(found.raw), mapped(width, wanted, colors, **options))
             self.assertEqual(mapped(width, pixels, colors), nearest_of(colors, pixels))
 
     def test_refined(self):

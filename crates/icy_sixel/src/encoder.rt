@@ -3,4 +3,4 @@
 pub use sixel_encoder::{EncodeOptions, TextForm, one_drawing, sixel_encode, sixel_encode_default};
 pub use sixel_palette::dither::{Amplitude, Dither};
 pub use sixel_palette::dithering::palette_indices;
-pub use sixel_palette::mapping::{Mapping, Tolerance, Weights};
+pub use sixel_palette::mapping::{Mapping, Tolerance};

@@ -14,8 +14,8 @@ pub use decoder::{
     SixelFeedResult, SixelFeedStatus, SixelStreamDecoder, sixel_decode, sixel_decode_from_dcs,
 };
 pub use encoder::{
-    Amplitude, Dither, EncodeOptions, Mapping, TextForm, Tolerance, Weights, palette_indices,
-    sixel_encode, sixel_encode_default,
+    Amplitude, Dither, EncodeOptions, Mapping, TextForm, Tolerance, palette_indices, sixel_encode,
+    sixel_encode_default,
 };
 pub use receiver::{
     BandStatus, FailedFeed, Height, Received, ReceivedBand, ReceivedImage, SixelReceiver,

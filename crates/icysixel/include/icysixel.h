@@ -137,8 +137,7 @@ typedef struct {
 /* How each pixel gets an entry of the palette. Zeros mean the nearest entry. An amount of 0 is 7
  * for diffusion, and for the pattern the square root of the palette's mean squared error. */
 typedef struct {
-    uint8_t kind;   /* an enum icysixel_dither plus an enum icysixel_weights; any other number is
-                       ICYSIXEL_DITHER_OFF, with the weights of luma from 128 on */
+    uint8_t kind;   /* an enum icysixel_dither; any other number is ICYSIXEL_DITHER_OFF */
     uint8_t amount; /* diffusion: eighths of the error; ordered: the amplitude in levels; or 0 */
 } icysixel_dithering;
 
@@ -227,7 +226,7 @@ enum icysixel_background {
 };
 
 /* A tolerance by the palette: its mean squared error, or 7/5 of it without dithering. It is at
- * least 12, or 0 if there is no error. With ICYSIXEL_WEIGHTS_LUMA it is 7/3 of that. */
+ * least 12, or 0 if there is no error. */
 #define ICYSIXEL_AUTO UINT32_MAX
 
 /* Palettes of encoded images. Indexed pixels have the given palette in each mode. */
@@ -249,13 +248,6 @@ enum icysixel_dither {
     ICYSIXEL_DITHER_OFF = 0,       /* none: each pixel gets its nearest entry */
     ICYSIXEL_DITHER_DIFFUSION = 1, /* error diffusion (Floyd and Steinberg), serpentine */
     ICYSIXEL_DITHER_ORDERED = 2    /* a fixed pattern, stable from frame to frame */
-};
-
-/* Weights of the channels in the squared distance of a color and an entry, which are added to the
- * kind of dithering. A palette is chosen by equal weights. */
-enum icysixel_weights {
-    ICYSIXEL_WEIGHTS_EQUAL = 0, /* all channels count once */
-    ICYSIXEL_WEIGHTS_LUMA = 128 /* red counts twice, green four times, blue once: for few colors */
 };
 
 /* Forms of output. A decoder returns the same image from both. */
@@ -595,10 +587,10 @@ uint32_t icysixel_refine_palette(const uint8_t *pixels, size_t length, uint16_t 
 /* Writes the palette index of each pixel in a given palette of 1 to 256 colors. It needs no handle.
  *
  * The pixels are rows of `width` without gaps. Without dithering and tolerance an opaque pixel has
- * the index of its nearest entry by the weights, the first of these. In a palette of grays,
- * diffusion maps the brightness of the pixels. A transparent pixel has index 0, and its color has
- * no effect. The tolerance is that of icysixel_encoding. `indices` has a capacity of at least one
- * byte for each pixel, and the bytes after these are unchanged. The errors, in this order, are:
+ * the index of its nearest entry, the first of these. In a palette of grays, diffusion maps the
+ * brightness of the pixels. A transparent pixel has index 0, and its color has no effect. The
+ * tolerance is that of icysixel_encoding. `indices` has a capacity of at least one byte for each
+ * pixel, and the bytes after these are unchanged. The errors, in this order, are:
  *
  * - ICYSIXEL_BUFFER_TOO_SMALL;
  * - ICYSIXEL_BAD_DIMENSIONS if `width` is 0;

@@ -1,9 +1,9 @@
 -- How C says that an image is encoded, and what the call does that encodes one and stores its text.
 -- The numbers are this library's own, and include/icysixel.h names them.
-use Rattle.std.specs.Prelude.{◌≡◌, ◌≢◌, ◌*◌, ◌%◌, ◌<◌, ◌≤◌, ◌==◌, ◌||◌, not, if◌then◌else◌, ℕ}
+use Rattle.std.specs.Prelude.{◌≡◌, ◌≢◌, ◌*◌, ◌<◌, ◌≤◌, ◌==◌, ◌||◌, not, if◌then◌else◌, ℕ, nat_lt}
 use Rattle.std.specs.Prelude.{List, [], length, take, Bool, Option, Some, None, is_some, IsTrue}
 use Rattle.std.specs.Prelude.{◌⊎◌, Result, Err, IfOk, IfErr, IsErrAnd, MatchResult, String}
-use Rattle.std.specs.Prelude.{nat_lt, string_bytes}
+use Rattle.std.specs.Prelude.{string_bytes}
 use Rattle.std.specs.Option.{option_or}
 use Rattle.std.specs.declared.alloc.Global.{Global}
 use Rattle.sixel_base.specs.CallFault.{CallFault, color_count_fault}
@@ -26,8 +26,6 @@ use Rattle.sixel_encoder.specs.declared.form.TextForm.{TextForm}
 use Rattle.sixel_encoder.specs.declared.form.TextForm.TheVariants.{Plain, Compact}
 use Rattle.sixel_palette.specs.declared.mapping.Mapping.{Mapping}
 use Rattle.sixel_palette.specs.declared.mapping.Tolerance.TheVariants.{Auto, Squared}
-use Rattle.sixel_palette.specs.declared.mapping.Weights.{Weights}
-use Rattle.sixel_palette.specs.declared.mapping.Weights.TheVariants.{Equal, Luma}
 use Rattle.icysixel.specs.Code.{IsCallCode, IsCodeOf}
 use Rattle.icysixel.specs.Formats.{is_rgba, pixel_len, rgba_pixels}
 use Rattle.icysixel.specs.Rows.{has_gaps, rows_of, stride_of, wanted}
@@ -42,27 +40,21 @@ use Rattle.icysixel.specs.declared.state.State.{State}
 
 -- ---- numbers
 
--- A kind has 128 more for the weights of luma. Without these, 1 is error diffusion, 2 an ordered
--- pattern, and any other number no dithering. An amount of 0 is 7 eighths of the error, or the
--- amplitude of the palette.
+-- 1 is error diffusion, 2 an ordered pattern, and any other number no dithering. An amount of 0 is
+-- 7 eighths of the error, or the amplitude of the palette.
 abbrev pub dither_of : Dithering → Dither
 dither_of dithering =
-    if dithering.kind % 128 == 1
-    then Diffusion (if dithering.amount == 0 then 7 else dithering.amount)
-    else if dithering.kind % 128 == 2
+    if dithering.kind == 1 then Diffusion (if dithering.amount == 0 then 7 else dithering.amount)
+    else if dithering.kind == 2
     then Ordered (if dithering.amount == 0 then amplitude.Auto else amplitude.Levels
     dithering.amount)
     else Off
-
-abbrev pub weights_of : Dithering → Weights
-weights_of dithering = if nat_lt dithering.kind 128 then Equal else Luma
 
 -- the greatest tolerance stands for the automatic one
 abbrev pub mapping_of : Dithering → ℕ → Mapping
 mapping_of dithering tolerance = record {
   dither = dither_of dithering;
   tolerance = if tolerance == 0xffff_ffff then Auto else Squared tolerance;
-  weights = weights_of dithering;
 }
 
 -- 0 is the plain form, and any other number the compact one

@@ -3,22 +3,16 @@
 ghost use Rattle.std.specs.Prelude.{◌≡◌};
 ghost use Rattle.icysixel.specs.Encodings.{background_of, color_limit, dither_of, form_of};
 ghost use Rattle.icysixel.specs.Encodings.{format_of, given_colors, mapping_of, mode_of, ratio_of};
-ghost use Rattle.icysixel.specs.Encodings.{weights_of};
 
 use crate::format::Format;
-use icy_sixel::encoder::{Amplitude, Dither, Mapping, TextForm, Tolerance, Weights};
+use icy_sixel::encoder::{Amplitude, Dither, Mapping, TextForm, Tolerance};
 use icy_sixel::{BackgroundMode, PixelAspectRatio};
-
-/// What is added to the kind of dithering for the weights of luma.
-const LUMA: u8 = 128;
 
 /// How each pixel gets an entry of the palette.
 #[repr(C)]
 #[derive(Clone, Copy)]
 pub struct Dithering {
     /// 1 is error diffusion, 2 an ordered pattern, and any other number none.
-    ///
-    /// The weights are equal ones, or with 128 more those of luma.
     pub kind: u8,
     /// The eighths of the error that are diffused, or the amplitude of the pattern.
     ///
@@ -39,7 +33,6 @@ impl Dithering {
         Mapping {
             dither: self.dither(),
             tolerance,
-            weights: self.weights(),
         }
     }
 
@@ -47,7 +40,7 @@ impl Dithering {
     fn dither(&self) -> Dither
         ensures { result ≡ dither_of self.now }
     {
-        match (self.kind % LUMA, self.amount) {
+        match (self.kind, self.amount) {
             (1, 0) => Dither::Diffusion { strength: 7 },
             (1, strength) => Dither::Diffusion { strength },
             (2, 0) => Dither::Ordered {
@@ -57,17 +50,6 @@ impl Dithering {
                 amplitude: Amplitude::Levels(levels),
             },
             _ => Dither::Off,
-        }
-    }
-
-    /// The weights of the channels.
-    fn weights(&self) -> Weights
-        ensures { result ≡ weights_of self.now }
-    {
-        if self.kind < LUMA {
-            Weights::Equal
-        } else {
-            Weights::Luma
         }
     }
 }

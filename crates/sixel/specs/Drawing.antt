@@ -1,7 +1,7 @@
 -- What `draw` writes for the image of a file: its SIXEL output in a refined palette or in that of a
 -- palette file, in the compact form. The defaults are this program's own.
 use Rattle.std.specs.Prelude.{◌≡◌, ◌⊎◌, ◌/◌, ℕ, List, [], length, map, max, min, Option}
-use Rattle.std.specs.Prelude.{Err, MatchOption, None, Ok, Result, Some, if◌then◌else◌, nat_lt}
+use Rattle.std.specs.Prelude.{Err, MatchOption, None, Ok, Result, Some}
 use Rattle.std.specs.List.{range_with_len}
 use Rattle.std.specs.Option.{unwrap_or}
 use Rattle.sixel.specs.netpbm.Image.{image_of}
@@ -13,8 +13,6 @@ use Rattle.sixel_base.specs.Payload.{Image}
 use Rattle.sixel_palette.specs.Palette.{color_at}
 use Rattle.sixel_encoder.specs.IndexedDrawing.{IsPaletteText, palette_fault}
 use Rattle.sixel_palette.specs.declared.mapping.Mapping.{Mapping}
-use Rattle.sixel_palette.specs.declared.mapping.Weights.{Weights}
-use Rattle.sixel_palette.specs.declared.mapping.Weights.TheVariants.{Equal, Luma}
 use Rattle.sixel_encoder.specs.declared.form.TextForm.TheVariants.{Compact}
 use Rattle.sixel.specs.declared.draw_options.DrawPalette.{DrawPalette}
 use Rattle.sixel.specs.declared.draw_options.DrawPalette.TheVariants.{Standard, Refined, File}
@@ -47,17 +45,12 @@ color_limit max_colors image = unwrap_or max_colors (standard_limit image.pixels
 abbrev pub refined_fault : Option ℕ → Image → Option CallFault
 refined_fault max_colors image = palette_fault image (color_limit max_colors image)
 
--- the weights of the channels in a refined palette: those of luma for at most 16 colors
-abbrev pub weights_for : ℕ → Weights
-weights_for max_colors = if nat_lt 16 max_colors then Equal else Luma
-
--- the output in a refined palette of at most that number of colors, with their weights
+-- the output in a refined palette of at most that number of colors
 abbrev pub IsRefinedOutput : Option ℕ → Mapping → Result Image NetpbmError → List ℕ → Ending
     → Type 0
 IsRefinedOutput max_colors mapping =
     IsDrawn (refined_fault max_colors)
-    (λ image. IsSpreadText image (color_limit max_colors image)
-    (record mapping { weights = weights_for (color_limit max_colors image) }))
+    (λ image. IsSpreadText image (color_limit max_colors image) mapping)
 
 -- ---- the palette of a file
 

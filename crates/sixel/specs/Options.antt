@@ -11,7 +11,6 @@ use Rattle.sixel_palette.specs.declared.dither.Dither.{Dither}
 use Rattle.sixel_palette.specs.declared.dither.Dither.TheVariants as dithers
 use Rattle.sixel_palette.specs.declared.mapping.Mapping.{Mapping}
 use Rattle.sixel_palette.specs.declared.mapping.Tolerance.TheVariants.{Auto, Squared}
-use Rattle.sixel_palette.specs.declared.mapping.Weights.TheVariants.{Equal}
 use Rattle.sixel.specs.Number.{number_within}
 use Rattle.sixel.specs.declared.draw_options.DitherKind.{DitherKind}
 use Rattle.sixel.specs.declared.draw_options.DitherKind.TheVariants.{Off, Diffusion, Ordered}
@@ -51,12 +50,11 @@ dither_with palette strength Diffusion =
 dither_with palette None Ordered = dithers.Ordered amplitudes.Auto
 dither_with palette (Some levels) Ordered = dithers.Ordered (amplitudes.Levels levels)
 
--- how pixels get their entries, with equal weights
+-- how pixels get their entries
 abbrev pub mapping_of : DrawOptions → Mapping
 mapping_of options = record {
   dither = dither_with options.palette options.strength options.kind;
   tolerance = options.tolerance;
-  weights = Equal;
 }
 
 -- what is wrong with the arguments, and with which one

@@ -8,7 +8,7 @@ ghost use Rattle.sixel.specs.Words.{drawing_told, words_of};
 
 use crate::number::number_within;
 use crate::option_fault::OptionFault;
-use icy_sixel::encoder::{Amplitude, Dither, Mapping, Tolerance, Weights};
+use icy_sixel::encoder::{Amplitude, Dither, Mapping, Tolerance};
 
 /// How `draw` encodes an image.
 #[derive(Clone, Copy)]
@@ -98,14 +98,13 @@ impl DrawOptions {
         }
     }
 
-    /// How pixels get their palette entries, with equal weights.
+    /// How pixels get their palette entries.
     pub fn mapping(self) -> Mapping
         ensures { result ≡ mapping_of self }
     {
         Mapping {
             dither: self.dither(),
             tolerance: self.tolerance,
-            weights: Weights::Equal,
         }
     }
 

@@ -4,7 +4,7 @@ ghost use Rattle.std.specs.Prelude.{◌≡◌};
 ghost use Rattle.sixel.specs.Options.{mapping_of};
 ghost use Rattle.sixel.specs.WorkOutput.{Draws};
 ghost use Rattle.sixel.specs.Drawing.{IsDrawOutput, IsPaletteOutput, IsRefinedOutput};
-ghost use Rattle.sixel.specs.Drawing.{standard_limit, weights_for};
+ghost use Rattle.sixel.specs.Drawing.{standard_limit};
 ghost use Rattle.sixel.specs.netpbm.Image.{image_of};
 
 use crate::draw_options::{DrawOptions, DrawPalette};
@@ -13,7 +13,7 @@ use crate::palette_file::read_colors;
 use crate::picture_fault::PictureFault;
 use crate::spread::encode_spread;
 use icy_sixel::TextForm;
-use icy_sixel::encoder::{Mapping, Weights};
+use icy_sixel::encoder::Mapping;
 use std::alloc::Global;
 
 /// Returns the SIXEL output of the image of a file.
@@ -38,8 +38,7 @@ pub fn draw(
 
 /// Returns the output in a refined palette of at most `max_colors` colors.
 ///
-/// `None` means one color for 16 pixels, at least 16 and at most 256. The weights of the mapping
-/// have no effect.
+/// `None` means one color for 16 pixels, at least 16 and at most 256.
 fn draw_refined(
     alloc: Global,
     max_colors: Option<u16>,
@@ -50,10 +49,6 @@ fn draw_refined(
 {
     let image = read_image(alloc, file)?;
     let max_colors = max_colors.unwrap_or(standard_limit(&image.pixels));
-    let mapping = Mapping {
-        weights: weights_for(max_colors),
-        ..mapping
-    };
     let text = encode_spread(alloc, &image, max_colors, mapping)?;
     Ok(text)
 }
@@ -63,17 +58,6 @@ fn standard_limit(pixels: &[u8]) -> u16
     ensures { result ≡ standard_limit pixels.now }
 {
     (pixels.len() / 4 / 16).clamp(16, 256) as u16
-}
-
-/// The weights of the channels in a refined palette: those of luma for at most 16 colors.
-fn weights_for(max_colors: u16) -> Weights
-    ensures { result ≡ weights_for max_colors }
-{
-    if max_colors <= 16 {
-        Weights::Luma
-    } else {
-        Weights::Equal
-    }
 }
 
 /// Returns the output in the palette of a palette file.

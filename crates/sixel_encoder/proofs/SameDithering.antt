@@ -15,7 +15,7 @@ use Rattle.sixel_palette.specs.declared.mapping.Mapping.{Mapping}
 use Rattle.sixel_palette.specs.declared.mapping.Tolerance.{Tolerance}
 use Rattle.sixel_palette.specs.Dithering.{AreDithered, AreMapped, HasTarget, HaveTargets, IsIndex}
 use Rattle.sixel_palette.specs.Dithering.{Mapped, amplitude_of, entry_of, mapped_of, pattern_of}
-use Rattle.sixel_palette.specs.Dithering.{serpentine, stated_tolerance, target_of, tolerance_of}
+use Rattle.sixel_palette.specs.Dithering.{serpentine, target_of, tolerance_of}
 use Rattle.sixel_encoder.specs.Encoding.{shown_image}
 use Rattle.sixel_palette.specs.Gray.{source_pixels}
 use Rattle.sixel_encoder.specs.IndexedDrawing.{entries_of, indexed_drawing}
@@ -91,14 +91,9 @@ pub pixels-same : (p q : List ℕ) → AreAlike p q → (number : List ℕ → �
 pixels-same p q alike number = grind (arith, nat_tests, sum_to-same, number-dark, number-light)
 
 -- so are the tolerance and the amplitude
-stated-alike : (tolerance : Tolerance) (mapping : Mapping) (colors : List (List ℕ)) (p q : List ℕ)
-    → AreAlike p q
-    → stated_tolerance tolerance mapping colors p ≡ stated_tolerance tolerance mapping colors q
-stated-alike tolerance mapping colors p q alike = grind (arith, nat_tests, pixels-same)
-
-tolerance-alike : (mapping : Mapping) (colors : List (List ℕ)) (p q : List ℕ) → AreAlike p q
-    → tolerance_of mapping colors p ≡ tolerance_of mapping colors q
-tolerance-alike mapping colors p q alike = stated-alike mapping.tolerance mapping colors p q alike
+tolerance-alike : (dither : Dither) (tolerance : Tolerance) (colors : List (List ℕ)) (p q : List ℕ)
+    → AreAlike p q → tolerance_of dither tolerance colors p ≡ tolerance_of dither tolerance colors q
+tolerance-alike dither tolerance colors p q alike = grind (arith, nat_tests, pixels-same)
 
 amplitude-alike : (amplitude : Amplitude) (colors : List (List ℕ)) (p q : List ℕ) → AreAlike p q
     → amplitude_of amplitude colors p ≡ amplitude_of amplitude colors q

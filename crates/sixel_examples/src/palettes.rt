@@ -1,6 +1,6 @@
 //! Images in a palette of the caller, and in a refined palette.
 
-use icy_sixel::encoder::{Dither, Mapping, TextForm, Tolerance, Weights, palette_indices};
+use icy_sixel::encoder::{Dither, Mapping, TextForm, Tolerance, palette_indices};
 use icy_sixel::{Result, SixelImage};
 use std::alloc::Global;
 
@@ -9,7 +9,6 @@ pub fn encode_diffused(alloc: Global, image: &SixelImage, colors: &[[u8; 3]]) ->
     let mapping = Mapping {
         dither: Dither::Diffusion { strength: 8 },
         tolerance: Tolerance::Squared(0),
-        weights: Weights::Equal,
     };
     image.encode_with_palette(alloc, colors, mapping, TextForm::Compact)
 }
@@ -19,7 +18,6 @@ pub fn encode_by_indices(alloc: Global, image: &SixelImage, colors: &[[u8; 3]]) 
     let mapping = Mapping {
         dither: Dither::Off,
         tolerance: Tolerance::Squared(0),
-        weights: Weights::Equal,
     };
     let indices = palette_indices(alloc, &image.pixels, image.width, colors, mapping)?;
     image.encode_indexed(alloc, colors, &indices, TextForm::Plain)
@@ -30,7 +28,6 @@ pub fn encode_photograph(alloc: Global, image: &SixelImage) -> Result<String> {
     let mapping = Mapping {
         dither: Dither::Diffusion { strength: 7 },
         tolerance: Tolerance::Auto,
-        weights: Weights::Luma,
     };
     image.encode_refined(alloc, 16, mapping, TextForm::Compact)
 }

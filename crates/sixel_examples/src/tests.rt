@@ -8,7 +8,7 @@ use crate::rows::{draw_rest, draw_rows};
 use crate::streaming::{decode_chunks, decode_payload_chunks};
 use crate::terminal::{Images, Read};
 use crate::viewer::open;
-use icy_sixel::encoder::{Dither, Mapping, Tolerance, Weights, palette_indices};
+use icy_sixel::encoder::{Dither, Mapping, Tolerance, palette_indices};
 use icy_sixel::receiver::SixelReceiver;
 use icy_sixel::script::Outcome;
 use icy_sixel::{Result, SixelDecoder, SixelError, SixelImage};
@@ -231,7 +231,6 @@ fn are_kept(alloc: Global, grays: (&[u8], usize), tolerance: Tolerance, expected
     let mapping = Mapping {
         dither: Dither::Off,
         tolerance,
-        weights: Weights::Equal,
     };
     match palette_indices(alloc, &pixels, grays.1, DARK_GRAYS, mapping) {
         Ok(indices) => indices.as_slice() == expected,
@@ -254,34 +253,6 @@ fn tolerances(rt: HostRuntime) {
     let rows: (&[u8], usize) = (&[255, 255, 5, 0], 2);
     let is_serpentine = are_kept(rt.alloc(), rows, most, &[0, 0, 0, 0]);
     assert!(rt; is_nearest & is_kept & is_automatic & is_band & is_serpentine);
-}
-
-/// A palette of a dark green and a dark blue.
-const DARK_HUES: &[[u8; 3]] = &[[0, 51, 0], [0, 0, 89]];
-
-/// Whether black has this index after the dark green.
-fn is_after_green(alloc: Global, weights: Weights, squared: u32, expected: u8) -> bool {
-    let mapping = Mapping {
-        dither: Dither::Off,
-        tolerance: Tolerance::Squared(squared),
-        weights,
-    };
-    let pixels = [0, 51, 0, 255, 0, 0, 0, 255];
-    match palette_indices(alloc, &pixels, 2, DARK_HUES, mapping) {
-        Ok(indices) => indices.as_slice() == [0, expected].as_slice(),
-        Err(_) => false,
-    }
-}
-
-#[test]
-fn weights(rt: HostRuntime) {
-    // The squared distances of black are 2601 and 7921, but by luma 4 * 2601 = 10404 and 7921.
-    let is_green = is_after_green(rt.alloc(), Weights::Equal, 0, 0);
-    let is_blue = is_after_green(rt.alloc(), Weights::Luma, 0, 1);
-    // The entry of the green is kept if the tolerance is above 10404 - 7921 = 2483.
-    let is_nearest = is_after_green(rt.alloc(), Weights::Luma, 2483, 1);
-    let is_kept = is_after_green(rt.alloc(), Weights::Luma, 2484, 0);
-    assert!(rt; is_green & is_blue & is_nearest & is_kept);
 }
 
 /// Draws a DCS sequence of two bands in chunks, and returns whether each row is drawn in time.

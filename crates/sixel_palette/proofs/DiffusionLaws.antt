@@ -12,12 +12,9 @@ use Rattle.sixel_palette.specs.Dithering.{error_behind, error_beyond, errors_of,
 use Rattle.sixel_palette.specs.Dithering.{opaque_error, passed_on, received, serpentine, sixteenths}
 use Rattle.sixel_palette.specs.Dithering.{target_of_visit, visit_error}
 use Rattle.sixel_palette.proofs.DitheredIndices.{AreIndices-mapped, AreMapped-exact, AreRows}
-use Rattle.sixel_palette.proofs.DitheredIndices.{IsWeightless, visit-inside}
-use Rattle.sixel_palette.specs.Weights.{IsWeightedNearest}
-use Rattle.sixel_palette.proofs.Weights.{own-nearest, weighted_nearest-le}
-use Rattle.sixel_palette.specs.declared.mapping.Weights.{Weights}
-use Rattle.sixel_palette.specs.declared.mapping.Weights.TheVariants.{Equal}
+use Rattle.sixel_palette.proofs.DitheredIndices.{visit-inside}
 use Rattle.std.proofs.lemmas.Bool.Decides.{nat_tests}
+use Rattle.sixel_palette.proofs.PaletteNearest.{nearest-le}
 use Rattle.std.proofs.lemmas.Grind.{common_steps}
 
 -- ---- bounds
@@ -129,28 +126,13 @@ AreHeld m =
     (pixel : ℕ) → pixel < length m.pixels / 4 → IsOpaque m.pixels pixel
     → Contains m.colors (color_at m.pixels pixel)
 
--- so weights do not matter
-IsWeightless-held : (v w : Weights) (m : Mapped) → AreHeld m → IsWeightless v w m
-IsWeightless-held v w m held = λ pixel i l light is.
-    let (k, inside, same) = held pixel l light in
-    own-nearest v w m.colors _ i k inside (own k pixel inside same) is
-  where
-    own : (k pixel : ℕ) → k < length m.colors
-        → slice_index_or m.colors k (color_at m.pixels pixel) ≡ color_at m.pixels pixel
-        → distance (slice_index_or m.colors k []) (color_at m.pixels pixel) ≡ 0
-    own k pixel inside same =
-        ap (λ p. distance p (color_at m.pixels pixel))
-        (get_or_default m.colors k [] (color_at m.pixels pixel) inside ∙ same)
-        ∙ distance_self (color_at m.pixels pixel)
-
 -- without a tolerance its pixels have the indices of their nearest entries
 pub AreIndices-exact : (m : Mapped) (indices : List ℕ) → AreRows m → AreColors m → AreHeld m
     → m.tolerance ≡ 0
     → AreMapped m (λ n. target_of_visit m (errors_of m indices n) n) indices
     → AreIndices m.pixels m.colors indices
 AreIndices-exact m indices rows exact held none are =
-    AreIndices-mapped m (λ n. target_of_visit m (errors_of m indices n) n) indices rows
-    (IsWeightless-held m.weights Equal m held) none are
+    AreIndices-mapped m (λ n. target_of_visit m (errors_of m indices n) n) indices rows none are
     (λ n l light.
     target-none m (errors_of m indices n) n
     (errors-own m indices n exact
@@ -159,10 +141,9 @@ AreIndices-exact m indices rows exact held none are =
     let inside : k < length m.pixels / 4 = omega arith in
     nearest-own m.colors (color_at m.pixels at) (slice_index indices at) exact.three refl
     (held at (visit-inside m k rows.rows inside) lit)
-    (IsWeightless-held m.weights Equal m held at _ (visit-inside m k rows.rows inside) lit
-    (subst (λ (c : List ℕ). IsWeightedNearest m.weights m.colors c (slice_index indices at))
+    (subst (λ (c : List ℕ). IsNearest m.colors c (slice_index indices at))
     (target-none m (errors_of m indices k) k before exact.bytes)
-    (grind (arith, nat_tests, weighted_nearest-le))))))
+    (grind (arith, nat_tests, nearest-le)))))
     exact.bytes)
 
 -- and the other way round
@@ -170,8 +151,7 @@ pub AreMapped-diffused : (m : Mapped) (indices : List ℕ) → AreRows m → Are
     → m.tolerance ≡ 0 → AreIndices m.pixels m.colors indices
     → AreMapped m (λ n. target_of_visit m (errors_of m indices n) n) indices
 AreMapped-diffused m indices rows exact held none are =
-    AreMapped-exact m (λ n. target_of_visit m (errors_of m indices n) n) indices rows
-    (IsWeightless-held Equal m.weights m held) none are
+    AreMapped-exact m (λ n. target_of_visit m (errors_of m indices n) n) indices rows none are
     (λ n l light.
     target-none m (errors_of m indices n) n
     (grind (arith, nat_tests, errors-own, visit-inside, nearest-own))

@@ -1,5 +1,5 @@
 -- Palette indices that are stored one after the other, and those of whole rows.
-use Rattle.std.proofs.Common.{◌≡◌, ℕ, ◌+◌, ◌*◌, ◌<◌, ◌≤◌, List, length, set, subst, sym, arith, inl}
+use Rattle.std.proofs.Common.{◌≡◌, ℕ, ◌+◌, ◌*◌, ◌<◌, ◌≤◌, List, length, set, sym, arith, inl}
 use Rattle.std.proofs.Common.{inr}
 use Rattle.std.specs.Prelude.{◌/◌, ◌%◌, slice_index}
 use Rattle.std.proofs.lemmas.Bool.{cases_lt}
@@ -7,17 +7,14 @@ use Rattle.std.proofs.lemmas.Bool.Decides.{nat_tests}
 use Rattle.std.proofs.lemmas.List.{get_or_past, get_or-set_other, get_or-set_same}
 use Rattle.std.proofs.lemmas.Nat.{div-add-mod'}
 use Rattle.sixel_palette.specs.Palette.{AreIndices, IsOpaque, color_at}
-use Rattle.sixel_palette.specs.Weights.{IsWeightedNearest}
-use Rattle.sixel_palette.specs.declared.mapping.Weights.{Weights}
-use Rattle.sixel_palette.specs.declared.mapping.Weights.TheVariants.{Equal}
 use Rattle.sixel_palette.specs.Dithering.{AreMapped, HasTarget, IsIndex, Mapped, neighbor_of}
-use Rattle.sixel_palette.specs.Dithering.{moved_channel, ordered_color, serpentine, whole_rows}
+use Rattle.sixel_palette.specs.Dithering.{serpentine, whole_rows}
 use Rattle.sixel_palette.specs.declared.dithering.mapped.MappedImage.{MappedImage}
 use Rattle.sixel_palette.specs.inside.Mapped.{AreEntries, IsIndexAt, IsLater, IsMappable}
 use Rattle.sixel_palette.specs.inside.Mapped.{mapped_value}
 use Rattle.sixel_palette.proofs.KeptEntries.{AreSame, IsIndex-exact, neighbor-inside, neighbor-same}
 use Rattle.sixel_palette.proofs.Serpentine.{serpentine-apart, serpentine-serpentine}
-use Rattle.sixel_palette.proofs.Weights.{weighted_nearest-le}
+use Rattle.sixel_palette.proofs.PaletteNearest.{nearest-le}
 
 -- ---- one more index
 
@@ -102,22 +99,10 @@ pub AreEntries-indices : (m : Mapped) (indices : List ℕ) → AreRows m
     → AreIndices m.pixels m.colors indices → AreEntries m.colors indices
 AreEntries-indices m indices rows are = grind (arith, nat_tests, get_or_past)
 
--- the entry nearest to the color of an opaque pixel by the first weights is that by the second
-abbrev pub IsWeightless : Weights → Weights → Mapped → Type 0
-IsWeightless v w m =
-    (pixel i : ℕ) → pixel < length m.pixels / 4 → IsOpaque m.pixels pixel
-    → IsWeightedNearest v m.colors (color_at m.pixels pixel) i
-    → IsWeightedNearest w m.colors (color_at m.pixels pixel) i
-
 -- before the visits each has that of its nearest entry
-pub IsLater-indices : (m : Mapped) (indices : List ℕ) (n : ℕ) → AreRows m → m.weights ≡ Equal
+pub IsLater-indices : (m : Mapped) (indices : List ℕ) (n : ℕ) → AreRows m
     → AreIndices m.pixels m.colors indices → n < length m.pixels / 4 → IsLater m indices n
-IsLater-indices m indices n rows equal are l =
-    let inside = visit-inside m n rows.rows l in
-    record {
-      opaque = λ light. rw equal (are.opaque _ inside light);
-      hidden = λ dark. are.hidden _ inside dark;
-    }
+IsLater-indices m indices n rows are l = grind (arith, nat_tests, visit-inside)
 
 -- and keeps it until its visit
 pub IsLater-set : (m : Mapped) (indices : List ℕ) (n index k : ℕ) → 0 < m.width → n < k
@@ -126,11 +111,11 @@ IsLater-set m indices n index k some later is = grind (arith, get_or-set_other, 
 
 -- without a tolerance the nearest entries of the colors have the colors as targets
 pub AreMapped-exact : (m : Mapped) (target : ℕ → List ℕ) (indices : List ℕ) → AreRows m
-    → IsWeightless Equal m.weights m → m.tolerance ≡ 0 → AreIndices m.pixels m.colors indices
+    → m.tolerance ≡ 0 → AreIndices m.pixels m.colors indices
     → ((n : ℕ) → n < length m.pixels / 4 → IsOpaque m.pixels (serpentine m.width n)
     → target n ≡ color_at m.pixels (serpentine m.width n))
     → AreMapped m target indices
-AreMapped-exact m target indices rows weightless none are same = record {
+AreMapped-exact m target indices rows none are same = record {
   one_each = are.one_each;
   each = λ n l.
       let pixel = serpentine m.width n in
@@ -140,49 +125,28 @@ AreMapped-exact m target indices rows weightless none are same = record {
             IsIndex-exact m (target n) (neighbor_of m (target n) indices n)
             (slice_index indices pixel) none
             (neighbor-inside m (target n) indices n (AreEntries-indices m indices rows are))
-            (rw (same n l light)
-            (weightless pixel _ inside light (are.opaque pixel inside light)));
+            (rw (same n l light) (are.opaque pixel inside light));
         hidden = λ dark. are.hidden pixel inside dark;
       };
 }
 
 -- and the other way round
 pub AreIndices-mapped : (m : Mapped) (target : ℕ → List ℕ) (indices : List ℕ) → AreRows m
-    → IsWeightless m.weights Equal m → m.tolerance ≡ 0 → AreMapped m target indices
+    → m.tolerance ≡ 0 → AreMapped m target indices
     → ((n : ℕ) → n < length m.pixels / 4 → IsOpaque m.pixels (serpentine m.width n)
     → target n ≡ color_at m.pixels (serpentine m.width n))
     → AreIndices m.pixels m.colors indices
-AreIndices-mapped m target indices rows weightless none are same = record {
+AreIndices-mapped m target indices rows none are same = record {
   one_each = are.one_each;
   opaque = λ pixel l light.
       let back = serpentine-serpentine m.width pixel rows.rows.some in
       let has = HasTarget-pixel m target indices pixel rows.rows are l in
       let own = same (serpentine m.width pixel) (visit-inside m pixel rows.rows l) in
-      weightless pixel _ l light (grind (arith, nat_tests, weighted_nearest-le));
+      grind (arith, nat_tests, nearest-le);
   hidden = λ pixel l dark.
       let back = serpentine-serpentine m.width pixel rows.rows.some in
       let has = HasTarget-pixel m target indices pixel rows.rows are l in
       grind (arith, nat_tests);
-}
-
--- a pattern without an amplitude moves no color
-moved-none : (threshold value : ℕ) → value < 256 → moved_channel 0 threshold value ≡ value
-moved-none threshold value small = omega (arith, small)
-
-ordered-color : (m : Mapped) (pixel : ℕ) → m.amplitude ≡ 0
-    → ((j : ℕ) → slice_index m.pixels j < 256) → ordered_color m pixel ≡ color_at m.pixels pixel
-ordered-color m pixel none bytes = grind (arith, nat_tests, moved-none)
-
--- so its targets are the colors
-pub AreMapped-still : (m : Mapped) (indices : List ℕ) → m.amplitude ≡ 0
-    → ((j : ℕ) → slice_index m.pixels j < 256)
-    → AreMapped m (λ n. ordered_color m (serpentine m.width n)) indices
-    → AreMapped m (λ n. color_at m.pixels (serpentine m.width n)) indices
-AreMapped-still m indices none bytes are = record {
-  one_each = are.one_each;
-  each = λ n l.
-      subst (λ (c : List ℕ). HasTarget m c indices n)
-      (ordered-color m (serpentine m.width n) none bytes) (are.each n l);
 }
 
 -- without an entry no pixel is opaque, so there is nothing to map

@@ -5,9 +5,6 @@ use Rattle.std.specs.Prelude.{◌/◌, ◌%◌, ◌&&◌, Contains, slice_index,
 use Rattle.std.proofs.lemmas.Bool.{and_parts, cases_lt}
 use Rattle.std.proofs.lemmas.List.{get_or_default, get_or_past}
 use Rattle.sixel_palette.specs.Palette.{AreIndices, IsOpaque, color_at, distance, square_gap}
-use Rattle.sixel_palette.specs.Weights.{total_weight, weighted}
-use Rattle.sixel_palette.specs.declared.mapping.Weights.{Weights}
-use Rattle.sixel_palette.specs.declared.mapping.Weights.TheVariants.{Equal, Luma}
 use Rattle.sixel_palette.specs.declared.dither.Dither.{Dither}
 use Rattle.sixel_palette.specs.declared.mapping.Mapping.{Mapping}
 use Rattle.sixel_palette.specs.Dithering.{AreDithered, entry_of, mapped_of, target_of, Mapped}
@@ -234,13 +231,12 @@ errors-gray m indices n grays =
 
 -- ---- bounds
 
--- the weighted squared distance of two grays
-pub weighted-gray : (w : Weights) (a b : List ℕ) → is_gray a ≡ true → is_gray b ≡ true
-    → weighted w a b
-    ≡ total_weight w * (abs_diff (slice_index a 0) (slice_index b 0)
+-- the squared distance of two grays
+pub distance-gray : (a b : List ℕ) → is_gray a ≡ true → is_gray b ≡ true
+    → distance a b
+    ≡ 3 * (abs_diff (slice_index a 0) (slice_index b 0)
     * abs_diff (slice_index a 0) (slice_index b 0))
 unfolding distance square_gap
-weighted-gray Equal a b first second = grind (arith, nat_tests)
-weighted-gray Luma a b first second = grind (arith, nat_tests)
+distance-gray a b first second = grind (arith, nat_tests)
 
 -- ---- the source

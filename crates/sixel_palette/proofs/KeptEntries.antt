@@ -1,20 +1,22 @@
 -- Entries of neighbors: the nearer one of two, and the index of a pixel that may keep it.
 use Rattle.std.proofs.Common.{◌≡◌, ℕ, ◌+◌, ◌-◌, ◌*◌, ◌<◌, ◌≤◌, List, false, cond, length, ap, subst}
-use Rattle.std.proofs.Common.{◌∙◌, arith, get_or, nat_le}
+use Rattle.std.proofs.Common.{◌∙◌, arith, nat_le}
 use Rattle.std.specs.Prelude.{◌/◌, ◌%◌, ◌==◌, Option, Some, None, slice_index}
 use Rattle.std.proofs.lemmas.Bool.{cases_eq, cases_lt}
 use Rattle.std.proofs.lemmas.Bool.Decides.{nat_tests}
 use Rattle.std.proofs.lemmas.Nat.{div-add-mod', div-mul-add, mod-mul-add, mod_below, mul-le}
-use Rattle.sixel_palette.specs.Weights.{IsWeightedNearest}
-use Rattle.sixel_palette.proofs.Weights.{weighted_nearest-le}
+use Rattle.sixel_palette.specs.Palette.{IsNearest, nearest, no_entry}
+use Rattle.sixel_palette.proofs.PaletteNearest.{nearest-le, nearest-reached}
 use Rattle.sixel_palette.specs.declared.dithering.mapped.Kept.{Kept}
 use Rattle.sixel_palette.specs.Dithering.{IsIndex, Mapped, column_of_step, entry_above}
-use Rattle.sixel_palette.specs.Dithering.{entry_before, entry_of, neighbor_of}
+use Rattle.sixel_palette.specs.Dithering.{entry_before, entry_distance, entry_of, neighbor_of}
 use Rattle.sixel_palette.specs.Dithering.{serpentine}
 use Rattle.sixel_palette.specs.inside.Mapped.{AreEntries, IsInside, IsKept, kept_value}
 use Rattle.sixel_palette.specs.inside.Mapped.{no_distance}
 use Rattle.sixel_palette.proofs.Serpentine.{column-lt, serpentine-lt, serpentine-serpentine}
 use Rattle.sixel_palette.proofs.Serpentine.{serpentine-step}
+use Rattle.std.proofs.lemmas.Grind.{common_steps}
+use Rattle.std.proofs.Common.{get_or}
 
 pub entry_of-opaque : (pixels indices : List ℕ) (pixel : ℕ) → 128 ≤ get_or pixels (4 * pixel + 3) 0
     → entry_of pixels indices pixel ≡ Some (get_or indices pixel 0)
@@ -27,8 +29,8 @@ entry_of-transparent pixels indices pixel h = grind (arith, nat_tests)
 -- ---- of two entries the nearer one
 
 -- an entry with its distance may be kept
-pub IsKept-value : (m : Mapped) (c : List ℕ) (neighbor : Option ℕ) → IsInside m c neighbor
-    → IsKept m c neighbor (kept_value m c neighbor)
+pub IsKept-value : (m : Mapped) (c : List ℕ) (neighbor : Option ℕ) → IsInside m.colors c neighbor
+    → IsKept m c neighbor (kept_value m.colors c neighbor)
 IsKept-value m c x2 inside = grind (arith, nat_tests)
 
 -- so the nearer one may be kept
@@ -52,12 +54,17 @@ neighbor-inside m c indices n are = grind (arith, nat_tests)
 
 -- ---- the index
 
--- where no entry may be farther, it is that of the nearest one
+-- the nearest entry is at the distance of the nearest one
+pub nearest-distance : (colors : List (List ℕ)) (c : List ℕ) (i : ℕ) → IsNearest colors c i
+    → entry_distance colors c i < no_entry → entry_distance colors c i ≡ nearest colors c
+nearest-distance colors c i is small = grind (arith, common_steps, nearest-le, nearest-reached)
+
+-- and where no entry may be farther
 pub IsIndex-exact : (m : Mapped) (c : List ℕ) (neighbor : Option ℕ) (index : ℕ)
     → m.tolerance ≡ 0
     → ((entry : ℕ) → neighbor ≡ Some entry → entry < length m.colors)
-    → IsWeightedNearest m.weights m.colors c index → IsIndex m c neighbor index
-IsIndex-exact m c neighbor index none inside near = grind (arith, nat_tests, weighted_nearest-le)
+    → IsNearest m.colors c index → IsIndex m c neighbor index
+IsIndex-exact m c neighbor index none inside near = grind (arith, nat_tests, nearest-le)
 
 -- the index is the only one
 pub IsIndex-same : (m : Mapped) (c : List ℕ) (neighbor : Option ℕ) (i j : ℕ)

@@ -45,4 +45,3 @@ pub mod PaletteError
 pub mod Serpentine
 pub mod SameVisits
 pub mod SixteenEntries
-pub mod Weights

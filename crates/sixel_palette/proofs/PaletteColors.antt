@@ -5,7 +5,7 @@ use Rattle.std.specs.List.{All, Contains}
 use Rattle.std.proofs.lemmas.Bool.{cases_lt}
 use Rattle.std.proofs.lemmas.Grind.{same_number_lists}
 use Rattle.std.specs.Int.{abs_diff}
-use Rattle.sixel_palette.specs.Palette.{distance, square_gap, nearest, nearest_by, rank, no_entry}
+use Rattle.sixel_palette.specs.Palette.{distance, square_gap, nearest, rank, no_entry}
 use Rattle.sixel_palette.specs.inside.PaletteCodes.{color_of, code_count}
 use Rattle.sixel_palette.proofs.PaletteDistance.{same_from_distance, below_three, square-le}
 use Rattle.std.proofs.lemmas.Bool.Decides.{nat_tests}
@@ -44,7 +44,7 @@ color_of-rank c h =
 pub ruleset ranks = (nat_tests, color_of-rank)
 
 -- in one channel bytes are at most 255 apart
-pub square_gap-le : (a b : List ℕ) (k : ℕ) → get_or a k 0 < 256 → get_or b k 0 < 256
+square_gap-le : (a b : List ℕ) (k : ℕ) → get_or a k 0 < 256 → get_or b k 0 < 256
     → square_gap a b k ≤ 65025
 unfolding square_gap
 square_gap-le a b k p q =
@@ -58,7 +58,7 @@ distance-lt a b p q = grind (arith, nat_tests, square_gap-le)
 -- a color at no distance from its nearest entry is an entry
 pub Contains-nearest : (ps : List (List ℕ)) (c : List ℕ) → All (λ p. length p ≡ 3) ps → length c ≡ 3
     → nearest ps c ≡ 0 → Contains ps c
-unfolding nearest_by
+unfolding nearest
 Contains-nearest [] c a t h = absurd (omega arith)
 Contains-nearest (p ∷ ps) c a t h =
     let rest = Contains-nearest ps c (λ k d m. a (suc k) d (omega arith)) t in

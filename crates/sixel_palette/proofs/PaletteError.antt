@@ -7,18 +7,15 @@ use Rattle.std.proofs.lemmas.Bool.Decides.{nat_tests}
 use Rattle.std.proofs.lemmas.List.{get_or_default}
 use Rattle.sixel_palette.specs.Palette.{IsOpaque, color_at, nearest, no_entry}
 use Rattle.sixel_palette.specs.Refined.{opaque_number, opaque_pixels, sum_to, summed_error}
-use Rattle.sixel_palette.proofs.PaletteColors.{Contains-nearest, IsColor}
+use Rattle.sixel_palette.proofs.PaletteColors.{Contains-nearest, IsColor, distance-lt}
 use Rattle.sixel_palette.proofs.PaletteDistance.{distance_self}
-use Rattle.sixel_palette.proofs.PaletteNearest.{nearest-cap, nearest-le}
-use Rattle.sixel_palette.proofs.Weights.{weighted-lt, weighted_nearest-le}
-use Rattle.sixel_palette.proofs.Weights.{weighted_nearest-reached}
-use Rattle.sixel_palette.specs.Weights.{no_weighted}
+use Rattle.sixel_palette.proofs.PaletteNearest.{nearest-cap, nearest-le, nearest-reached}
 use Rattle.sixel_palette.proofs.PaletteShown.{IsColor-color_at}
+use Rattle.sixel_palette.specs.declared.dither.Dither.{Dither}
 use Rattle.sixel_palette.specs.declared.mapping.Mapping.{Mapping}
 use Rattle.sixel_palette.specs.declared.mapping.Tolerance.TheVariants.{Auto}
 use Rattle.sixel_palette.specs.Dithering.{AreMapped, IsIndex, Mapped, entry_distance, index_error}
-use Rattle.sixel_palette.specs.Dithering.{least_distance, pixel_index_error, root, serpentine}
-use Rattle.sixel_palette.specs.Dithering.{stated_tolerance, tolerance_of}
+use Rattle.sixel_palette.specs.Dithering.{pixel_index_error, root, serpentine, tolerance_of}
 use Rattle.sixel_palette.proofs.DitheredIndices.{AreRowsOf, HasTarget-pixel}
 use Rattle.sixel_palette.proofs.Serpentine.{serpentine-serpentine}
 
@@ -81,14 +78,14 @@ module _ (colors : List (List ℕ)) (pixels : List ℕ) where
 
   -- as one has whose automatic tolerance is 0
   pub error-none : (m : Mapping) → m.tolerance ≡ Auto
-      → tolerance_of m colors pixels ≡ 0 → summed_error colors pixels ≡ 0
+      → tolerance_of m.dither m.tolerance colors pixels ≡ 0 → summed_error colors pixels ≡ 0
   error-none m auto none = grind (arith, nat_tests, cases_eq (summed_error colors pixels) 0)
 
 -- and the other way round: without an error no opaque pixel's color is no entry
-pub tolerance-held : (mapping : Mapping) (colors : List (List ℕ)) (pixels : List ℕ)
+pub tolerance-held : (dither : Dither) (colors : List (List ℕ)) (pixels : List ℕ)
     → ((pixel : ℕ) → pixel < length pixels / 4 → IsOpaque pixels pixel
-    → Contains colors (color_at pixels pixel)) → stated_tolerance Auto mapping colors pixels ≡ 0
-tolerance-held mapping colors pixels held =
+    → Contains colors (color_at pixels pixel)) → tolerance_of dither Auto colors pixels ≡ 0
+tolerance-held dither colors pixels held =
     let le =
     sum_to-le (opaque_number (nearest colors) pixels) (opaque_number (λ _. 1) pixels) 0
     (length pixels / 4) (λ pixel l.
@@ -116,34 +113,34 @@ sum_to-more_le f g h k (suc n) le =
 -- no entry is nearer than that of an index by more than the tolerance
 pub any-near : (m : Mapped) (c : List ℕ) (neighbor : Option ℕ) (index i : ℕ)
     → IsIndex m c neighbor index → i < length m.colors
-    → entry_distance m c index ≤ entry_distance m c i + m.tolerance
-any-near m c neighbor index i is l = grind (arith, nat_tests, weighted_nearest-le)
+    → entry_distance m.colors c index ≤ entry_distance m.colors c i + m.tolerance
+any-near m c neighbor index i is l = grind (arith, nat_tests, nearest-le)
 
 index-near : (m : Mapped) (c : List ℕ) (neighbor : Option ℕ) (index : ℕ)
-    → ((i : ℕ) → i < length m.colors → entry_distance m c i < no_weighted m.weights)
+    → ((i : ℕ) → i < length m.colors → entry_distance m.colors c i < no_entry)
     → IsIndex m c neighbor index
-    → entry_distance m c index ≤ least_distance m c + m.tolerance
+    → entry_distance m.colors c index ≤ nearest m.colors c + m.tolerance
 index-near m c neighbor index small is =
-    let most = weighted_nearest-le m.weights m.colors c index [] in
-    grind (arith, nat_tests, weighted_nearest-reached m.weights m.colors c [], any-near)
+    let most = nearest-le m.colors c index [] in
+    grind (arith, nat_tests, nearest-reached m.colors c [], any-near)
 
 -- so without dithering the summed error is greater by the tolerance for each opaque pixel at most
 pub error-bound : (m : Mapped) (indices : List ℕ) → AreRowsOf m.pixels m.width
     → ((k : ℕ) → slice_index m.pixels k < 256) → All IsColor m.colors
     → AreMapped m (λ n. color_at m.pixels (serpentine m.width n)) indices
-    → index_error m.weights m.colors m.pixels indices
-    ≤ opaque_pixels m.pixels (least_distance m) + m.tolerance * opaque_pixels m.pixels (λ _. 1)
+    → index_error m.colors m.pixels indices
+    ≤ summed_error m.colors m.pixels + m.tolerance * opaque_pixels m.pixels (λ _. 1)
 error-bound m indices rows bytes all are =
-    sum_to-more_le (pixel_index_error m.weights m.colors m.pixels indices)
-    (opaque_number (least_distance m) m.pixels) (opaque_number (λ _. 1) m.pixels) m.tolerance
+    sum_to-more_le (pixel_index_error m.colors m.pixels indices)
+    (opaque_number (nearest m.colors) m.pixels) (opaque_number (λ _. 1) m.pixels) m.tolerance
     (length m.pixels / 4)
     (λ pixel l.
     elim (cases_lt (slice_index m.pixels (4 * pixel + 3)) 128) [
       | inl dark ↦ grind (arith, nat_tests)
       | inr light ↦
           let c = color_at m.pixels pixel in
-          let own : pixel_index_error m.weights m.colors m.pixels indices pixel
-          ≡ entry_distance m c (slice_index indices pixel) = grind (arith, nat_tests) in
+          let own : pixel_index_error m.colors m.pixels indices pixel
+          ≡ entry_distance m.colors c (slice_index indices pixel) = grind (arith, nat_tests) in
           let back = serpentine-serpentine m.width pixel rows.some in
           let n = serpentine m.width pixel in
           let has =
@@ -151,12 +148,11 @@ error-bound m indices rows bytes all are =
           l).opaque (subst (IsOpaque m.pixels) (sym back) light) in
           let near =
           subst (λ (p : ℕ).
-          entry_distance m (color_at m.pixels p) (slice_index indices p)
-          ≤ least_distance m (color_at m.pixels p) + m.tolerance) back (index-near _ _ _ _
-          (λ i li. weighted-lt m.weights _ _ (all i [] li).bytes
-          (IsColor-color_at _ (serpentine m.width n) bytes).bytes)
+          entry_distance m.colors (color_at m.pixels p) (slice_index indices p)
+          ≤ nearest m.colors (color_at m.pixels p) + m.tolerance) back (index-near _ _ _ _
+          (λ i li. distance-lt _ _ (all i [] li) (IsColor-color_at _ (serpentine m.width n) bytes))
           has) in
-          let lit = number-light (least_distance m) m.pixels pixel light in
+          let lit = number-light (nearest m.colors) m.pixels pixel light in
           let one = ap (λ h. m.tolerance * h) (number-light (λ _. 1) m.pixels pixel light) in
           omega (arith, own, near, lit, one)
     ])

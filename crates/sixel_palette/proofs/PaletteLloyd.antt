@@ -12,7 +12,7 @@ use Rattle.std.proofs.lemmas.List.Sums.{sum_by_more_le}
 use Rattle.sixel_palette.specs.declared.palette.bins.Bin.{Bin}
 use Rattle.sixel_palette.specs.declared.palette.color_sums.ColorSums.{ColorSums}
 use Rattle.sixel_palette.specs.declared.palette.nearest_entry.NearestEntry.{NearestEntry}
-use Rattle.sixel_palette.specs.Palette.{distance, nearest, nearest_by, no_entry}
+use Rattle.sixel_palette.specs.Palette.{distance, nearest, no_entry}
 use Rattle.sixel_palette.specs.ColorSums.{Pixels, mean_or, sums_of}
 use Rattle.sixel_palette.specs.GainCut.{corner}
 use Rattle.sixel_palette.specs.Lloyd.{has_entry, improved_entries, mean_bytes}
@@ -30,7 +30,7 @@ index_is : (entries : List (List ℕ)) (c : List ℕ) (i : ℕ) → i < length e
     → distance (get_or entries i []) c ≡ nearest entries c
     → ((j : ℕ) → j < i → nearest entries c < distance (get_or entries j []) c)
     → i ≡ nearest_index entries c
-unfolding nearest_by nearest_index
+unfolding nearest nearest_index
 index_is [] c i l least first = absurd (omega arith)
 index_is (p ∷ ps) c zero l least first = grind (arith, nat_tests)
 index_is (p ∷ ps) c (suc i) l least first =

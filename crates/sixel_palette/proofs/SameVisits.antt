@@ -39,7 +39,6 @@ with_pixels m q = record {
   strength = m.strength;
   amplitude = m.amplitude;
   tolerance = m.tolerance;
-  weights = m.weights;
 }
 
 -- the opaque pixels of the first n visits have the same indices
@@ -62,8 +61,8 @@ pub neighbor-alike : (m : Mapped) (q c a b : List ℕ) (n : ℕ) → AreAlike m.
     → AreRowsOf m.pixels m.width → n < length m.pixels / 4 → AreSameOpaque m a b n
     → neighbor_of m c a n ≡ neighbor_of (with_pixels m q) c b n
 neighbor-alike m q c a b n alike rows l same =
-    ap (λ first. nearer_entry m c first (entry_above m a n)) before
-    ∙ ap (nearer_entry m c (entry_before (with_pixels m q) b n)) above
+    ap (λ first. nearer_entry m.colors c first (entry_above m a n)) before
+    ∙ ap (nearer_entry m.colors c (entry_before (with_pixels m q) b n)) above
   where
     before : entry_before m a n ≡ entry_before (with_pixels m q) b n
     before =

@@ -1,5 +1,5 @@
 -- The index that the least key of sixteen entries gives.
-use Rattle.std.proofs.Common.{◌≡◌, ◌⊎◌, ℕ, ◌+◌, ◌-◌, ◌*◌, ◌%◌, ◌<◌, ◌≤◌, List, [], ◌∷◌}
+use Rattle.std.proofs.Common.{◌≡◌, ◌⊎◌, ℕ, ◌+◌, ◌-◌, ◌*◌, ◌/◌, ◌%◌, ◌^◌, ◌<◌, ◌≤◌, List, [], ◌∷◌}
 use Rattle.std.proofs.Common.{false, cond, length, map, get_or, replicate}
 use Rattle.std.proofs.Common.{min, refl, ap, sym, inl, inr, nat_lt, w8, w32, Fits, zero, suc, ◌∙◌}
 use Rattle.std.proofs.Common.{arith}
@@ -7,22 +7,19 @@ use Rattle.std.specs.Int.{abs_diff}
 use Rattle.std.specs.Prelude.{Option, Some, None, slice_index, slice_index_or}
 use Rattle.std.proofs.lemmas.Bool.{cases_lt}
 use Rattle.std.proofs.lemmas.Bool.Decides.{nat_tests}
-use Rattle.std.proofs.lemmas.List.{get_or-map, length-map}
+use Rattle.std.proofs.lemmas.List.{length-map}
 use Rattle.std.proofs.lemmas.Nat.{mul-le}
 use Rattle.std.proofs.lemmas.Simd.{get_or-replicate, get_or-zip2}
 use Rattle.std.proofs.lemmas.Simd.{length-sel_l, length-zip2, get_or-sel_l, tops_compared}
 use lib.Lanes.{Each1, sel_l, top, zip2}
-use Rattle.sixel_palette.specs.Palette.{distance, square_gap}
-use Rattle.sixel_palette.specs.Weights.{no_weighted, weighted}
-use Rattle.sixel_palette.specs.declared.mapping.Weights.{Weights}
-use Rattle.sixel_palette.specs.declared.mapping.Weights.TheVariants.{Equal, Luma}
-use Rattle.sixel_palette.proofs.PaletteDistance.{below_three}
-use Rattle.sixel_palette.proofs.Weights.{weighted-lt, weighted_nearest-le, weighted_nearest-reached}
+use Rattle.sixel_palette.specs.Palette.{distance, no_entry, square_gap}
+use Rattle.sixel_palette.proofs.PaletteDistance.{below_three, square-le}
+use Rattle.sixel_palette.proofs.PaletteNearest.{nearest-le, nearest-reached}
 use Rattle.sixel_palette.specs.Dithering.{IsIndex, Mapped, entry_distance, nearer_entry}
 use Rattle.sixel_palette.specs.declared.dithering.sixteen_entries.SixteenEntries.{SixteenEntries}
 use Rattle.sixel_palette.specs.inside.Diffusion.{channels}
 use Rattle.sixel_palette.specs.inside.SixteenEntries.{AreSixteen, added, beside, fixed_key}
-use Rattle.sixel_palette.specs.inside.SixteenEntries.{lane_key, lane_of, weighted_channel}
+use Rattle.sixel_palette.specs.inside.SixteenEntries.{lane_key, lane_of}
 
 -- ---- colors
 
@@ -36,30 +33,25 @@ square-up a b d e = rw e (omega arith)
 square-apart : (a b : ℕ) → abs_diff a b * abs_diff a b + 2 * (a * b) ≡ a * a + b * b
 square-apart a b = grind (arith, nat_tests, square-up a b (b - a), square-up b a (a - b))
 
--- the weighted product of two colors
-abbrev product : Weights → List ℕ → List ℕ → ℕ
-product w p c =
-    weighted_channel w p 0 * slice_index c 0 + weighted_channel w p 1 * slice_index c 1
-    + weighted_channel w p 2 * slice_index c 2
+-- the product of two colors
+abbrev product : List ℕ → List ℕ → ℕ
+product p c =
+    slice_index p 0 * slice_index c 0 + slice_index p 1 * slice_index c 1
+    + slice_index p 2 * slice_index c 2
 
-weighted-product : (w : Weights) (p c : List ℕ)
-    → weighted w p c + 2 * product w p c ≡ weighted w p black + weighted w c black
+distance-product : (p c : List ℕ)
+    → distance p c + 2 * product p c ≡ distance p black + distance c black
 unfolding distance square_gap
-weighted-product Equal p c = grind (arith, square-apart)
-weighted-product Luma p c = grind (arith, square-apart)
+distance-product p c = grind (arith, square-apart)
 
--- no distance is greater by any weights
-no_weighted-le : (w : Weights) → no_weighted w ≤ 455176
-no_weighted-le Equal = omega arith
-no_weighted-le Luma = omega arith
+-- a distance of bytes
+gap-small : (x y : ℕ) → x < 256 → y < 256 → abs_diff x y * abs_diff x y ≤ 65025
+gap-small x y p q = square-le (abs_diff x y) 255 (255 - abs_diff x y) (omega (arith, p, q))
 
--- a weighted channel has ten bits
-channel-small : (w : Weights) (p : List ℕ) (j : ℕ) → slice_index p j < 256
-    → weighted_channel w p j < 1024
-channel-small Equal p j small = omega (arith, small)
-channel-small Luma p zero small = omega (arith, small)
-channel-small Luma p (suc zero) small = omega (arith, small)
-channel-small Luma p (suc (suc j)) small = omega (arith, small)
+distance-small : (p c : List ℕ) → ((j : ℕ) → j < 3 → slice_index p j < 256)
+    → ((j : ℕ) → j < 3 → slice_index c j < 256) → distance p c < no_entry
+unfolding distance square_gap
+distance-small p c ps cs = grind (arith, gap-small, ps, cs)
 
 dark : (j : ℕ) → j < 3 → slice_index black j < 256
 dark = below_three (λ j. slice_index black j < 256) (omega arith) (omega arith) (omega arith)
@@ -125,45 +117,45 @@ least_at xs ys a b =
 
 -- a product in lanes
 times_at : (xs : List ℕ) (x k channel a : ℕ) → length xs ≡ 16 → k < 16
-    → get_or xs k 0 ≡ channel → channel < 1024 → x ≡ a * 128 → a ≤ 255
-    → (get_or (times xs x) k 0 ≡ 128 * (channel * a)) × (channel * a ≤ 260865)
-times_at xs x k channel a long l is small ex low =
-    let most = mul-le channel a 1023 255 (omega (arith, small)) low in (
+    → get_or xs k 0 ≡ channel → channel < 256 → x ≡ a * 128 → a ≤ 255
+    → (get_or (times xs x) k 0 ≡ 128 * (channel * a)) × (channel * a ≤ 65025)
+times_at xs x k channel a long l is byte ex low =
+    let most = mul-le channel a 255 255 (omega (arith, byte)) low in (
       (lane_at (λ a b. a * b % 4294967296) xs (replicate 16 x) long refl).1 k l
           ∙ (ap (λ b. get_or xs k 0 * b % 4294967296) (get_or-replicate 16 k x 0 l)
           ∙ rw (is, ex) (omega (arith, most))),
       most,
     )
 
-pub key_at : (m : Mapped) (s : SixteenEntries) (t us vs xs ys zs : List ℕ)
-    (x y z before above k : ℕ) → AreSixteen m.weights m.colors m.tolerance s
+pub key_at : (colors : List (List ℕ)) (s : SixteenEntries) (t us vs xs ys zs : List ℕ)
+    (x y z tolerance before above k : ℕ) → AreSixteen colors tolerance s
     → ((j : ℕ) → slice_index t j ≤ 255) → k < 16 → before ≤ 16 → above ≤ 16
     → length us ≡ 16 → length vs ≡ 16 → length xs ≡ 16 → length ys ≡ 16 → length zs ≡ 16
     → get_or us k 0 ≡ get_or s.before (16 * before + k) 0
     → get_or vs k 0 ≡ get_or s.above (16 * above + k) 0
-    → get_or xs k 0 ≡ get_or s.red k 0 % 1024 → get_or ys k 0 ≡ get_or s.green k 0 % 1024
-    → get_or zs k 0 ≡ get_or s.blue k 0 % 1024
+    → get_or xs k 0 ≡ get_or s.codes k 0 / 2 ^ 0 % 256
+    → get_or ys k 0 ≡ get_or s.codes k 0 / 2 ^ 8 % 256
+    → get_or zs k 0 ≡ get_or s.codes k 0 / 2 ^ 16 % 256
     → x ≡ get_or t 0 0 * 128 → y ≡ get_or t 1 0 * 128 → z ≡ get_or t 2 0 * 128
     → get_or (minus (least us vs) (plus (plus (times xs x) (times ys y)) (times zs z))) k 0
-    ≡ lane_key m (channels t) before above k
-key_at m s t us vs xs ys zs x y z before above k are low l lb la f g p q r eb ea eu ev et ex ey ez =
-    let w = m.weights in
-    let color = slice_index_or m.colors k [] in
+    ≡ lane_key colors (channels t) tolerance before above k
+key_at colors s t us vs xs ys zs x y z tolerance before above k are low l lb la f g p q r eb ea eu
+    ev et ex ey ez =
+    let color = slice_index_or colors k [] in
     let rows = least_at us vs f g in
     let two = lane_at _ (times xs x) (times ys y) (lane_at _ xs (replicate 16 x) p refl).0
     (lane_at _ ys (replicate 16 y) q refl).0 in
     let sums = plus (plus (times xs x) (times ys y)) (times zs z) in
     let three = lane_at (λ a b. (a + b) % 4294967296) (plus (times xs x) (times ys y)) (times zs z)
     two.0 (lane_at _ zs (replicate 16 z) r refl).0 in
-    let red = channel-small w color 0 (are.bytes k 0 l (omega arith)) in
-    let green = channel-small w color 1 (are.bytes k 1 l (omega arith)) in
-    let blue = channel-small w color 2 (are.bytes k 2 l (omega arith)) in
-    let dark_far = weighted-lt w color black (λ j. are.bytes k j l) dark in
-    let more : min (beside w m.colors m.tolerance before 16 k)
-    (beside w m.colors m.tolerance above 32 k)
-    ≡ fixed_key w m.colors k + added w m.tolerance before above k = grind (arith, nat_tests) in
-    let limit = no_weighted-le w in
-    let most : added w m.tolerance before above k ≤ 29131264 = grind (arith, nat_tests) in
+    let code = are.codes k l in
+    let red = are.bytes k 0 l (omega arith) in
+    let green = are.bytes k 1 l (omega arith) in
+    let blue = are.bytes k 2 l (omega arith) in
+    let dark_far = distance-small color black (λ j. are.bytes k j l) dark in
+    let more : min (beside colors tolerance before 16 k) (beside colors tolerance above 32 k)
+    ≡ fixed_key colors k + added tolerance before above k = grind (arith, nat_tests) in
+    let most : added tolerance before above k ≤ 12484864 = grind (arith, nat_tests) in
     (lane_at _ (least us vs) sums rows.0 three.0).1 k l
     ∙ omega (
       arith,
@@ -176,60 +168,66 @@ key_at m s t us vs xs ys zs x y z before above k are low l lb la f g p q r eb ea
       most,
       two.1 k l,
       three.1 k l,
-      times_at xs x k (weighted_channel w color 0) _ p l
-          (omega (arith, eu, are.red k l, red)) red ex (low 0),
-      times_at ys y k (weighted_channel w color 1) _ q l
-          (omega (arith, ev, are.green k l, green)) green ey (low 1),
-      times_at zs z k (weighted_channel w color 2) _ r l
-          (omega (arith, et, are.blue k l, blue)) blue ez (low 2),
-      weighted-product w color (channels t),
-      weighted-lt w (channels t) black (bytes t low) dark,
+      times_at xs x k (slice_index color 0) _ p l (omega (arith, eu, code, red, green, blue)) red
+          ex (low 0),
+      times_at ys y k (slice_index color 1) _ q l (omega (arith, ev, code, red, green, blue)) green
+          ey (low 1),
+      times_at zs z k (slice_index color 2) _ r l (omega (arith, et, code, red, green, blue)) blue
+          ez (low 2),
+      distance-product color (channels t),
+      distance-small (channels t) black (bytes t low) dark,
       dark_far,
-      limit,
     )
 
 -- a channel of each entry
-pub channel_at : (channel : List ℕ) → length channel ≡ 16
-    → let channels = map (λ x. x) (zip2 (λ a b. a % b) channel (replicate 16 1024)) in
+pub channel_at : (codes : List ℕ) (shift : ℕ) → length codes ≡ 16
+    → let channels =
+    zip2 (λ a b. a % b) (zip2 (λ a b. a / 2 ^ b) codes (replicate 16 shift)) (replicate 16 256) in
     (length channels ≡ 16)
-    × ((k : ℕ) → k < 16 → get_or channels k 0 ≡ get_or channel k 0 % 1024)
-channel_at channel long =
-    let all = lane_at (λ a b. a % b) channel (replicate 16 1024) long refl in
-    let channels = zip2 (λ a b. a % b) channel (replicate 16 1024) in (
-      length-map channels (λ x. x) ∙ all.0,
+    × ((k : ℕ) → k < 16 → get_or channels k 0 ≡ get_or codes k 0 / 2 ^ shift % 256)
+channel_at codes shift long =
+    let moved = lane_at (λ a b. a / 2 ^ b) codes (replicate 16 shift) long refl in
+    let all =
+    lane_at (λ a b. a % b) (zip2 (λ a b. a / 2 ^ b) codes (replicate 16 shift)) (replicate 16 256)
+    moved.0 refl in (
+      all.0,
       λ k l.
-          get_or-map (λ (x : ℕ). x) channels k 0 0 (omega (arith, l, all.0))
-          ∙ (all.1 k l ∙ rw (get_or-replicate {A = ℕ} 16 k 1024 0 l) refl),
+          all.1 k l
+          ∙ rw (
+            moved.1 k l,
+            get_or-replicate {A = ℕ} 16 k shift 0 l,
+            get_or-replicate {A = ℕ} 16 k 256 0 l,
+          ) refl,
     )
 
 -- ---- the least key
 
 -- the nearer one of two entries
-nearer-is : (m : Mapped) (c : List ℕ) (first second : Option ℕ) (e : ℕ)
+nearer-is : (colors : List (List ℕ)) (c : List ℕ) (first second : Option ℕ) (e : ℕ)
     → ((entry : ℕ) → first ≡ Some entry → entry < 16)
     → ((entry : ℕ) → second ≡ Some entry → entry < 16)
-    → nearer_entry m c first second ≡ Some e
+    → nearer_entry colors c first second ≡ Some e
     → (e < 16) × ((lane_of first ≡ e) ⊎ (lane_of second ≡ e))
-    × (lane_of first < 16 → entry_distance m c e ≤ entry_distance m c (lane_of first))
+    × (lane_of first < 16 → entry_distance colors c e ≤ entry_distance colors c (lane_of first))
     × (lane_of second < 16
-    → entry_distance m c e ≤ entry_distance m c (lane_of second))
+    → entry_distance colors c e ≤ entry_distance colors c (lane_of second))
     × ((lane_of first ≡ e → ⊥)
-    → lane_of first < 16 → entry_distance m c e < entry_distance m c (lane_of first))
-nearer-is m c None None e here there is = absurd cc
-nearer-is m c None (Some b) e here there is = grind (arith, nat_tests, there b refl)
-nearer-is m c (Some a) None e here there is = grind (arith, nat_tests, here a refl)
-nearer-is m c (Some a) (Some b) e here there is =
+    → lane_of first < 16 → entry_distance colors c e < entry_distance colors c (lane_of first))
+nearer-is colors c None None e here there is = absurd cc
+nearer-is colors c None (Some b) e here there is = grind (arith, nat_tests, there b refl)
+nearer-is colors c (Some a) None e here there is = grind (arith, nat_tests, here a refl)
+nearer-is colors c (Some a) (Some b) e here there is =
     grind (arith, nat_tests, here a refl, there b refl)
 
 -- where there is one, there is a nearer one
-nearer-some : (m : Mapped) (c : List ℕ) (first second : Option ℕ) (k : ℕ) → k < 16
+nearer-some : (colors : List (List ℕ)) (c : List ℕ) (first second : Option ℕ) (k : ℕ) → k < 16
     → (lane_of first ≡ k) ⊎ (lane_of second ≡ k)
-    → (e : ℕ) × (nearer_entry m c first second ≡ Some e)
-nearer-some m c None None k l one = absurd (grind (arith, nat_tests))
-nearer-some m c None (Some b) k l one = (b, refl)
-nearer-some m c (Some a) None k l one = (a, refl)
-nearer-some m c (Some a) (Some b) k l one =
-    elim (cases_lt (entry_distance m c b) (entry_distance m c a)) [
+    → (e : ℕ) × (nearer_entry colors c first second ≡ Some e)
+nearer-some colors c None None k l one = absurd (grind (arith, nat_tests))
+nearer-some colors c None (Some b) k l one = (b, refl)
+nearer-some colors c (Some a) None k l one = (a, refl)
+nearer-some colors c (Some a) (Some b) k l one =
+    elim (cases_lt (entry_distance colors c b) (entry_distance colors c a)) [
       | inl less ↦ (b, grind (arith, nat_tests))
       | inr more ↦ (a, grind (arith, nat_tests))
     ]
@@ -237,26 +235,25 @@ nearer-some m c (Some a) (Some b) k l one =
 pub IsIndex-least : (m : Mapped) (c : List ℕ) (first second : Option ℕ) (i : ℕ)
     → length m.colors ≡ 16 → ((entry : ℕ) → first ≡ Some entry → entry < 16)
     → ((entry : ℕ) → second ≡ Some entry → entry < 16)
-    → ((k : ℕ) → k < 16 → entry_distance m c k < no_weighted m.weights) → i < 16
+    → ((k : ℕ) → k < 16 → entry_distance m.colors c k < no_entry) → i < 16
     → ((k : ℕ) → k < 16
-    → lane_key m c (lane_of first) (lane_of second) i
-    ≤ lane_key m c (lane_of first) (lane_of second) k)
-    → IsIndex m c (nearer_entry m c first second) i
+    → lane_key m.colors c m.tolerance (lane_of first) (lane_of second) i
+    ≤ lane_key m.colors c m.tolerance (lane_of first) (lane_of second) k)
+    → IsIndex m c (nearer_entry m.colors c first second) i
 IsIndex-least m c first second i all here there small l rise =
-    let least = weighted_nearest-le m.weights m.colors c i [] (omega (arith, all, l)) in
+    let least = nearest-le m.colors c i [] (omega (arith, all, l)) in
     record {
       entry = omega (arith, all, l);
       kept = λ e is near.
-          let facts = nearer-is m c first second e here there is in
+          let facts = nearer-is m.colors c first second e here there is in
           grind (arith, nat_tests, facts, rise e facts.0, small e facts.0, least);
       nearest = λ beyond.
-          let found = weighted_nearest-reached m.weights m.colors c []
-          (omega (arith, least, small i l)) in
+          let found = nearest-reached m.colors c [] (omega (arith, least, small i l)) in
           let reached = rise found.0 (omega (arith, found.1, all)) in
           let exact : (lane_of first ≡ i) ⊎ (lane_of second ≡ i) → m.tolerance ≡ 0 =
           λ one.
-          let some = nearer-some m c first second i l one in
-          let facts = nearer-is m c first second some.0 here there some.1 in
+          let some = nearer-some m.colors c first second i l one in
+          let facts = nearer-is m.colors c first second some.0 here there some.1 in
           grind (arith, nat_tests, one, facts, beyond some.0 some.1, reached, found.2) in
           record {
             entry = omega (arith, all, l);
@@ -266,37 +263,36 @@ IsIndex-least m c first second i all here there small l rise =
     }
 
 -- an entry with the color of the target, which the pixel before has
-weighted-same : (w : Weights) (p t : List ℕ) → slice_index p 0 ≡ slice_index t 0
+distance-same : (p t : List ℕ) → slice_index p 0 ≡ slice_index t 0
     → slice_index p 1 ≡ slice_index t 1 → slice_index p 2 ≡ slice_index t 2
-    → weighted w p (channels t) ≡ 0
+    → distance p (channels t) ≡ 0
 unfolding distance square_gap
-weighted-same Equal p t r g b = grind (arith, nat_tests)
-weighted-same Luma p t r g b = grind (arith, nat_tests)
+distance-same p t r g b = grind (arith, nat_tests)
 
-pub entry_distance-same : (m : Mapped) (s : SixteenEntries) (t : List ℕ) (k : ℕ)
-    → AreSixteen m.weights m.colors m.tolerance s → k < 16
+pub entry_distance-same : (colors : List (List ℕ)) (s : SixteenEntries) (t : List ℕ)
+    (tolerance k : ℕ) → AreSixteen colors tolerance s → k < 16
     → ((j : ℕ) → slice_index t j ≤ 255)
     → get_or s.codes k 0 ≡ get_or t 0 0 + 256 * get_or t 1 0 + 65536 * get_or t 2 0
-    → entry_distance m (channels t) k ≡ 0
-entry_distance-same m s t k are l low code =
+    → entry_distance colors (channels t) k ≡ 0
+entry_distance-same colors s t tolerance k are l low code =
     let red = are.bytes k 0 l (omega arith) in
     let green = are.bytes k 1 l (omega arith) in
     let blue = are.bytes k 2 l (omega arith) in
     let all = are.codes k l in
-    weighted-same m.weights _ t (omega (arith, all, code, red, green, blue, low 0, low 1, low 2))
+    distance-same _ t (omega (arith, all, code, red, green, blue, low 0, low 1, low 2))
     (omega (arith, all, code, red, green, blue, low 0, low 1, low 2))
     (omega (arith, all, code, red, green, blue, low 0, low 1, low 2))
 
-nearer-same : (m : Mapped) (c : List ℕ) (e : ℕ) (second : Option ℕ)
-    → entry_distance m c e ≡ 0 → nearer_entry m c (Some e) second ≡ Some e
-nearer-same m c e None none = refl
-nearer-same m c e (Some b) none = grind (arith, nat_tests)
+nearer-same : (colors : List (List ℕ)) (c : List ℕ) (e : ℕ) (second : Option ℕ)
+    → entry_distance colors c e ≡ 0 → nearer_entry colors c (Some e) second ≡ Some e
+nearer-same colors c e None none = refl
+nearer-same colors c e (Some b) none = grind (arith, nat_tests)
 
 pub IsIndex-before : (m : Mapped) (c : List ℕ) (e : ℕ) (second : Option ℕ)
-    → e < length m.colors → 0 < m.tolerance → entry_distance m c e ≡ 0
-    → IsIndex m c (nearer_entry m c (Some e) second) e
+    → e < length m.colors → 0 < m.tolerance → entry_distance m.colors c e ≡ 0
+    → IsIndex m c (nearer_entry m.colors c (Some e) second) e
 IsIndex-before m c e second l some none =
-    rw (nearer-same m c e second none) (record {
+    rw (nearer-same m.colors c e second none) (record {
       entry = l;
       kept = λ entry is near. grind (arith, is);
       nearest = λ beyond. absurd (omega (arith, beyond e refl, none, some));
@@ -304,19 +300,19 @@ IsIndex-before m c e second l some none =
 
 -- so it is of the keys in lanes
 pub IsIndex-keys : (m : Mapped) (s : SixteenEntries) (t keys : List ℕ) (first second : Option ℕ)
-    (i least : ℕ) → length m.colors ≡ 16 → AreSixteen m.weights m.colors m.tolerance s
+    (i least : ℕ) → length m.colors ≡ 16 → AreSixteen m.colors m.tolerance s
     → ((entry : ℕ) → first ≡ Some entry → entry < 16)
     → ((entry : ℕ) → second ≡ Some entry → entry < 16) → ((k : ℕ) → slice_index t k ≤ 255)
     → ((k : ℕ) → k < 16
     → slice_index keys k
-    ≡ lane_key m (channels t) (lane_of first) (lane_of second) k) → i < 16
+    ≡ lane_key m.colors (channels t) m.tolerance (lane_of first) (lane_of second) k) → i < 16
     → slice_index keys i ≡ least → ((k : ℕ) → k < 16 → least ≤ slice_index keys k)
-    → IsIndex m (channels t) (nearer_entry m (channels t) first second) (least % 16)
+    → IsIndex m (channels t) (nearer_entry m.colors (channels t) first second) (least % 16)
 IsIndex-keys m s t keys first second i least all are here there low is l reached lower =
-    let rest : added m.weights m.tolerance (lane_of first) (lane_of second) i % 16 ≡ 0 =
+    let rest : added m.tolerance (lane_of first) (lane_of second) i % 16 ≡ 0 =
     grind (arith, nat_tests) in
     let index : least % 16 ≡ i = omega (arith, is i l, reached, rest, l) in
     rw index (IsIndex-least m (channels t) first second i all here there
     (λ k lk.
-    weighted-lt m.weights (slice_index_or m.colors k []) (channels t) (λ j. are.bytes k j lk)
+    distance-small (slice_index_or m.colors k []) (channels t) (λ j. are.bytes k j lk)
     (bytes t low)) l (λ k lk. omega (arith, is i l, is k lk, reached, lower k lk)))

@@ -12,10 +12,9 @@ use Rattle.sixel_base.specs.CallFault.{CallFault, color_count_fault, size_call_f
 use Rattle.sixel_base.specs.declared.error.SixelError.{SixelError}
 use Rattle.sixel_base.specs.declared.error.SixelError.TheVariants.{InvalidDimensions}
 use Rattle.sixel_base.specs.declared.error.SixelError.TheVariants.{BufferSizeMismatch}
-use Rattle.sixel_palette.specs.Palette.{color_at, IsOpaque}
+use Rattle.sixel_palette.specs.Palette.{color_at, distance, nearest, IsOpaque, IsNearest}
 use Rattle.sixel_palette.specs.Refined.{opaque_pixels, sum_to, summed_error}
 use Rattle.sixel_palette.specs.Gray.{source_pixels}
-use Rattle.sixel_palette.specs.Weights.{IsWeightedNearest, scaled, weighted, weighted_nearest}
 use Rattle.sixel_palette.specs.declared.dither.Amplitude.{Amplitude}
 use Rattle.sixel_palette.specs.declared.dither.Amplitude.TheVariants.{Auto as AutoAmplitude, Levels}
 use Rattle.sixel_palette.specs.declared.dither.Dither.{Dither}
@@ -23,7 +22,6 @@ use Rattle.sixel_palette.specs.declared.dither.Dither.TheVariants.{Off, Diffusio
 use Rattle.sixel_palette.specs.declared.mapping.Mapping.{Mapping}
 use Rattle.sixel_palette.specs.declared.mapping.Tolerance.{Tolerance}
 use Rattle.sixel_palette.specs.declared.mapping.Tolerance.TheVariants.{Auto, Squared}
-use Rattle.sixel_palette.specs.declared.mapping.Weights.{Weights}
 
 -- ---- errors of a call
 
@@ -54,7 +52,6 @@ pub record Mapped : Type 0 where
   pub strength : ℕ
   pub amplitude : ℕ
   pub tolerance : ℕ
-  pub weights : Weights
 
 -- the column of a step of a row: even rows go from the left, odd rows from the right
 abbrev pub column_of_step : ℕ → ℕ → ℕ → ℕ
@@ -84,38 +81,35 @@ entry_above m indices n =
     if n / m.width % 6 == 0 then None
     else entry_of m.pixels indices (serpentine m.width n - m.width)
 
--- the weighted squared distance of an entry to a color
-abbrev pub entry_distance : Mapped → List ℕ → ℕ → ℕ
-entry_distance m c entry = weighted m.weights (slice_index_or m.colors entry []) c
+-- the squared distance of an entry to a color
+abbrev pub entry_distance : List (List ℕ) → List ℕ → ℕ → ℕ
+entry_distance colors c entry = distance (slice_index_or colors entry []) c
 
 -- of two entries the one nearer to a color, the first one on ties
-abbrev pub nearer_entry : Mapped → List ℕ → Option ℕ → Option ℕ → Option ℕ
-nearer_entry m c None second = second
-nearer_entry m c (Some first) None = Some first
-nearer_entry m c (Some first) (Some second) =
-    if nat_lt (entry_distance m c second) (entry_distance m c first) then Some second
+abbrev pub nearer_entry : List (List ℕ) → List ℕ → Option ℕ → Option ℕ → Option ℕ
+nearer_entry colors c None second = second
+nearer_entry colors c (Some first) None = Some first
+nearer_entry colors c (Some first) (Some second) =
+    if nat_lt (entry_distance colors c second) (entry_distance colors c first) then Some second
     else Some first
-
--- the distance of the entry nearest to a color
-abbrev pub least_distance : Mapped → List ℕ → ℕ
-least_distance m c = weighted_nearest m.weights m.colors c
 
 -- the entry of a neighbor that the pixel of a visit may keep
 abbrev pub neighbor_of : Mapped → List ℕ → List ℕ → ℕ → Option ℕ
 neighbor_of m target indices n =
-    nearer_entry m target (entry_before m indices n) (entry_above m indices n)
+    nearer_entry m.colors target (entry_before m indices n) (entry_above m indices n)
 
--- The index is that of the neighbor's entry, if its distance to the target is below that of the
--- nearest entry plus the tolerance. Otherwise it is that of the nearest entry, the first of equals.
+-- The index is that of the neighbor's entry, if its squared distance to the target is below that of
+-- the nearest entry plus the tolerance. Otherwise it is that of the nearest entry, the first of
+-- equals.
 pub record IsIndex (m : Mapped) (target : List ℕ) (neighbor : Option ℕ) (index : ℕ)
     : Type 0 where
   pub entry : index < length m.colors
   pub kept : (entry : ℕ) → neighbor ≡ Some entry
-      → entry_distance m target entry < least_distance m target + m.tolerance
+      → entry_distance m.colors target entry < nearest m.colors target + m.tolerance
       → index ≡ entry
   pub nearest : ((entry : ℕ) → neighbor ≡ Some entry
-      → least_distance m target + m.tolerance ≤ entry_distance m target entry)
-      → IsWeightedNearest m.weights m.colors target index
+      → nearest m.colors target + m.tolerance ≤ entry_distance m.colors target entry)
+      → IsNearest m.colors target index
 
 -- the pixel of a visit has the index for its target, and 0 if it is transparent
 pub record HasTarget (m : Mapped) (target : List ℕ) (indices : List ℕ) (n : ℕ) : Type 0 where
@@ -264,18 +258,16 @@ eighths strength = max 1 (min strength 8)
 abbrev pub mean_error : List (List ℕ) → List ℕ → ℕ
 mean_error colors pixels = summed_error colors pixels / max 1 (opaque_pixels pixels (λ _. 1))
 
--- the weighted squared distance of a pixel's color to the entry of its index, 0 for a transparent
--- pixel
-abbrev pub pixel_index_error : Weights → List (List ℕ) → List ℕ → List ℕ → ℕ → ℕ
-pixel_index_error weights colors pixels indices pixel =
+-- the squared distance of a pixel's color to the entry of its index, 0 for a transparent pixel
+abbrev pub pixel_index_error : List (List ℕ) → List ℕ → List ℕ → ℕ → ℕ
+pixel_index_error colors pixels indices pixel =
     if nat_lt (slice_index pixels (4 * pixel + 3)) 128 then 0
-    else weighted weights (slice_index_or colors (slice_index indices pixel) [])
-    (color_at pixels pixel)
+    else entry_distance colors (color_at pixels pixel) (slice_index indices pixel)
 
--- the summed weighted squared error of palette indices, over all pixels
-abbrev pub index_error : Weights → List (List ℕ) → List ℕ → List ℕ → ℕ
-index_error weights colors pixels indices =
-    sum_to (pixel_index_error weights colors pixels indices) (length pixels / 4)
+-- the summed squared error of palette indices, over all pixels
+abbrev pub index_error : List (List ℕ) → List ℕ → List ℕ → ℕ
+index_error colors pixels indices =
+    sum_to (pixel_index_error colors pixels indices) (length pixels / 4)
 
 -- the automatic tolerance for a mean error, which is greater without dithering
 abbrev pub automatic_tolerance : Dither → ℕ → ℕ
@@ -283,14 +275,11 @@ automatic_tolerance Off mean = max 12 (7 * mean / 5)
 automatic_tolerance dither mean = max 12 mean
 
 -- the tolerance for a palette
-abbrev pub stated_tolerance : Tolerance → Mapping → List (List ℕ) → List ℕ → ℕ
-stated_tolerance (Squared tolerance) mapping colors pixels = tolerance
-stated_tolerance Auto mapping colors pixels =
+abbrev pub tolerance_of : Dither → Tolerance → List (List ℕ) → List ℕ → ℕ
+tolerance_of dither (Squared tolerance) colors pixels = tolerance
+tolerance_of dither Auto colors pixels =
     if summed_error colors pixels == 0 then 0
-    else scaled mapping.weights (automatic_tolerance mapping.dither (mean_error colors pixels))
-
-abbrev pub tolerance_of : Mapping → List (List ℕ) → List ℕ → ℕ
-tolerance_of mapping colors pixels = stated_tolerance mapping.tolerance mapping colors pixels
+    else automatic_tolerance dither (mean_error colors pixels)
 
 -- the square root of a number, rounded down, but at most so much
 unfoldable pub root : ℕ → ℕ → ℕ
@@ -322,8 +311,7 @@ mapped_of mapping width pixels colors = record {
   colors = colors;
   strength = strength_of mapping.dither;
   amplitude = pattern_of mapping.dither colors pixels;
-  tolerance = tolerance_of mapping colors pixels;
-  weights = mapping.weights;
+  tolerance = tolerance_of mapping.dither mapping.tolerance colors pixels;
 }
 
 -- the target of each visit

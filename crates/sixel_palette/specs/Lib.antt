@@ -5,7 +5,6 @@ pub mod Palette
 pub mod PaletteBound
 pub mod Refined
 pub mod Spread
-pub mod Weights
 pub mod inside
 pub mod Dithering
 pub mod Gray

@@ -25,14 +25,10 @@ distance a b = square_gap a b 0 + square_gap a b 1 + square_gap a b 2
 abbrev pub no_entry : ℕ
 no_entry = 195076
 
--- the distance of a color to the nearest entry by the distance `gap`, and `none` with no entry
-unfoldable pub nearest_by : (List ℕ → List ℕ → ℕ) → ℕ → List (List ℕ) → List ℕ → ℕ
-nearest_by gap none [] c = none
-nearest_by gap none (p ∷ ps) c = min (gap p c) (nearest_by gap none ps c)
-
 -- the squared distance of a color to the nearest entry
-abbrev pub nearest : List (List ℕ) → List ℕ → ℕ
-nearest = nearest_by distance no_entry
+unfoldable pub nearest : List (List ℕ) → List ℕ → ℕ
+nearest [] c = no_entry
+nearest (p ∷ ps) c = min (distance p c) (nearest ps c)
 
 -- the color of a pixel, where each pixel has four bytes
 abbrev pub color_at : List ℕ → ℕ → List ℕ
@@ -82,18 +78,13 @@ pub record IsPalette (pixels : List ℕ) (max_colors : ℕ) (entries : List (Lis
   pub size : (n : ℕ) × HasSize (IsShown pixels) n
       × (length entries ≡ min (palette_room max_colors) n)
 
--- the palette index of the entry nearest to the color by the distance `gap`, the first of those
-pub record IsNearestBy (gap : List ℕ → List ℕ → ℕ) (entries : List (List ℕ)) (c : List ℕ) (i : ℕ)
-    : Type 0 where
+-- the palette index of the entry nearest to the color, the first of those
+pub record IsNearest (entries : List (List ℕ)) (c : List ℕ) (i : ℕ) : Type 0 where
   pub entry : i < length entries
   pub least : (j : ℕ) → j < length entries
-      → gap (slice_index_or entries i []) c ≤ gap (slice_index_or entries j []) c
+      → distance (slice_index_or entries i []) c ≤ distance (slice_index_or entries j []) c
   pub first : (j : ℕ) → j < i
-      → gap (slice_index_or entries i []) c < gap (slice_index_or entries j []) c
-
--- the palette index of the entry nearest to the color, the first of those
-abbrev pub IsNearest : List (List ℕ) → List ℕ → ℕ → Type 0
-IsNearest = IsNearestBy distance
+      → distance (slice_index_or entries i []) c < distance (slice_index_or entries j []) c
 
 -- one palette index a pixel: that of the nearest entry for an opaque pixel, 0 for a transparent one
 pub record AreIndices (pixels : List ℕ) (entries : List (List ℕ)) (indices : List ℕ) : Type 0 where

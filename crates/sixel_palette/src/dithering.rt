@@ -19,7 +19,6 @@ ghost use Rattle.sixel_palette.specs.GrayDiffusion.{AreGrays, level_gap};
 ghost use Rattle.sixel_palette.specs.inside.Mapped.{IsMappable, IsPlain};
 ghost use Rattle.sixel_palette.specs.declared.palette.refined.RefinedPalette.{RefinedPalette};
 ghost use Rattle.sixel_palette.specs.inside.PaletteError.{HasNearest};
-ghost use Rattle.sixel_palette.specs.Weights.{total_weight, weighted_nearest};
 
 mod diffusion;
 mod error_line;
@@ -30,7 +29,6 @@ mod ordered;
 mod palette_error;
 mod sixteen_entries;
 mod undithered;
-mod weighted;
 
 use crate::dither::{Amplitude, Dither};
 use crate::dithering::diffusion::diffused_indices;
@@ -40,7 +38,7 @@ use crate::dithering::nearest::Nearest;
 use crate::dithering::ordered::ordered_indices;
 use crate::dithering::palette_error::{amplitude_of, tolerance_of};
 use crate::dithering::undithered::keep_entries;
-use crate::mapping::{Mapping, Tolerance, Weights};
+use crate::mapping::{Mapping, Tolerance};
 use crate::palette::nearest_indices::{color_bytes, nearest_indices};
 use crate::palette::refined::Refinement;
 use sixel_base::size::validate_color_count;
@@ -52,7 +50,7 @@ use std::alloc::{AllocError, Global};
 /// The pixels are rows of `width`, four bytes each: red, green, blue, alpha. The target of a pixel
 /// is its color, moved by the dithering. Each opaque pixel has the index of the entry nearest to
 /// its target, the first of equals. A distance is the sum of the squared differences of the
-/// channels, each times its weight.
+/// channels.
 ///
 /// A pixel keeps the entry of an opaque neighbor if the distance of that entry to the target is
 /// below the distance of the nearest entry plus the tolerance. One neighbor is the pixel before it
@@ -71,7 +69,6 @@ use std::alloc::{AllocError, Global};
 /// let mapping = Mapping {
 ///     dither: Dither::Off,
 ///     tolerance: Tolerance::Squared(0),
-///     weights: Weights::Equal,
 /// };
 /// let indices = palette_indices(alloc, &image.pixels, image.width, colors, mapping)?;
 /// ```
@@ -98,12 +95,11 @@ pub fn palette_indices(
     ensures indices { IfOk result
         (λ indices. AreDithered mapping width pixels.now colors.now indices.items) }
     ensures nearest { mapping.dither ≡ Dither.Off → mapping.tolerance ≡ Tolerance.Squared 0
-        → mapping.weights ≡ Weights.Equal
         → IfOk result (λ indices. AreIndices pixels.now colors.now indices.items) }
     ensures summed { mapping.dither ≡ Dither.Off → IfOk result (λ indices.
-        index_error mapping.weights colors.now pixels.now indices.items
-        ≤ opaque_pixels pixels.now (weighted_nearest mapping.weights colors.now)
-        + tolerance_of mapping colors.now pixels.now * opaque_pixels pixels.now (λ _. 1)) }
+        index_error colors.now pixels.now indices.items ≤ summed_error colors.now pixels.now
+        + tolerance_of mapping.dither mapping.tolerance colors.now pixels.now
+        * opaque_pixels pixels.now (λ _. 1)) }
     ensures exact { (strength : ℕ) → mapping.dither ≡ Dither.Diffusion strength
         → (mapping.tolerance ≡ Tolerance.Auto) ⊎ (mapping.tolerance ≡ Tolerance.Squared 0)
         → ((pixel : ℕ) → pixel < length pixels.now / 4 → IsOpaque pixels.now pixel
@@ -219,7 +215,6 @@ fn searched_indices(
             let image = MappedImage {
                 strength: strength.clamp(1, 8),
                 tolerance,
-                weights: mapping.weights,
                 ..*image
             };
             diffused_indices(alloc, &image)
@@ -233,7 +228,6 @@ fn searched_indices(
             let image = MappedImage {
                 amplitude,
                 tolerance,
-                weights: mapping.weights,
                 ..*image
             };
             ordered_indices(alloc, &image)
@@ -263,15 +257,10 @@ fn mapped_indices(
     let tolerance = tolerance_of(image, &nearest, mapping);
     let image = MappedImage {
         tolerance,
-        weights: mapping.weights,
         ..*image
     };
     match mapping.dither {
-        Dither::Off if mapping.weights == Weights::Equal => {
-            Ok(keep_entries(&image, nearest.indices(alloc, &image)?))
-        }
-        // A pattern without an amplitude moves no color.
-        Dither::Off => ordered_indices(alloc, &image),
+        Dither::Off => Ok(keep_entries(&image, nearest.indices(alloc, &image)?)),
         Dither::Ordered { amplitude } => {
             let amplitude = amplitude_of(&image, &nearest, amplitude);
             ordered_indices(alloc, &MappedImage { amplitude, ..image })
@@ -325,8 +314,7 @@ pub fn gray_diffusion()
         → IsOpaque m.pixels (serpentine m.width n) → entry < length m.colors
         → let gap = level_gap m indices n (slice_index indices (serpentine m.width n)) in
         let other = level_gap m indices n entry in
-        let total = total_weight m.weights in
-        total * (gap * gap) ≤ total * (other * other) + m.tolerance }
+        3 * (gap * gap) ≤ 3 * (other * other) + m.tolerance }
     ensures passed { (strength value entry : ℕ) → value ≤ 4080 → entry < 256
         → let gap = abs_diff (rounded_sixteenths value) entry in
         (512 * strength ≤ passed_on strength value entry + (2 * gap + 1) * strength)

@@ -8,7 +8,6 @@ use crate::dither::Dither;
 /// let mapping = Mapping {
 ///     dither: Dither::Diffusion { strength: 7 },
 ///     tolerance: Tolerance::Auto,
-///     weights: Weights::Luma,
 /// };
 /// ```
 #[derive(Debug, Clone, Copy, PartialEq, Eq)]
@@ -17,8 +16,6 @@ pub struct Mapping {
     pub dither: Dither,
     /// How far a neighbor's entry may be from that color.
     pub tolerance: Tolerance,
-    /// How much each channel counts in a distance.
-    pub weights: Weights,
 }
 
 /// By how much an entry may be farther from a color than the nearest one.
@@ -29,23 +26,8 @@ pub struct Mapping {
 pub enum Tolerance {
     /// The mean squared error of the palette, or 7/5 of it without dithering.
     ///
-    /// It is over the opaque pixels, and at least 12. By the weights of luma it is 7/3 of that. It
-    /// is 0 if each of their colors is an entry.
+    /// It is over the opaque pixels, and at least 12. It is 0 if each of their colors is an entry.
     Auto,
     /// A squared distance. With 0 each pixel has the nearest entry.
     Squared(u32),
-}
-
-/// How much each channel counts in the squared distance of a color and an entry.
-///
-/// A palette is chosen by equal weights, and its error counts all channels alike.
-#[derive(Debug, Default, Clone, Copy, PartialEq, Eq)]
-pub enum Weights {
-    /// All channels count once.
-    #[default]
-    Equal,
-    /// Red counts twice, green four times and blue once, about as much as in the luma of a color.
-    ///
-    /// It suits palettes of few colors. Each pixel is compared with all entries of a palette.
-    Luma,
 }

@@ -94,7 +94,6 @@ impl SixelImage {
     /// let mapping = Mapping {
     ///     dither: Dither::Diffusion { strength: 8 },
     ///     tolerance: Tolerance::Squared(0),
-    ///     weights: Weights::Equal,
     /// };
     /// image.encode_with_palette(alloc, colors, mapping, TextForm::Compact)
     /// ```
@@ -135,7 +134,6 @@ impl SixelImage {
     /// let mapping = Mapping {
     ///     dither: Dither::Off,
     ///     tolerance: Tolerance::Squared(0),
-    ///     weights: Weights::Equal,
     /// };
     /// let indices = palette_indices(alloc, &image.pixels, image.width, colors, mapping)?;
     /// image.encode_indexed(alloc, colors, &indices, TextForm::Plain)
@@ -176,7 +174,6 @@ impl SixelImage {
     /// let mapping = Mapping {
     ///     dither: Dither::Diffusion { strength: 7 },
     ///     tolerance: Tolerance::Auto,
-    ///     weights: Weights::Luma,
     /// };
     /// image.encode_refined(alloc, 16, mapping, TextForm::Compact)
     /// ```

@@ -105,6 +105,5 @@ pub record AreParts (image : MappedImage) (parts : List (List ℕ)) : Type 0 whe
 pub record ArePrepared (image : MappedImage) (entries : Entries) : Type 0 where
   pub search : IsSearchOf image.colors.now entries.search
   pub sixteen : (sixteen : SixteenEntries) → entries.sixteen ≡ Some sixteen
-      → (length image.colors.now ≡ 16)
-      × AreSixteen image.weights image.colors.now image.tolerance sixteen
+      → (length image.colors.now ≡ 16) × AreSixteen image.colors.now image.tolerance sixteen
   pub parts : AreParts image entries.parts.items

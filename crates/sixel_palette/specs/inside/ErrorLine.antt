@@ -1,5 +1,5 @@
--- The line of the latest errors, one a column, and what the next row receives of them. It only
--- saves space: the definitions list all errors.
+-- The line of the latest errors, one a column, and what the next row receives of them. It only saves
+-- space: the definitions list all errors.
 use Rattle.std.specs.Prelude.{◌≡◌, ℕ, ◌+◌, ◌-◌, ◌*◌, ◌<◌, ◌≤◌, ◌==◌, if◌then◌else◌, List, ◌∷◌, []}
 use Rattle.std.specs.Prelude.{length, slice_index}
 use Rattle.sixel_palette.specs.declared.dithering.error_line.ErrorLine.{ErrorLine}

@@ -1,13 +1,12 @@
 -- How code sees an image that is mapped to a palette, its places, and the entries that may be kept.
 use Rattle.std.specs.Prelude.{◌≡◌, ℕ, ◌+◌, ◌*◌, ◌/◌, ◌<◌, ◌≤◌, List, length, slice_index, Option}
 use Rattle.std.specs.Prelude.{Some, None}
-use Rattle.sixel_palette.specs.Palette.{IsOpaque, color_at}
+use Rattle.sixel_palette.specs.Palette.{IsNearest, IsOpaque, color_at, nearest, no_entry}
 use Rattle.sixel_palette.specs.declared.dithering.mapped.Kept.{Kept}
 use Rattle.sixel_palette.specs.declared.dithering.mapped.MappedImage.{MappedImage}
 use Rattle.sixel_palette.specs.declared.dithering.mapped.Place.{Place}
 use Rattle.sixel_palette.specs.Dithering.{IsIndex, Mapped, entry_distance, neighbor_of}
-use Rattle.sixel_palette.specs.Dithering.{least_distance, serpentine, whole_rows}
-use Rattle.sixel_palette.specs.Weights.{IsWeightedNearest, no_weighted}
+use Rattle.sixel_palette.specs.Dithering.{serpentine, whole_rows}
 
 -- the image, apart from where its pixels and colors lie
 abbrev pub mapped_value : MappedImage → Mapped
@@ -18,7 +17,6 @@ mapped_value image = record {
   strength = image.strength;
   amplitude = image.amplitude;
   tolerance = image.tolerance;
-  weights = image.weights;
 }
 
 -- the pixels are whole rows, and the palette has not too many colors
@@ -58,20 +56,20 @@ pub record IsKept (m : Mapped) (target : List ℕ) (neighbor : Option ℕ) (kept
     : Type 0 where
   pub some : kept.squared < no_distance
       → (neighbor ≡ Some kept.index) × (kept.index < length m.colors)
-      × (kept.squared ≡ entry_distance m target kept.index)
+      × (kept.squared ≡ entry_distance m.colors target kept.index)
   pub none : no_distance ≤ kept.squared → (entry : ℕ) → neighbor ≡ Some entry
-      → least_distance m target + m.tolerance ≤ entry_distance m target entry
+      → nearest m.colors target + m.tolerance ≤ entry_distance m.colors target entry
 
 -- an entry with its distance to a color
-abbrev pub kept_value : Mapped → List ℕ → Option ℕ → Kept
-kept_value m c None = record { squared = no_distance; index = 0 }
-kept_value m c (Some entry) = record { squared = entry_distance m c entry; index = entry }
+abbrev pub kept_value : List (List ℕ) → List ℕ → Option ℕ → Kept
+kept_value colors c None = record { squared = no_distance; index = 0 }
+kept_value colors c (Some entry) =
+    record { squared = entry_distance colors c entry; index = entry }
 
 -- an entry, if there is one, is one of the palette
-pub record IsInside (m : Mapped) (c : List ℕ) (neighbor : Option ℕ) : Type 0 where
-  pub entry : (entry : ℕ) → neighbor ≡ Some entry → entry < length m.colors
-  pub near : (entry : ℕ) → neighbor ≡ Some entry
-      → entry_distance m c entry < no_weighted m.weights
+pub record IsInside (colors : List (List ℕ)) (c : List ℕ) (neighbor : Option ℕ) : Type 0 where
+  pub entry : (entry : ℕ) → neighbor ≡ Some entry → entry < length colors
+  pub near : (entry : ℕ) → neighbor ≡ Some entry → entry_distance colors c entry < no_entry
 
 -- the pixel of a visit would have the index, if it were stored
 pub record IsIndexAt (m : Mapped) (target indices : List ℕ) (n index : ℕ) : Type 0 where
@@ -83,7 +81,7 @@ pub record IsIndexAt (m : Mapped) (target indices : List ℕ) (n index : ℕ) : 
 -- the pixel of a visit still has the index of its nearest entry
 pub record IsLater (m : Mapped) (indices : List ℕ) (n : ℕ) : Type 0 where
   pub opaque : IsOpaque m.pixels (serpentine m.width n)
-      → IsWeightedNearest m.weights m.colors (color_at m.pixels (serpentine m.width n))
+      → IsNearest m.colors (color_at m.pixels (serpentine m.width n))
       (slice_index indices (serpentine m.width n))
   pub hidden : slice_index m.pixels (4 * serpentine m.width n + 3) < 128
       → slice_index indices (serpentine m.width n) ≡ 0

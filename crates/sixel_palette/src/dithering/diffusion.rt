@@ -68,7 +68,7 @@ impl MappedImage<'_> {
         }
         Ok(Entries {
             search: Search::new(alloc, self.colors)?,
-            sixteen: SixteenEntries::of(self.colors, self.tolerance, self.weights),
+            sixteen: SixteenEntries::of(self.colors, self.tolerance),
             parts,
         })
     }

@@ -2,17 +2,15 @@
 
 ghost use Rattle.std.specs.Prelude.{◌≡◌, ◌+◌, ◌*◌, ◌/◌, ◌<◌, ◌≤◌, ℕ, IfOk, List, OnOk, Option};
 ghost use Rattle.std.specs.Prelude.{Some, length};
-ghost use Rattle.sixel_palette.specs.Palette.{color_at};
+ghost use Rattle.sixel_palette.specs.Palette.{IsNearest, color_at, nearest};
 ghost use Rattle.sixel_palette.specs.inside.PaletteKeys.{IsSearchOf};
 ghost use Rattle.sixel_palette.specs.Dithering.{IsIndex, column_of_step, entry_above};
 ghost use Rattle.sixel_palette.specs.Dithering.{entry_before, entry_of, neighbor_of};
-ghost use Rattle.sixel_palette.specs.Weights.{IsWeightedNearest, weighted_nearest};
 ghost use Rattle.sixel_palette.specs.inside.Mapped.{AreEntries, IsInside, IsKept, IsMappable};
 ghost use Rattle.sixel_palette.specs.inside.Mapped.{IsPlace, IsPlain, kept_value, mapped_value};
 
-use crate::dithering::weighted::{nearest_by_weights, weighted_distance};
-use crate::mapping::Weights;
 use crate::palette::colors::is_opaque;
+use crate::palette::distance::distance;
 use crate::palette::nearest::Search;
 use crate::palette::nearest_entry::NearestEntry;
 use std::alloc::AllocError;
@@ -29,8 +27,6 @@ pub struct MappedImage<'a> {
     pub amplitude: u8,
     /// By how much a kept entry may be farther than the nearest one.
     pub tolerance: u32,
-    /// How much each channel counts in a distance.
-    pub weights: Weights,
 }
 
 /// A step of a row, and its pixel.
@@ -89,7 +85,6 @@ impl<'a> MappedImage<'a> {
             strength: 0,
             amplitude: 0,
             tolerance: 0,
-            weights: Weights::Equal,
         }
     }
 }
@@ -132,7 +127,6 @@ impl MappedImage<'_> {
         target: [u8; 3],
     ) -> Result<u8, AllocError>
         requires some { 0 < length self.now.colors.now }
-        requires few { length self.now.colors.now ≤ 256 }
         requires search { IsSearchOf self.now.colors.now search.old }
         ensures index { IfOk result (λ index. (neighbor : Option ℕ)
             → IsKept (mapped_value self.now) target neighbor kept
@@ -142,37 +136,19 @@ impl MappedImage<'_> {
         if kept.squared < self.tolerance {
             return Ok(kept.index);
         }
-        let near = self.nearest(search, target)?;
+        let near = search.nearest_to(target)?;
         if self.tolerance == 0 {
             return Ok(near.index);
         }
         Ok(self.chosen(kept, near))
     }
 
-    /// Returns the entry nearest to a target.
-    #[inline(always)]
-    fn nearest(&self, search: &mut Search, target: [u8; 3]) -> Result<NearestEntry, AllocError>
-        requires some { 0 < length self.now.colors.now }
-        requires few { length self.now.colors.now ≤ 256 }
-        requires search { IsSearchOf self.now.colors.now search.old }
-        ensures nearest { IfOk result (λ near.
-            IsWeightedNearest self.now.weights self.now.colors.now target near.index) }
-        ensures squared { IfOk result (λ near.
-            near.squared ≡ weighted_nearest self.now.weights self.now.colors.now target) }
-        ensures search { OnOk result (IsSearchOf self.now.colors.now search.new) }
-    {
-        match self.weights {
-            Weights::Equal => search.nearest_to(target),
-            Weights::Luma => Ok(nearest_by_weights(self.weights, self.colors, target)),
-        }
-    }
-
     /// Returns the index of the entry that is kept, or the nearest one.
     #[inline(always)]
     pub fn chosen(&self, kept: Kept, near: NearestEntry) -> u8
         ensures { (target : List ℕ) (neighbor : Option ℕ)
-            → IsWeightedNearest self.now.weights self.now.colors.now target near.index
-            → near.squared ≡ weighted_nearest self.now.weights self.now.colors.now target
+            → IsNearest self.now.colors.now target near.index
+            → near.squared ≡ nearest self.now.colors.now target
             → IsKept (mapped_value self.now) target neighbor kept
             → IsIndex (mapped_value self.now) target neighbor result }
     {
@@ -234,13 +210,13 @@ impl MappedImage<'_> {
     #[inline(always)]
     fn kept_at(&self, entry: Option<u8>, target: [u8; 3]) -> Kept
         requires { (index : ℕ) → entry ≡ Some index → index < length self.now.colors.now }
-        ensures value { result ≡ kept_value (mapped_value self.now) target entry }
-        ensures inside { IsInside (mapped_value self.now) target entry }
+        ensures value { result ≡ kept_value self.now.colors.now target entry }
+        ensures inside { IsInside self.now.colors.now target entry }
     {
         match entry {
             None => NONE,
             Some(index) => Kept {
-                squared: weighted_distance(self.weights, self.colors[usize::from(index)], target),
+                squared: distance(self.colors[usize::from(index)], target),
                 index,
             },
         }

@@ -9,7 +9,6 @@ ghost use Rattle.sixel_palette.specs.inside.PaletteError.{HasNearest, IsErrorOf}
 use crate::dither::{Amplitude, Dither};
 use crate::dithering::mapped::MappedImage;
 use crate::dithering::nearest::Nearest;
-use crate::dithering::weighted::scaled;
 use crate::mapping::{Mapping, Tolerance};
 use crate::palette::colors::is_opaque;
 use crate::palette::distance::distance;
@@ -24,21 +23,20 @@ struct PaletteError {
 /// Returns the tolerance for the palette of an image.
 pub fn tolerance_of(image: &MappedImage<'_>, nearest: &Nearest<'_>, mapping: Mapping) -> u32
     requires { HasNearest image.now nearest.now }
-    ensures { result ≡ tolerance_of mapping image.now.colors.now image.now.pixels.now }
+    ensures { result ≡ tolerance_of mapping.dither mapping.tolerance image.now.colors.now
+        image.now.pixels.now }
 {
     match mapping.tolerance {
         Tolerance::Squared(squared) => squared,
         Tolerance::Auto => {
             let error = palette_error(image, nearest);
             if error.sum == 0 {
-                return 0;
-            }
-            let squared = if mapping.dither == Dither::Off {
+                0
+            } else if mapping.dither == Dither::Off {
                 (7 * error.mean() / 5).max(12)
             } else {
                 error.mean().max(12)
-            };
-            scaled(mapping.weights, squared)
+            }
         }
     }
 }

@@ -9,13 +9,13 @@ ghost use Rattle.sixel_palette.specs.Dithering.{IsIndex, Mapped, entry_distance,
 ghost use Rattle.sixel_palette.specs.inside.Diffusion.{channels};
 ghost use Rattle.sixel_palette.specs.inside.SixteenEntries.{AreSixteen, lane_key, lane_of};
 
-use crate::dithering::weighted::{channel_weights, no_weighted, weighted_distance};
-use crate::mapping::Weights;
+use crate::palette::distance::distance;
+use crate::palette::nearest_entry::NO_ENTRY;
 use crate::palette::nearest_indices::channel_bytes;
 use std::simd::prelude::*;
 
 /// What each key has, so that none is below 0: more than 64 times the square of any color.
-const KEY_BASE: u32 = 0x200_0000;
+const KEY_BASE: u32 = 0x100_0000;
 
 /// How many entries there are.
 const ENTRIES: usize = 16;
@@ -28,10 +28,6 @@ const KEYS: usize = 272;
 pub struct SixteenEntries {
     /// The colors: red, 256 times green, and 65536 times blue.
     pub codes: [u32; ENTRIES],
-    /// The red of each entry times its weight, and so on.
-    pub red: [u16; ENTRIES],
-    pub green: [u16; ENTRIES],
-    pub blue: [u16; ENTRIES],
     /// A row for each lane of the entry before: what each key has beside the product.
     pub before: [u32; KEYS],
     /// The same for the entry above.
@@ -40,33 +36,25 @@ pub struct SixteenEntries {
 
 impl SixteenEntries {
     /// Returns the entries of a palette of sixteen colors.
-    pub fn of(colors: &[[u8; 3]], tolerance: u32, weights: Weights) -> Option<SixteenEntries>
+    pub fn of(colors: &[[u8; 3]], tolerance: u32) -> Option<SixteenEntries>
         ensures sixteen { (entries : SixteenEntries) → result ≡ Some entries
             → length colors.now ≡ 16 }
         ensures lanes { (entries : SixteenEntries) → result ≡ Some entries
-            → AreSixteen weights colors.now tolerance entries }
+            → AreSixteen colors.now tolerance entries }
     {
         if colors.len() != ENTRIES {
             return None;
         }
         let mut codes = [0; ENTRIES];
-        let [by_red, by_green, by_blue] = channel_weights(weights);
-        let mut red = [0; ENTRIES];
-        let mut green = [0; ENTRIES];
-        let mut blue = [0; ENTRIES];
         let mut fixed = [0; ENTRIES];
         for index in 0..ENTRIES {
             let color = colors[index];
             channel_bytes(color);
             codes[index] = u32::from_le_bytes([color[0], color[1], color[2], 0]);
-            red[index] = by_red * u16::from(color[0]);
-            green[index] = by_green * u16::from(color[1]);
-            blue[index] = by_blue * u16::from(color[2]);
-            let square = weighted_distance(weights, color, [0, 0, 0]);
-            fixed[index] = KEY_BASE + 64 * square + index as u32;
+            fixed[index] = KEY_BASE + 64 * distance(color, [0, 0, 0]) + index as u32;
         }
         let near = tolerance.min(1);
-        let far = 64 * tolerance.min(no_weighted(weights));
+        let far = 64 * tolerance.min(NO_ENTRY);
         let mut before = [0; KEYS];
         let mut above = [0; KEYS];
         for at in 0..KEYS {
@@ -76,9 +64,6 @@ impl SixteenEntries {
         }
         Some(SixteenEntries {
             codes,
-            red,
-            green,
-            blue,
             before,
             above,
         })
@@ -99,9 +84,9 @@ impl SixteenEntries {
         requires above { (entry : ℕ) → above ≡ Some entry → entry < 16 }
         ensures within { result < 16 }
         ensures index { (m : Mapped) → length m.colors ≡ 16 → m.tolerance ≡ tolerance
-            → AreSixteen m.weights m.colors m.tolerance self.now
+            → AreSixteen m.colors m.tolerance self.now
             → IsIndex m (channels target)
-            (nearer_entry m (channels target) before above) result }
+            (nearer_entry m.colors (channels target) before above) result }
     {
         if let Some(index) = before
             && tolerance > 0
@@ -121,8 +106,9 @@ impl SixteenEntries {
     #[inline(always)]
     fn is_entry(&self, index: u8, color: u8x4) -> bool
         requires { index < 16 }
-        ensures { (m : Mapped) → result ≡ true → AreSixteen m.weights m.colors m.tolerance self.now
-            → entry_distance m (channels color) index ≡ 0 }
+        ensures { (colors : List (List ℕ)) (tolerance : ℕ) → result ≡ true
+            → AreSixteen colors tolerance self.now
+            → entry_distance colors (channels color) index ≡ 0 }
     {
         let code = u32::from_le_bytes(color.to_array());
         self.codes[usize::from(index)] == code % 0x100_0000
@@ -130,32 +116,35 @@ impl SixteenEntries {
 
     /// Returns the key of each entry.
     ///
-    /// LLVM multiplies lanes of 16 bits, since it knows that those of a channel have ten.
+    /// LLVM multiplies lanes of 16 bits, since it knows that those of a channel have 8.
     #[inline(always)]
     fn keys(&self, target: u8x4, before: usize, above: usize) -> [u32; ENTRIES]
         requires before { before ≤ 16 }
         requires above { above ≤ 16 }
-        ensures { (m : Mapped) (k : ℕ) → AreSixteen m.weights m.colors m.tolerance self.now
-            → k < 16 → slice_index result k ≡ lane_key m (channels target) before above k }
+        ensures { (colors : List (List ℕ)) (tolerance k : ℕ) → AreSixteen colors tolerance self.now
+            → k < 16 → slice_index result k
+            ≡ lane_key colors (channels target) tolerance before above k }
     {
         let scaled = (target.cast::<u16>() * u16x4::splat(128))
             .cast::<u32>()
             .to_array();
-        let products = lanes(self.red) * u32x16::splat(scaled[0])
-            + lanes(self.green) * u32x16::splat(scaled[1])
-            + lanes(self.blue) * u32x16::splat(scaled[2]);
+        let products = self.channel(0) * u32x16::splat(scaled[0])
+            + self.channel(8) * u32x16::splat(scaled[1])
+            + self.channel(16) * u32x16::splat(scaled[2]);
         let least = row(&self.before, before).simd_min(row(&self.above, above));
         (least - products).to_array()
     }
-}
 
-/// Returns a weighted channel of each entry, which has ten bits.
-#[inline(always)]
-fn lanes(channel: [u16; ENTRIES]) -> u32x16
-    ensures sixteen { length result ≡ 16 }
-    ensures each { (k : ℕ) → k < 16 → slice_index result k ≡ slice_index channel k % 1024 }
-{
-    (u16x16::from_array(channel) % u16x16::splat(1024)).cast::<u32>()
+    /// Returns the channel of each entry that has this place in the codes.
+    #[inline(always)]
+    fn channel(&self, shift: u32) -> u32x16
+        requires { shift < 32 }
+        ensures sixteen { length result ≡ 16 }
+        ensures each { (k : ℕ) → k < 16
+            → slice_index result k ≡ slice_index self.now.codes k / 2 ^ shift % 256 }
+    {
+        (u32x16::from_array(self.codes) >> u32x16::splat(shift)) % u32x16::splat(256)
+    }
 }
 
 /// Returns the row of a lane.

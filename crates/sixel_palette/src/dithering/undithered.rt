@@ -7,15 +7,13 @@ ghost use Rattle.sixel_palette.specs.inside.Mapped.{AreEntries, IsIndexAt, IsLat
 ghost use Rattle.sixel_palette.specs.inside.Mapped.{IsPlace, mapped_value};
 
 use crate::dithering::mapped::{MappedImage, Place, column_of_step};
-use crate::dithering::weighted::weighted_distance;
-use crate::mapping::Weights;
 use crate::palette::colors::is_opaque;
+use crate::palette::distance::distance;
 use crate::palette::nearest_entry::NearestEntry;
 
 /// Returns the palette index of each pixel, from the indices of their nearest entries.
 pub fn keep_entries(image: &MappedImage<'_>, nearest: Vec<u8>) -> Vec<u8>
     requires image { IsMappable image.now }
-    requires weights { image.now.weights ≡ Weights.Equal }
     requires nearest { AreIndices image.now.pixels.now image.now.colors.now nearest.items }
     ensures { AreMapped (mapped_value image.now)
         (λ n. color_at image.now.pixels.now (serpentine image.now.width n)) result.items }
@@ -57,7 +55,7 @@ impl MappedImage<'_> {
         let target = self.color(place.pixel);
         let kept = self.kept(indices, place, target);
         let near = NearestEntry {
-            squared: weighted_distance(self.weights, self.colors[usize::from(nearest)], target),
+            squared: distance(self.colors[usize::from(nearest)], target),
             index: nearest,
         };
         self.chosen(kept, near)

@@ -15,7 +15,7 @@ pub fn distance(a: [u8; 3], b: [u8; 3]) -> u32
 }
 
 /// The square of the difference of two channels.
-pub fn square_gap(a: u8, b: u8) -> u32
+fn square_gap(a: u8, b: u8) -> u32
     ensures value { result ≡ abs_diff a b * abs_diff a b }
     ensures small { result ≤ 65025 }
 {

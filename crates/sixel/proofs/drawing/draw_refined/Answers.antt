@@ -16,5 +16,5 @@ returns c =
       image,
       c.in_ok-image.ensures,
       no_call_fault (refined_fault c.args.max_colors image) _ (rw limit at encoded.fault),
-      rw (c.weights_for.ensures, limit) at encoded.text,
+      rw limit at encoded.text,
     )

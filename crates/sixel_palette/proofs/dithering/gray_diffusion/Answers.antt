@@ -1,4 +1,4 @@
-use Rattle.sixel_palette.proofs.GraySource.{errors-gray, is-gray, target-gray, weighted-gray}
+use Rattle.sixel_palette.proofs.GraySource.{errors-gray, is-gray, target-gray, distance-gray}
 use Rattle.sixel_palette.proofs.GraySource.{entry-gray, gray-color, gray-length}
 use Rattle.std.proofs.Common.{arith, ℕ, [], ◌+◌, ◌-◌, ◌*◌}
 use Rattle.std.proofs.lemmas.Bool.Decides.{nat_tests}
@@ -24,7 +24,7 @@ returns-clause-near c = λ m indices n entry grays has light inside.
     let index = slice_index indices (serpentine m.width n) in
     let target = target-gray m (errors_of m indices n) n grays (errors-gray m indices n grays) in
     let far = λ (i : ℕ).
-    weighted-gray m.weights (slice_index_or m.colors i []) color (entry-gray m i grays) target in
+    distance-gray (slice_index_or m.colors i []) color (entry-gray m i grays) target in
     let near =
     any-near m color (neighbor_of m color indices n) index entry (has.opaque light) inside in
     omega (arith, near, far index, far entry)

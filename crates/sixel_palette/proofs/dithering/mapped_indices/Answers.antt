@@ -1,11 +1,9 @@
-use Rattle.std.proofs.Common.{◌≡◌, ap, arith, subst, sym, ◌∙◌}
-use Rattle.std.specs.Prelude.{IfOk}
+use Rattle.std.proofs.Common.{◌≡◌, arith, subst, sym, ◌∙◌}
 use Rattle.sixel_palette.specs.declared.dither.Dither.{Dither}
 use Rattle.sixel_palette.specs.declared.mapping.Tolerance.TheVariants.{Auto}
-use Rattle.sixel_palette.specs.Dithering.{AreMapped, mapped_of, ordered_color, pattern_of}
-use Rattle.sixel_palette.specs.Dithering.{serpentine, target_of}
+use Rattle.sixel_palette.specs.Dithering.{AreMapped, mapped_of, target_of}
 use Rattle.sixel_palette.proofs.DiffusionLaws.{AreMapped-diffused}
-use Rattle.sixel_palette.proofs.DitheredIndices.{AreMapped-still, AreRows}
+use Rattle.sixel_palette.proofs.DitheredIndices.{AreRows}
 use Rattle.sixel_palette.proofs.PaletteError.{error-none, held-none}
 use Rattle.std.proofs.lemmas.Bool.Decides.{nat_tests}
 use Rattle.std.proofs.lemmas.Result.{IfOk-weaker}
@@ -13,21 +11,6 @@ use Rattle.sixel_palette.proofs.dithering.mapped_indices.Goals as goal
 
 pub returns-in_ok-indices-in-Off : goal.returns-in_ok-indices-in-Off
 returns-in_ok-indices-in-Off c = grind (arith, nat_tests)
-
--- the targets of a pattern without an amplitude are the colors
-pub returns-in-Off-2 : goal.returns-in-Off-2
-returns-in-Off-2 c =
-    let image = c.args.image.now in
-    let m = mapped_of c.args.mapping image.width image.pixels.now image.colors.now in
-    let off = c.in-Off-2.is in
-    let none : m.amplitude ≡ 0 =
-    ap (λ d. pattern_of d image.colors.now image.pixels.now) off in
-    let ordered : IfOk c.ordered_indices.result (λ indices.
-    AreMapped m (λ n. ordered_color m (serpentine m.width n)) indices.items) =
-    grind (arith, nat_tests) in
-    IfOk-weaker c.ordered_indices.result _ _ (λ indices are.
-    subst (λ (d : Dither). AreMapped m (target_of d m indices.items) indices.items) (sym off)
-    (AreMapped-still m indices.items none c.channel_bytes.ensures.bytes are)) ordered
 
 pub returns-in-Ordered : goal.returns-in-Ordered
 returns-in-Ordered c = grind (arith, nat_tests)

@@ -25,13 +25,12 @@ returns-clause-count c =
     c.in_ok-dithered_indices.field-0.items (grind (arith, nat_tests))
 
 pub returns-clause-nearest : goal.returns-clause-nearest
-returns-clause-nearest c = λ off exact equal.
+returns-clause-nearest c = λ off exact.
     let pixels = c.args.pixels.now in
     let m = mapped_of c.args.mapping c.args.width pixels c.args.colors.now in
     let indices = c.in_ok-dithered_indices.field-0.items in
     AreIndices-mapped m (target_of c.args.mapping.dither m indices) indices
-    (rows-of c m refl refl refl) (λ pixel i l light is. rw equal at is) (grind (arith, exact))
-    (grind (arith, nat_tests))
+    (rows-of c m refl refl refl) (grind (arith, exact)) (grind (arith, nat_tests))
     (λ n l light. ap (λ d. target_of d m indices n) off)
 
 pub returns-clause-exact : goal.returns-clause-exact
@@ -49,7 +48,7 @@ returns-clause-exact c = λ strength is none held.
     → color_at s pixel ≡ color_at pixels pixel =
     λ pixel l light. grind (arith, nat_tests, chosen-own) in
     let kept : AreHeld m = λ pixel l light. grind (arith, nat_tests) in
-    let exact : tolerance_of c.args.mapping colors s ≡ 0 =
+    let exact : tolerance_of dither c.args.mapping.tolerance colors s ≡ 0 =
     grind (arith, nat_tests, colors, s, tolerance-held, kept) in
     let three : All (λ p. length p ≡ 3) colors =
     λ k e l. grind (arith, nat_tests, get_or_default, colors) in

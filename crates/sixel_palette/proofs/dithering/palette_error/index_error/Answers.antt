@@ -1,9 +1,8 @@
 use Rattle.std.proofs.Common.{arith, refl}
 use Rattle.sixel_palette.specs.Refined.{sum_to}
 use Rattle.sixel_palette.proofs.PaletteSums.{sum_to-more}
+use Rattle.sixel_palette.proofs.KeptEntries.{nearest-distance}
 use Rattle.sixel_palette.proofs.PaletteError.{number-light}
-use Rattle.sixel_palette.proofs.Weights.{weighted_nearest-distance}
-use Rattle.sixel_palette.specs.declared.mapping.Weights.TheVariants.{Equal}
 use Rattle.std.proofs.lemmas.Bool.Decides.{nat_tests}
 use Rattle.sixel_palette.proofs.dithering.palette_error.index_error.Goals as goal
 
@@ -13,9 +12,9 @@ loop-pixel-init c = record { sum = refl; small = omega arith }
 
 pub loop-pixel-preserved : goal.loop-pixel-preserved
 loop-pixel-preserved c =
-    let are = c.requires in
+    let near = c.requires in
     let opaque = c.is_opaque.ensures.opaque in
-    grind (arith, nat_tests, are.opaque, sum_to-more, weighted_nearest-distance Equal, number-light)
+    grind (arith, nat_tests, near.opaque, sum_to-more, nearest-distance, number-light)
 
 pub returns : goal.returns
 returns c = grind (arith, nat_tests)

@@ -18,8 +18,7 @@ loop-row-init c =
       size = c.requires.nearest.one_each;
       entries = AreEntries-indices m c.args.nearest.items rows c.requires.nearest;
       each = λ k l. absurd (omega (arith, l));
-      later = λ k _ l.
-          IsLater-indices m c.args.nearest.items k rows c.requires.weights c.requires.nearest l;
+      later = λ k _ l. IsLater-indices m c.args.nearest.items k rows c.requires.nearest l;
     }
 
 pub loop-step-init : goal.loop-step-init
@@ -63,8 +62,7 @@ pub returns-then-image-eq0 : goal.returns-then-image-eq0
 returns-then-image-eq0 c =
     let m = mapped_value c.args.image.now in
     AreMapped-exact m (λ n. color_at m.pixels (serpentine m.width n)) c.args.nearest.items
-    (AreRows-image c.args.image.now c.requires.image)
-    (λ pixel i l light is. rw c.requires.weights is) (omega (arith, c.if-image-eq0.true))
+    (AreRows-image c.args.image.now c.requires.image) (omega (arith, c.if-image-eq0.true))
     c.requires.nearest (λ n l light. refl)
 
 pub kept_index-index-requires-clause-nearest : goal.kept_index-index-requires-clause-nearest

@@ -1,9 +1,7 @@
 use Rattle.std.proofs.Common.{◌≡◌, ◌<◌, [], get_or, take, ⊎_elim, arith}
 use Rattle.std.proofs.lemmas.Bool.{cases_lt}
 use Rattle.std.proofs.lemmas.List.{get_or_default, get_or-take, length-take}
-use Rattle.sixel_palette.proofs.PaletteNearest.{nearest-le}
-use Rattle.sixel_palette.proofs.Weights.{weighted_nearest-reached}
-use Rattle.sixel_palette.specs.declared.mapping.Weights.TheVariants.{Equal}
+use Rattle.sixel_palette.proofs.PaletteNearest.{nearest-le, nearest-reached}
 use Rattle.sixel_palette.proofs.palette.refined.least_apart.Goals as goal
 
 pub loop-position-init : goal.loop-position-init
@@ -32,7 +30,7 @@ loop-position-preserved c =
       reached = λ d.
           ⊎_elim (λ less.
           let some =
-          weighted_nearest-reached Equal front last d
+          nearest-reached front last d
           (omega (arith, c.squared_to_nearest.ensures, less, h.small)) in
           let m : some.0 < position = omega (arith, some.1, length-take position colors) in (
             some.0,

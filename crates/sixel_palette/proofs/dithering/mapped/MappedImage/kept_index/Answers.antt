@@ -1,11 +1,10 @@
 use Rattle.std.proofs.Common.{◌≡◌, ◌∙◌, arith, sym, subst}
 use Rattle.std.specs.Prelude.{List, ℕ, ◌+◌, ◌*◌, slice_index}
-use Rattle.sixel_palette.specs.Palette.{IsOpaque, color_at}
+use Rattle.sixel_palette.specs.Palette.{IsNearest, IsOpaque, color_at}
 use Rattle.sixel_palette.specs.Dithering.{IsIndex, entry_distance, neighbor_of}
 use Rattle.sixel_palette.specs.inside.Mapped.{mapped_value}
 use Rattle.sixel_palette.proofs.DitheredIndices.{IsIndexAt-light}
-use Rattle.sixel_palette.proofs.Weights.{weighted_nearest-distance}
-use Rattle.sixel_palette.specs.Weights.{IsWeightedNearest}
+use Rattle.sixel_palette.proofs.KeptEntries.{nearest-distance}
 use Rattle.std.proofs.lemmas.Bool.Decides.{nat_tests}
 use Rattle.sixel_palette.proofs.dithering.mapped.MappedImage.kept_index.Goals as goal
 
@@ -25,18 +24,14 @@ returns c =
     subst (IsOpaque m.pixels) (sym c.requires.place.pixel)
     (c.is_opaque.ensures.opaque c.if-not-is_opaque.false) in
     let near =
-    subst (λ (t : List ℕ). IsWeightedNearest m.weights m.colors t index)
-    (sym c.color-target.ensures)
+    subst (λ (t : List ℕ). IsNearest m.colors t index) (sym c.color-target.ensures)
     (subst
-    (λ (p : ℕ).
-    IsWeightedNearest m.weights m.colors (color_at m.pixels p) (slice_index c.args.indices.now p))
+    (λ (p : ℕ). IsNearest m.colors (color_at m.pixels p) (slice_index c.args.indices.now p))
     c.requires.place.pixel (c.requires.nearest.opaque light)) in
-    let at : c.weighted_distance.result ≡ entry_distance m target index =
-    grind (arith, nat_tests) in
+    let at : c.distance.result ≡ entry_distance m.colors target index = grind (arith, nat_tests) in
     let least =
     at
-    ∙ weighted_nearest-distance m.weights m.colors target index near
-    (omega (arith, at, c.weighted_distance.ensures.small)) in
+    ∙ nearest-distance m.colors target index near (omega (arith, at, c.distance.ensures.small)) in
     IsIndexAt-light m (color_at m.pixels c.args.place.pixel) c.args.indices.now n
     c.chosen.result light
     (subst (λ (t : List ℕ). IsIndex m t (neighbor_of m t c.args.indices.now n) c.chosen.result)

@@ -1,12 +1,11 @@
 use Rattle.std.proofs.Common.{arith}
 use Rattle.sixel_palette.proofs.KeptEntries.{neighbor-inside, IsKept-value}
 use Rattle.std.proofs.lemmas.Bool.Decides.{nat_tests}
-use Rattle.sixel_palette.proofs.Weights.{weighted_nearest-le}
+use Rattle.sixel_palette.proofs.PaletteNearest.{nearest-le}
 use Rattle.sixel_palette.proofs.dithering.mapped.MappedImage.neighbors.Goals as goal
 
 pub returns-then-self-eq0-clause-before : goal.returns-then-self-eq0-clause-before
-returns-then-self-eq0-clause-before c =
-    grind (arith, nat_tests, weighted_nearest-le, neighbor-inside)
+returns-then-self-eq0-clause-before c = grind (arith, nat_tests, nearest-le, neighbor-inside)
 
 pub returns-clause-above : goal.returns-clause-above
 returns-clause-above c =

@@ -23,7 +23,7 @@ returns-clause-index c = λ m all same are.
     let entry = c.requires.before c.in-Some.index c.in-Some.is in
     rw (c.in-Some.is) (IsIndex-before m _ c.in-Some.index c.args.above
     (omega (arith, all, entry)) (omega (arith, same, c.if-tolerance-gt0.true))
-    (c.if-is_entry.ensures m refl are))
+    (c.if-is_entry.ensures m.colors m.tolerance refl are))
 
 pub returns-2-clause-index : goal.returns-2-clause-index
 returns-2-clause-index c = λ m all same are.
@@ -32,6 +32,6 @@ returns-2-clause-index c = λ m all same are.
     c.loop-lane.least all are c.requires.before c.requires.above
     (byte_lanes c.args.target c.fits-target.1)
     (λ k lk.
-    let key = c.keys-keys.ensures m k are lk in
+    let key = c.keys-keys.ensures m.colors m.tolerance k are lk in
     grind (arith, c.lane_of.ensures, c.lane_of-2.ensures)) l reached
     (λ k lk. c.loop-lane.invariant.lower k (omega (arith, lk, c.loop-lane-test.false)))

@@ -1,5 +1,5 @@
 use Rattle.std.proofs.Common.{◌≡◌, ℕ, ◌+◌, ◌*◌, ◌/◌, ◌%◌, ◌<◌, ◌≤◌, [], length, get_or}
-use Rattle.sixel_palette.specs.inside.SixteenEntries.{beside, fixed_key, weighted_channel}
+use Rattle.sixel_palette.specs.inside.SixteenEntries.{beside, fixed_key}
 use Rattle.sixel_palette.proofs.dithering.sixteen_entries.SixteenEntries.of.Given as goal
 
 abbrev pub invariant-loop-index : goal.invariant-loop-index
@@ -11,17 +11,8 @@ invariant-loop-index l = record {
       → get_or l.codes k 0
       ≡ get_or (get_or l.colors k []) 0 0 + 256 * get_or (get_or l.colors k []) 1 0
       + 65536 * get_or (get_or l.colors k []) 2 0;
-  size_red : length l.red ≡ 16;
-  size_green : length l.green ≡ 16;
-  size_blue : length l.blue ≡ 16;
-  red : (k : ℕ) → k < l.index
-      → get_or l.red k 0 ≡ weighted_channel l.weights (get_or l.colors k []) 0;
-  green : (k : ℕ) → k < l.index
-      → get_or l.green k 0 ≡ weighted_channel l.weights (get_or l.colors k []) 1;
-  blue : (k : ℕ) → k < l.index
-      → get_or l.blue k 0 ≡ weighted_channel l.weights (get_or l.colors k []) 2;
-  fixed : (k : ℕ) → k < l.index → get_or l.fixed k 0 ≡ fixed_key l.weights l.colors k;
-  small : (k : ℕ) → k < l.index → get_or l.fixed k 0 ≤ 62685647;
+  fixed : (k : ℕ) → k < l.index → get_or l.fixed k 0 ≡ fixed_key l.colors k;
+  small : (k : ℕ) → k < l.index → get_or l.fixed k 0 ≤ 29262095;
 }
 
 abbrev pub invariant-loop-at : goal.invariant-loop-at
@@ -29,7 +20,7 @@ invariant-loop-at l = record {
   size_before : length l.before ≡ 272;
   size_above : length l.above ≡ 272;
   before : (i : ℕ) → i < l.at
-      → get_or l.before i 0 ≡ beside l.fn.weights l.colors l.tolerance (i / 16) 16 (i % 16);
+      → get_or l.before i 0 ≡ beside l.colors l.tolerance (i / 16) 16 (i % 16);
   above : (i : ℕ) → i < l.at
-      → get_or l.above i 0 ≡ beside l.fn.weights l.colors l.tolerance (i / 16) 32 (i % 16);
+      → get_or l.above i 0 ≡ beside l.colors l.tolerance (i / 16) 32 (i % 16);
 }
