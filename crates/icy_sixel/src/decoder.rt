@@ -41,7 +41,8 @@ pub use stream::SixelStreamDecoder;
 ///
 /// A register has the color that the host set or a decoded image defined. An error changes no
 /// register. The settings are whether images are cropped, how many pixels an image can have, and
-/// its clip. They apply to each image and session that is begun afterwards.
+/// its clip. A receiver also sets whether images are lenient or have a transparent background. All
+/// apply to each image and session that is begun afterwards.
 #[derive(Clone, Debug, Drop)]
 pub struct SixelDecoder {
     pub(crate) state: DecoderState,

@@ -78,7 +78,7 @@ typedef struct {
 typedef struct {
     size_t consumed; /* bytes of the chunk that belong to the image; the caller parses the rest */
     uint32_t status; /* an enum icysixel_status: what to do next */
-    uint8_t byte;    /* the control byte that ended the image early, or 0 */
+    uint8_t byte;    /* the control byte that ended a payload, or a DCS sequence early; or 0 */
 } icysixel_fed;
 
 /* A size in pixels. */
@@ -259,9 +259,9 @@ enum icysixel_form {
 /* What to do after a feed. */
 enum icysixel_status {
     ICYSIXEL_MORE = 0,        /* feed the next chunk */
-    ICYSIXEL_COMPLETE = 1,    /* the image has ended: finish */
-    ICYSIXEL_CANCELLED = 2,   /* CAN or SUB, in `byte`, ended it early: finish or abort */
-    ICYSIXEL_INTERRUPTED = 3, /* another control, in `byte`, ended it early: finish or abort */
+    ICYSIXEL_COMPLETE = 1,    /* the image has ended, a payload by any terminator: finish */
+    ICYSIXEL_CANCELLED = 2,   /* CAN or SUB, in `byte`, ended a DCS sequence: finish or abort */
+    ICYSIXEL_INTERRUPTED = 3, /* another control, in `byte`, ended one early: finish or abort */
     ICYSIXEL_ROWS = 4         /* from icysixel_feed_band: rows became final; feed the next bytes */
 };
 
@@ -346,7 +346,8 @@ uint64_t icysixel_get_canvas_paints(icysixel *handle);
  * - ICYSIXEL_NO_SESSION if no image is open;
  * - ICYSIXEL_ROWS_NOT_FINAL if first + rows is above icysixel_get_rows_so_far;
  * - ICYSIXEL_ROWS_RELEASED if rows from `first` on were released;
- * - ICYSIXEL_BAD_STRIDE if the stride is shorter than a row or a pixel;
+ * - ICYSIXEL_BAD_STRIDE if the stride is shorter than a row or a pixel, or a row has more than
+ *   SIZE_MAX bytes;
  * - ICYSIXEL_OVERFLOW if the rows overflow size_t;
  * - ICYSIXEL_BUFFER_TOO_SMALL. */
 uint32_t icysixel_copy_rows(icysixel *handle, size_t first, size_t rows,
@@ -392,7 +393,8 @@ uint32_t icysixel_decode_payload(icysixel *handle, const uint8_t *bytes, size_t 
  * - ICYSIXEL_NO_IMAGE;
  * - ICYSIXEL_ROWS_NOT_FINAL if first + rows is above the height;
  * - ICYSIXEL_ROWS_RELEASED if `first` is less than `first_row` of the shape;
- * - ICYSIXEL_BAD_STRIDE if the stride is shorter than a row or a pixel;
+ * - ICYSIXEL_BAD_STRIDE if the stride is shorter than a row or a pixel, or a row has more than
+ *   SIZE_MAX bytes;
  * - ICYSIXEL_OVERFLOW if the rows overflow size_t;
  * - ICYSIXEL_BUFFER_TOO_SMALL. */
 uint32_t icysixel_copy_pixels(icysixel *handle, size_t first, size_t rows,
@@ -456,7 +458,7 @@ uint8_t icysixel_get_lenient(icysixel *handle);
  * - A sixel outside of the limits is not drawn and does not move the position. Its repeat count is
  *   used up.
  * - A payload fails only with ICYSIXEL_OUT_OF_MEMORY. A DCS sequence can also have no introducer or
- *   an invalid header.
+ *   an invalid header, or end in its header.
  * - icysixel_finish of a DCS sequence without terminator stores its image so far, once its payload
  *   has begun. Then `is_complete` of the shape is 0. */
 void icysixel_set_lenient(icysixel *handle, uint8_t on);
@@ -494,12 +496,14 @@ void icysixel_set_clip(icysixel *handle, size_t width, size_t height);
  *
  * - A refined palette has at most max_colors entries. A decoder shows them without rounding.
  * - A farthest palette has at most max_colors entries, where 1 is taken as 2 and a number above 256
- *   as 256. It has no dithering.
+ *   as 256. It has neither dithering nor a tolerance.
  * - In a given palette pixels have the indices of icysixel_palette_indices. Indexed pixels have
  *   their own, without dithering or tolerance.
  *
- * With a tolerance a pixel keeps the entry of the pixel before or above, unless the nearest entry
- * is nearer by the tolerance or more. So runs are longer, and the output is shorter.
+ * With a tolerance a pixel keeps the entry of an opaque neighbor, unless the nearest entry is
+ * nearer by the tolerance or more. Neighbors are the pixel above in the same band of six rows, and
+ * the pixel before: on the left in even rows, and on the right in odd ones. So runs are longer, and
+ * the output is shorter.
  *
  * The errors, in this order, are:
  *

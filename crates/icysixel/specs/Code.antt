@@ -70,7 +70,7 @@ status_code (Dcs string.Complete) = 1
 status_code (Dcs (string.Cancelled byte)) = 2
 status_code (Dcs (string.Interrupted byte)) = 3
 
--- the control byte that ended it early, or 0
+-- the control byte that ended a payload, or a DCS sequence early; or 0
 abbrev pub status_byte : Status → ℕ
 status_byte (Payload payload.NeedMoreData) = 0
 status_byte (Payload (payload.Terminated byte)) = byte

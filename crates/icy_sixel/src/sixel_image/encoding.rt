@@ -252,6 +252,8 @@ impl SixelImage {
     }
 
     /// Returns the output of [`encode`](Self::encode), or a line with its error.
+    ///
+    /// The line is `[SIXEL encoding failed: ` with the text of the error and `]`.
     pub fn to_display_string(&self, alloc: Global) -> Result<String>
         ensures memory { IfErr result (λ e. e ≡ SixelError.OutOfMemory) }
         ensures text { image_fault (image_value self.now) ≡ None
