@@ -26,7 +26,8 @@ HELGRIND = ["valgrind", "-q", "--tool=helgrind", "--error-exitcode=9"]
 NEEDED = {*"memcpy memmove memset rattle_alloc rattle_dealloc rattle_realloc".split()}
 # Payloads that are fed in chunks of a length, and the most instructions, a tenth more than they took:
 # sixels over what is drawn, in one byte and in two; short runs, in single bytes; runs over a whole
-# row; and bands, each twice as wide as the one before.
+# row; bands, each twice as wide as the one before; and narrow bands below a wide one, each of which
+# is released.
 SIXELS = b"!200~$" + 200 * (20 * b"?@A~]^Zo" + b"$")
 FEEDS = [
     (1, SIXELS, 3_520_000),
@@ -34,6 +35,7 @@ FEEDS = [
     (1, 500 * b"#1!9~$", 710_000),
     (4096, 500 * b"!65535~$", 6_810_000),
     (4096, 500 * b"~-" + b"".join(b"!%d~-" % (2**it) for it in range(1, 12)), 27_300_000),
+    ("2 release", b"!65535~-" + 160 * b"~-", 5_500_000),
 ]
 
 
@@ -110,7 +112,8 @@ class TestC(unittest.TestCase):
         for length, payload, most in FEEDS:
             with self.subTest(length=length, payload=payload[:20]):
                 text = b"\x1bPq" + payload + b"\x1b\\"
-                self.assertLess(instructions(self.program("feed"), str(length), stdin=text), most)
+                words = str(length).split()
+                self.assertLess(instructions(self.program("feed"), *words, stdin=text), most)
 
     def test_examples(self):
         """Each example decodes images of its input, or reports why it rejects them."""

@@ -186,6 +186,29 @@ class TestPrograms(ProgramTest):
             dashed = b"-d: No such file or directory (os error 2)\n"
             self.ends([*words[:4], "-d"], b"", (1, sequence, dashed))
 
+    def test_files_with_options(self):
+        """The options and the palette file are those of each file that is named."""
+        folder = Path(self.enterContext(tempfile.TemporaryDirectory()))
+        palette, picture, grays = (folder / it for it in ("palette", "picture", "grays"))
+        palette.write_bytes(b"P6 2 1 255\n\0\xff\0\0\0\xff")
+        picture.write_bytes(b"P6 1 1 255\n\x10\xf0\x10")
+        grays.write_bytes(b"P5 2 1 255\n\0\xff")
+        green = b'\x1bP9;1;0q"1;1;1;1#0;2;0;100;0#0@\x1b\\'
+        words = ["draw", "-p", palette, "-d", "none", picture, picture]
+        self.ends(words, b"", (0, 2 * green, b""))
+        mean = b'\x1bP9;1;0q"1;1;2;1#0;2;50;50;50#0@@\x1b\\'
+        self.ends(["draw", "-c", "1", grays], b"", (0, mean, b""))
+
+    def test_largest_image(self):
+        """67 million pixels of background are decoded, and encoded again, without an error."""
+        program = builds_of("sixel")[0]
+        pixels = '"$0" payload | tail -c +21 | head -c 268304400'
+        bands = 1365 * b"#0!8190~$-"
+        text = b'\x1bP9;1;0q"1;1;8190;8190#0;2;0;0;0%s\x1b\\' % bands
+        script = f'{pixels} | "$0" encode 8190 8190 2'
+        ended = run("sh", "-c", script, program, stdin=b'"1;1;8190;8190', timeout=600)
+        self.assertEqual(ended, (0, text, b""))
+
     def test_memory(self):
         for arguments, stdin, expected in MEMORY:
             self.ends(arguments.split(), stdin, expected, memory=200_000)
