@@ -15,6 +15,16 @@ EXAMPLES = {
     "c": [*ROOT.glob("examples/*.c")],
 }
 DOCUMENTS = [*ROOT.glob("*.md"), *sorted(ROOT.glob("docs/*.md"))]
+# A file of definitions that a document names, and those that it names of the file.
+CITED = re.compile(r"`(\w+)::([A-Z]\w*)`(?:\s\(((?:`\w+`,?\s?)+)\))?")
+DEFINITIONS = re.compile(
+    r"^pub use .*\{(.*)\}|^\w* ?pub (?:record |data )?(\w+)|^  (?:pub )?(\w+) :", re.M
+)
+CODE = re.compile(
+    r"\b(?:fn|struct|enum|trait|mod) (\w+)|\bensures\*? (\w+) \{|^    (\w+)[,:({]", re.M
+)
+# Words in code spans that are no definition of this repository.
+WORDS = {*"P Send Sync frames icy_sixel img2sixel malloc q rt sixel2png t".split()}
 LINK = re.compile(r"\]\(([^)#:]+)(?:#[^)]*)?\)|^\[[^]]+\]: ([^#:\n]+)$", re.M)
 # The commands of README that run, prove and test this repository. The first two write the same.
 TRY = [
@@ -45,6 +55,12 @@ def blocks():
 def lines_of(text):
     """The lines of a text without their indentation, each after a line end."""
     return "".join(f"\n{it.strip()}" for it in text.splitlines() if it.strip()) + "\n"
+
+
+def names_in(pattern, files):
+    """The names that a pattern finds in files."""
+    found = (it for file in files for groups in pattern.findall(file.read_text()) for it in groups)
+    return {name for it in found for name in re.findall(r"\w+", it)}
 
 
 def folder_of_imagemagick():
@@ -82,6 +98,23 @@ class TestDocuments(unittest.TestCase):
             with self.subTest(command=command):
                 ended = run("sh", "-c", command, cwd=ROOT, timeout=600)
                 self.assertEqual(ended[:2], (0, output), ended[2].decode())
+
+    def test_definitions(self):
+        """Each definition that a document names exists, in the file that the document names."""
+        specs = [*ROOT.glob("crates/*/specs/**/*.antt")]
+        names = names_in(DEFINITIONS, specs) | {it.stem for it in specs} | WORDS
+        names |= names_in(CODE, ROOT.glob("crates/*/src/**/*.rt"))
+        for page in ("FORMAT", "VERIFICATION", "SESSION"):
+            text = (ROOT / f"docs/{page}.md").read_text()
+            text = re.sub(r"^```.*?^```", "", text, flags=re.M | re.S)
+            with self.subTest(page):
+                self.assertEqual({*re.findall(r"`([A-Za-z_]\w*)`", text)} - names, set())
+            for crate, file, cited in CITED.findall(text):
+                path = ROOT / f"crates/{crate}/specs/{file}.antt"
+                with self.subTest(page=page, file=f"{crate}::{file}"):
+                    self.assertTrue(path.is_file())
+                    defined = names_in(DEFINITIONS, [path])
+                    self.assertLessEqual({*re.findall(r"\w+", cited)}, defined)
 
     def test_readme_lines(self):
         """The lines of README on PNG files keep an image in black and white."""
