@@ -14,8 +14,7 @@ use Rattle.icy_sixel.specs.FinalRows as receivers
 use Rattle.icy_sixel.specs.ReceivedImages.{received_fault, received_pixel}
 use Rattle.icy_sixel.specs.Receiver.{Reception, is_open, size}
 use Rattle.icy_sixel.specs.declared.receiver.received_image.ReceivedImage.{ReceivedImage}
-use Rattle.sixel_canvas.specs.Layout.{in_order}
-use Rattle.sixel_canvas.specs.inside.FinalRows.{pixel_at}
+use Rattle.sixel_canvas.specs.Layout.{in_order, pixel_at}
 use Rattle.sixel_canvas.specs.declared.channels.ChannelOrder.{ChannelOrder}
 use Rattle.sixel_canvas.specs.declared.channels.ChannelOrder.TheVariants.{Rgba, Bgra}
 use Rattle.icysixel.specs.Kept.{AreKept}

@@ -13,10 +13,14 @@ in_order Rgba pixel = pixel
 in_order Bgra pixel =
     slice_index pixel 2 ∷ slice_index pixel 1 ∷ slice_index pixel 0 ∷ slice_index pixel 3 ∷ []
 
+-- the bytes of the pixel at this index
+abbrev pub pixel_at : List ℕ → ℕ → List ℕ
+pixel_at bytes i = take 4 (drop (4 * i) bytes)
+
 -- the pixel at this place of rows that are stored without gaps, and background elsewhere
 abbrev pub stored_pixel : List ℕ → ℕ → ℕ → List ℕ → ℕ → ℕ → List ℕ
 stored_pixel bytes width rows background column row =
-    if nat_lt column width && nat_lt row rows then take 4 (drop (4 * (row * width + column)) bytes)
+    if nat_lt column width && nat_lt row rows then pixel_at bytes (row * width + column)
     else background
 
 -- how many bytes these rows take: a stride for each row but the last

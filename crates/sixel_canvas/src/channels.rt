@@ -1,8 +1,7 @@
 //! The layout of rows in a caller's memory: stride and order of channels.
 ghost use Rattle.std.specs.Prelude.{◌≡◌, ℕ, ◌/◌, ◌%◌, ◌<◌, nat_lt, length, slice_index};
 ghost use Rattle.std.specs.Prelude.{if◌then◌else◌};
-ghost use Rattle.sixel_canvas.specs.Layout.{in_order};
-ghost use Rattle.sixel_canvas.specs.inside.FinalRows.{pixel_at};
+ghost use Rattle.sixel_canvas.specs.Layout.{in_order, pixel_at};
 
 use crate::span::fill_rgba_span;
 

@@ -3,8 +3,7 @@
 ghost use Rattle.std.specs.Prelude.{◌≡◌, ℕ, ◌-◌, ◌*◌, ◌/◌, ◌%◌, ◌<◌, List, length, slice_index};
 ghost use Rattle.std.specs.Prelude.{Some, Ok, IfOk};
 ghost use Rattle.sixel_base.specs.CallFault.{FailsBy, RowsReleased};
-ghost use Rattle.sixel_canvas.specs.Layout.{in_order};
-ghost use Rattle.sixel_canvas.specs.inside.FinalRows.{pixel_at};
+ghost use Rattle.sixel_canvas.specs.Layout.{in_order, pixel_at};
 ghost use Rattle.sixel_decoder.specs.PictureView.{picture_report, picture_value, whole_image};
 
 use crate::receiver::rows::check_rows;

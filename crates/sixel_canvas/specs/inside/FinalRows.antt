@@ -1,7 +1,7 @@
 -- What the final rows of an image show: the pixel at each place, in bytes of four a pixel, row by
 -- row, and background where there is none. The layout is that of the image, as Picture of
 -- sixel_base has it.
-use Rattle.std.specs.Prelude.{◌≡◌, ℕ, ◌+◌, ◌*◌, ◌≤◌, List, length, take, drop}
+use Rattle.std.specs.Prelude.{◌≡◌, ℕ, ◌+◌, ◌*◌, ◌≤◌, List, length}
 use Rattle.sixel_canvas.specs.Layout.{stored_pixel}
 
 -- the background, the bytes of the rows, how many columns and rows they have, for how many bytes
@@ -28,10 +28,6 @@ rows_state background bytes width rows room moved = record {
 -- how many pixels are stored
 abbrev pub stored_area : RowsState → ℕ
 stored_area rows = rows.rows * rows.width
-
--- the bytes of the pixel at this index
-abbrev pub pixel_at : List ℕ → ℕ → List ℕ
-pixel_at bytes i = take 4 (drop (4 * i) bytes)
 
 -- the pixel at this place
 abbrev pub final : RowsState → ℕ → ℕ → List ℕ

@@ -1,6 +1,5 @@
 use Rattle.std.proofs.Common.{ℕ, ◌+◌, ◌*◌, ◌≤◌, ◌∙◌, length, ap, arith}
-use Rattle.sixel_canvas.specs.Layout.{in_order}
-use Rattle.sixel_canvas.specs.inside.FinalRows.{pixel_at}
+use Rattle.sixel_canvas.specs.Layout.{in_order, pixel_at}
 use Rattle.sixel_canvas.proofs.PixelBytes.{pixel_kept, pixel_four, put_len, put_more, put_past}
 use Rattle.sixel_canvas.proofs.channels.reorder.Goals as goal
 

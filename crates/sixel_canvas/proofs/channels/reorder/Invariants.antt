@@ -1,7 +1,6 @@
 use Rattle.std.proofs.Common.{◌≡◌, ℕ, ◌*◌, ◌/◌, ◌%◌, ◌<◌, ◌≤◌, length}
 use Rattle.std.specs.Prelude.{slice_index}
-use Rattle.sixel_canvas.specs.Layout.{in_order}
-use Rattle.sixel_canvas.specs.inside.FinalRows.{pixel_at}
+use Rattle.sixel_canvas.specs.Layout.{in_order, pixel_at}
 use Rattle.sixel_canvas.proofs.channels.reorder.Given as goal
 
 abbrev pub invariant-ordered : goal.invariant-ordered

@@ -1,6 +1,6 @@
 use Rattle.std.proofs.Common.{◌≡◌, ℕ, ◌+◌, ◌*◌, ◌≤◌, ◌<◌, length}
 use Rattle.std.specs.Prelude.{max, nat_lt, if◌then◌else◌, vec_capacity}
-use Rattle.sixel_canvas.specs.inside.FinalRows.{pixel_at}
+use Rattle.sixel_canvas.specs.Layout.{pixel_at}
 use Rattle.sixel_canvas.proofs.final_rows.FinalRows.lay_out.Given as goal
 
 abbrev pub invariant-copied : goal.invariant-copied
