@@ -9,7 +9,7 @@ pub use Rattle.sixel_decoder.specs.FinishedImages.{end_fault, end_wants, failed,
 pub use Rattle.sixel_decoder.specs.Paints.{most_run_paints}
 pub use Rattle.sixel_decoder.specs.Reception.{Form, Nothing, OfPayload, OfString, Reception, begun}
 pub use Rattle.sixel_decoder.specs.Reception.{band_columns, drawn_height, final_rows, found}
-pub use Rattle.sixel_decoder.specs.Reception.{in_payload, size, sixels}
+pub use Rattle.sixel_decoder.specs.Reception.{in_payload, least_band_count, size, sixels}
 
 -- a decoder, and the image that it is receiving
 pub record Receiver : Type 0 where

@@ -2,7 +2,8 @@
 
 ghost use Rattle.std.specs.Prelude.{◌≡◌, ◌≢◌, ◌+◌, ◌*◌, ◌≤◌, Some, None, ℕ, true, false, cond};
 ghost use Rattle.icy_sixel.specs.Receiver.{band_columns, drawn_height, in_payload, is_open};
-ghost use Rattle.icy_sixel.specs.Receiver.{most_run_paints, sixels, size as size_of};
+ghost use Rattle.icy_sixel.specs.Receiver.{least_band_count, most_run_paints, sixels};
+ghost use Rattle.icy_sixel.specs.Receiver.{size as size_of};
 ghost use Rattle.icysixel.specs.declared.state.State.{State};
 
 use crate::code::Code;
@@ -54,6 +55,10 @@ pub extern "C" fn icysixel_get_canvas_paints(slot: &mut Slot) -> u64
     ensures none { slot.old.handle.state ≡ None → result ≡ 0 }
     ensures value { (state : State) → slot.old.handle.state ≡ Some state
         → result ≡ state.receiver.image.paints }
+    ensures at_least { (state : State) → slot.old.handle.state ≡ Some state
+        → state.receiver.image.is_refused ≡ false
+        → least_band_count state.receiver.image.start.pixel_limit
+        state.receiver.image.form state.receiver.image.bytes ≤ result }
     ensures at_most { (state : State) → slot.old.handle.state ≡ Some state
         → result ≤ 2 * band_columns state.receiver.image.start.pixel_limit
         state.receiver.image.form state.receiver.image.bytes

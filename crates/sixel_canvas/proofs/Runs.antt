@@ -3,7 +3,8 @@ use Rattle.std.proofs.Common.{◌≡◌, ℕ, ◌+◌, ◌*◌, ◌<◌, ◌≤�
 use Rattle.std.proofs.Common.{length, take, length-take, arith}
 use Rattle.sixel_canvas.specs.inside.BandCanvas.{IsPaid}
 use Rattle.sixel_canvas.specs.inside.Drawn.{Run, band_edge, drawn_columns, lowest_top, right_edge}
-use Rattle.sixel_canvas.specs.inside.Drawn.{run, runs_paint, with_sixels}
+use Rattle.sixel_canvas.specs.inside.Drawn.{run, runs_cost, runs_paint, with_sixels}
+use Rattle.sixel_canvas.specs.inside.Paints.{counted}
 use Rattle.std.proofs.lemmas.Bool.Decides.{nat_tests}
 
 -- what sixels of one column each, drawn after some runs, make of their edges, rows and columns
@@ -14,6 +15,7 @@ record AreDrawn (from : ℕ) (sixels : List ℕ) (top : ℕ) (runs all : List Ru
   here : 0 < length sixels → top ≤ lowest_top all
   most : band_edge all top ≤ max (band_edge runs top) (from + length sixels)
   kept : band_edge runs top ≤ band_edge all top
+  cost : runs_cost all ≤ runs_cost runs + length sixels
   others : (row : ℕ) → top < row → band_edge all row ≡ band_edge runs row
   spent : 2 * drawn_columns runs + runs_paint runs + 640 * length sixels + band_edge all top
       ≤ 2 * drawn_columns all + runs_paint all + band_edge runs top
@@ -40,9 +42,10 @@ lowest_here from sixels top runs len some few =
 pub paid-sixels :
     (cap cap' painted painted' extent extent' tagged tagged' top from len : ℕ) (sixels : List ℕ)
     (runs : List Run) → IsPaid cap painted extent tagged top runs → 0 < len →
-    len ≤ length sixels → cap' ≤ max cap (2 * (from + len) + 16) → painted' ≤ painted + 264 →
+    len ≤ length sixels → len ≤ 8 → cap' ≤ max cap (2 * (from + len) + 16) →
+    counted painted 8 ≤ painted' → painted' ≤ painted + 264 →
     extent' ≡ max extent (from + len) → tagged' ≡ tagged →
     IsPaid cap' painted' extent' tagged' top (with_sixels from (take len sixels) top runs)
 paid-sixels cap cap' painted painted' extent extent' tagged tagged' top from len sixels runs is some
-    few cap_is painted_is extent_is tagged_is =
+    few eight cap_is cost_is painted_is extent_is tagged_is =
     let all = are_drawn from (take len sixels) top runs in grind (arith, nat_tests, length-take)

@@ -288,6 +288,7 @@ impl BandCanvas {
         ensures tagged { self.new.band.tags.extent ≡ 0 }
         ensures painted { self.new.band.painted
             ≤ self.old.band.painted + 128 * self.old.band.tags.extent }
+        ensures counted { counted self.old.band.painted 0 ≤ self.new.band.painted }
         ensures moved { (named : ℕ) (runs : List Run) → AreMoved self.old named runs
             → AreMoved self.new named runs }
     {

@@ -8,8 +8,9 @@ use Rattle.sixel_base.specs.Payload.{first_fault}
 use Rattle.sixel_base.specs.PaintedArea.{size}
 use Rattle.sixel_canvas.specs.inside.BandCanvas.{AreMoved, BandCanvasState, IsPaid}
 use Rattle.sixel_canvas.specs.inside.Drawn.{drawn_columns, lowest_top, right_edge, runs_paint}
-use Rattle.sixel_canvas.specs.inside.Drawn.{band_edge as runs_edge}
+use Rattle.sixel_canvas.specs.inside.Drawn.{band_edge as runs_edge, runs_cost}
 use Rattle.sixel_decoder.specs.Paints.{sixels, band_columns, band_edge, band_room, area_of}
+use Rattle.sixel_decoder.specs.Paints.{least_band_count, least_band_paints}
 use Rattle.sixel_decoder.specs.Paints.{most_row_writes, most_run_paints}
 use Rattle.sixel_decoder.specs.inside.Runs.{named_width, runs_of}
 use Rattle.sixel_decoder.proofs.RunCosts.{span-fits}
@@ -41,13 +42,26 @@ runs_paint-history limit [] is = omega arith
 runs_paint-history limit (token ∷ h) is =
     grind (arith, nat_tests, runs_paint-history limit h, span-fits limit h)
 
+-- what the sixels are counted as at least
+runs_cost-history : (limit : Limit) (h : History)
+    → runs_cost (runs_of limit h) ≡ least_band_paints limit h
+runs_cost-history limit [] = refl
+runs_cost-history limit (token ∷ h) = grind (arith, nat_tests, runs_cost-history limit h)
+
 -- What these tokens have painted on a canvas of one band, and its capacity.
 pub band_cost : (limit : Limit) (cap painted extent tagged top : ℕ) (h : History)
     → first_fault limit h ≡ None → IsPaid cap painted extent tagged top (runs_of limit h)
     → (painted ≤ 2 * band_columns limit h + most_run_paints * sixels h)
-    × (6 * cap ≤ band_room limit h)
+    × (6 * cap ≤ band_room limit h) × (least_band_count limit h ≤ painted)
 band_cost limit cap painted extent tagged top h faultless paid =
-    grind (arith, nat_tests, band_columns-history, runs_paint-history, right_edge-history)
+    grind (
+      arith,
+      nat_tests,
+      band_columns-history,
+      runs_paint-history,
+      right_edge-history,
+      runs_cost-history,
+    )
 
 -- the width after raster attributes
 named_width-history : (limit : Limit) (h : History) → named_width limit h ≤ clipped_width limit h

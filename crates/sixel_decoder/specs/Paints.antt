@@ -57,6 +57,24 @@ band_columns limit (Sixel bits ∷ older) =
     + (band_edge limit (Sixel bits ∷ older) (down older) - band_edge limit older (down older))
 band_columns limit (_ ∷ older) = band_columns limit older
 
+-- what a sixel with a set pixel is counted as at least on a canvas of one band: each of its columns, or
+-- from 256 columns on a tag for each whole 128
+abbrev pub least_run_paints : ℕ → ℕ
+least_run_paints columns = if nat_lt columns 256 then columns else columns / 128
+
+-- what the sixels are counted as at least there, where one without a set pixel counts nothing
+abbrev pub least_band_paints : Limit → History → ℕ
+least_band_paints limit [] = 0
+least_band_paints limit (Sixel bits ∷ older) =
+    least_band_paints limit older
+    + (if is_inside limit older && nat_lt 0 (clipped_bits limit (down older) bits)
+    then least_run_paints (min (across older + span older) limit.columns - across older) else 0)
+least_band_paints limit (_ ∷ older) = least_band_paints limit older
+
+-- what they are counted as at least by a count that stays at the greatest number of 64 bits
+abbrev pub least_band_count : Limit → History → ℕ
+least_band_count limit history = min (least_band_paints limit history) 0xffff_ffff_ffff_ffff
+
 -- what a sixel is counted as at most on a canvas of one band, beside the columns of its band: a tag
 -- for each whole 128 columns, and 640 for its two ends and for tagged tiles that it covers in part
 abbrev pub most_run_paints : ℕ
@@ -81,6 +99,9 @@ area_of (Some size) = size.0 * size.1
 abbrev pub payload_least_count : Limit → List ℕ → ℕ
 payload_least_count limit bytes = least_count limit (settled_tokens limit bytes)
 
+abbrev pub payload_least_band_count : Limit → List ℕ → ℕ
+payload_least_band_count limit bytes = least_band_count limit (settled_tokens limit bytes)
+
 abbrev pub payload_band_columns : Limit → List ℕ → ℕ
 payload_band_columns limit bytes = band_columns limit (settled_tokens limit bytes)
 
@@ -98,6 +119,12 @@ abbrev pub stage_least_count : Limit → Stage → ℕ
 stage_least_count limit Heading = 0
 stage_least_count limit (Failing fault) = 0
 stage_least_count limit (Reading settings payload) = payload_least_count limit payload
+
+-- and on a canvas of one band
+abbrev pub stage_least_band_count : Limit → Stage → ℕ
+stage_least_band_count limit Heading = 0
+stage_least_band_count limit (Failing fault) = 0
+stage_least_band_count limit (Reading settings payload) = payload_least_band_count limit payload
 
 -- the columns of its bands
 abbrev pub stage_band_columns : Limit → Stage → ℕ

@@ -3,7 +3,8 @@
 use Rattle.std.specs.Prelude.{ℕ, ◌≡◌, ◌+◌, ◌*◌, ◌≤◌, true, false, Option, None}
 use Rattle.sixel_decoder.specs.Paints.{area_of, most_row_writes, most_run_paints, most_sixel_paints}
 use Rattle.sixel_decoder.specs.Reception.{Reception, band_columns, band_room, drawn_height}
-use Rattle.sixel_decoder.specs.Reception.{least_count, painted_area, size, sixels}
+use Rattle.sixel_decoder.specs.Reception.{least_band_count, least_count, painted_area, size}
+use Rattle.sixel_decoder.specs.Reception.{sixels}
 
 -- This number of pixels was copied or filled to grow a canvas of rows.
 pub record IsWriteCount (image : Reception) (writes : ℕ) : Type 0 where
@@ -47,6 +48,9 @@ pub record IsBandWriteCount (image : Reception) (writes : ℕ) : Type 0 where
 pub record IsBandPaintCount (image : Reception) (paints : ℕ) : Type 0 where
   -- the number that contracts see of the image
   pub value : paints ≡ image.paints
+  -- at least what the closed sixels count
+  pub at_least : image.is_refused ≡ false
+      → least_band_count image.start.pixel_limit image.form image.bytes ≤ paints
   -- at most twice the columns of all bands, and a constant for each closed sixel
   pub at_most : paints ≤ 2 * band_columns image.start.pixel_limit image.form image.bytes
       + most_run_paints * sixels image.form image.bytes

@@ -4,7 +4,8 @@
 use Rattle.std.specs.Prelude.{◌≡◌, ℕ, ◌+◌, ◌-◌, ◌*◌, ◌<◌, ◌≤◌, List, nat_lt, if◌then◌else◌}
 use Rattle.std.specs.Prelude.{length, max}
 use Rattle.sixel_canvas.specs.inside.Drawn.{Run, band_edge, drawn_columns, lowest_top, right_edge}
-use Rattle.sixel_canvas.specs.inside.Drawn.{runs_paint}
+use Rattle.sixel_canvas.specs.inside.Drawn.{runs_cost, runs_paint}
+use Rattle.sixel_canvas.specs.inside.Paints.{counted}
 use Rattle.sixel_canvas.specs.inside.TaggedBand.{TaggedState, tagged_cell}
 use Rattle.sixel_canvas.specs.inside.FinalRows.{RowsState, final, stored_area}
 use Rattle.sixel_canvas.specs.inside.ReleasedRows.{released_pixel}
@@ -68,11 +69,13 @@ pub record IsBandCanvas (canvas : BandCanvasState) : Type 0 where
   pub held : 0 < canvas.held → IsHeld canvas
 
 -- What is true of a band that these runs were drawn on, and that has come down to this row: its
--- capacity is at most twice as wide as they reach, and it has painted at most twice the columns of
--- their bands, and so much more for each run. The second time is that of its tags, which are
--- painted once the band moves down: those of its present row are still to be painted.
+-- capacity is at most twice as wide as they reach. It has painted at least what they cost, and at
+-- most twice the columns of their bands, and so much more for each run. The second time is that of
+-- its tags, which are painted once the band moves down: those of its present row are still to be
+-- painted.
 pub record IsPaid (capacity painted extent tagged top : ℕ) (runs : List Run) : Type 0 where
   pub narrow : capacity ≤ 2 * right_edge runs + 16
+  pub many : counted 0 (runs_cost runs) ≤ painted
   pub few : painted + band_edge runs top ≤ 2 * drawn_columns runs + runs_paint runs
   pub edge : band_edge runs top ≤ extent
   pub inside : 128 * tagged ≤ band_edge runs top

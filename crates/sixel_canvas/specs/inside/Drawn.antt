@@ -4,6 +4,7 @@
 use Rattle.std.specs.Prelude.{ℕ, ◌+◌, ◌-◌, ◌/◌, ◌==◌, max, Bool, ◌&&◌, nat_le, nat_lt}
 use Rattle.std.specs.Prelude.{List, [], ◌∷◌, slice_index_or, if◌then◌else◌}
 use Rattle.sixel_base.specs.Picture.{is_struck}
+use Rattle.sixel_canvas.specs.inside.TaggedBand.{least_cost}
 
 -- a sixel over the columns from .. up to before to, in the six rows from top on
 pub record Run : Type 0 where
@@ -60,6 +61,13 @@ drawn_columns (newest ∷ runs) =
 abbrev pub runs_paint : List Run → ℕ
 runs_paint [] = 0
 runs_paint (newest ∷ runs) = runs_paint runs + ((newest.to - newest.from) / 128 + 640)
+
+-- what these runs paint at least: one with a set pixel each of its columns, or from 256 columns on a
+-- tag for each whole 128
+abbrev pub runs_cost : List Run → ℕ
+runs_cost [] = 0
+runs_cost (newest ∷ runs) =
+    runs_cost runs + (if nat_lt 0 newest.bits then least_cost (newest.to - newest.from) else 0)
 
 -- whether eight sixels of one column each, the first at column from, cover the pixel
 abbrev pub covers_eight : ℕ → List ℕ → ℕ → ℕ → ℕ → Bool

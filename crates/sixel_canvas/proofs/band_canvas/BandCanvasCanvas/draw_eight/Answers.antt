@@ -37,7 +37,7 @@ returns-clause-paid c = λ named runs before.
     laid_held now c.hold.new.self state named runs right before.1 c.in_ok-hold.ensures.laid
     (grind (arith)) (grind (arith)) (grind (arith)) in (
       rw same_top (paid-sixels _ _ _ _ _ _ _ _ now.top c.args.from c.args.len c.args.sixels runs
-          before.0 c.requires.some few cap painted extent tagged),
+          before.0 c.requires.some few c.requires.few cap (grind (arith, c.draw_eight.ensures.least)) painted extent tagged),
       rw (← same_top) (moved_more state named more
           (laid_wider state wide (least_width named more) laid (omega (arith, edge)))
           c.self.invariant.above

@@ -18,6 +18,7 @@ returns c =
     let value = c.paints.ensures ∙ is.paints in
     record {
       value = value;
+      at_least = λ accepted. omega (arith, cost.2, c.paints.ensures);
       at_most = omega (arith, cost.0, sixels-settled limit session.bytes, c.paints.ensures);
       room = omega (arith, cost.1, is.room);
       refused = λ lost. search (rules, is.accepted);
