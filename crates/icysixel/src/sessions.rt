@@ -3,6 +3,7 @@
 ghost use Rattle.std.specs.Prelude.{◌≡◌, ◌≢◌, Some, None, is_some, true, false, cond};
 ghost use Rattle.sixel_base.specs.Decoder.{new_decoder};
 ghost use Rattle.icy_sixel.specs.Receiver.{OfPayload, OfString, begun, idle, is_open, no_image};
+ghost use Rattle.icy_sixel.specs.declared.receiver.received_image.Height.TheVariants.{Bands};
 ghost use Rattle.icysixel.specs.Changes.{IsOpened};
 ghost use Rattle.icysixel.specs.Code.{settings_of};
 ghost use Rattle.icysixel.specs.Feed.{IsBandFed, IsFed, fed_of};
@@ -51,6 +52,8 @@ pub extern "C" fn icysixel_new(alloc: Global, slot: &mut Slot) -> u32
         → state.image ≡ None }
     ensures no_text { (state : State) → slot.new.handle.state ≡ Some state
         → state.text ≡ None }
+    ensures height { (state : State) → slot.new.handle.state ≡ Some state
+        → state.height ≡ Bands }
     ensures refused { result ≢ 0 → slot.new.handle.state ≡ None }
 {
     icysixel_free(alloc, slot);
