@@ -403,6 +403,25 @@ static void test_take_pixels(void)
     icysixel_free_bytes(&second);
 }
 
+/* A block of no bytes is no block, so free(data) is valid too: rows all released, an empty image. */
+static void test_take_no_pixels(void)
+{
+    icysixel_bytes block = {&(uint8_t){7}, 7, 7};
+    icysixel_begin_payload(h, 9, 1);
+    CHECK(FEED("~-") == OK && icysixel_release_rows(h, 6) == OK);
+    RETURNS(OK, icysixel_finish(h, &shape));
+    CHECK(shape.bytes == 0 && shape.first_row == 6);
+    RETURNS(OK, icysixel_take_pixels(h, ICYSIXEL_ORDER_BGRA, &block));
+    CHECK(block.data == NULL && block.length == 0 && block.capacity == 0 && !HAS_IMAGE);
+    free(block.data);
+    block = (icysixel_bytes){&(uint8_t){7}, 7, 7};
+    icysixel_set_height(h, ICYSIXEL_HEIGHT_DRAWN);
+    RETURNS(OK, icysixel_decode_payload(h, BYTES("?"), 9, 1, &shape));
+    RETURNS(OK, icysixel_take_pixels(h, ICYSIXEL_ORDER_RGBA, &block));
+    CHECK(block.data == NULL && block.length == 0 && block.capacity == 0);
+    icysixel_set_height(h, ICYSIXEL_HEIGHT_BANDS);
+}
+
 /* A new decoder replaces one in any state: with an open image, an image, a text. */
 static void test_new_on_full_handle(void)
 {
@@ -905,6 +924,7 @@ int main(void)
         TEST(canvas_paints), TEST(bands), TEST(copied_rows), TEST(wider_end), TEST(whole_rows),
         TEST(lenient), TEST(transparent), TEST(cropped_rows), TEST(pixels), TEST(errors),
         TEST(drawn_height), TEST(raster_size), TEST(take_pixels), TEST(new_on_full_handle),
+        TEST(take_no_pixels),
         TEST(registers), TEST(settings), TEST(encode), TEST(shapes), TEST(take_text),
         TEST(encodings), TEST(formats), TEST(widest), TEST(palettes), TEST(indices),
         TEST(tolerance), TEST(code_texts), TEST(version),

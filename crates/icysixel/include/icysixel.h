@@ -403,8 +403,9 @@ uint32_t icysixel_copy_pixels(icysixel *handle, size_t first, size_t rows,
 /* Transfers the pixels of the stored rows to the caller, with stride 0 and without a copy. `order`
  * is an enum icysixel_order, and numbers above 1 are BGRA, too. Red and blue are exchanged in
  * place. The error is ICYSIXEL_NO_IMAGE. The call does not allocate, and does not free an earlier
- * block in `pixels`. The block stays valid after icysixel_free. icysixel_free_bytes frees it, and
- * so does free(pixels->data) with the default memory functions. */
+ * block in `pixels`. Without a stored row `pixels` becomes zeros. The block stays valid after
+ * icysixel_free. icysixel_free_bytes frees it, and so does free(pixels->data) with the default
+ * memory functions. */
 uint32_t icysixel_take_pixels(icysixel *handle, uint8_t order, icysixel_bytes *pixels);
 
 /* Frees a block that the library has transferred, if there is one, and zeroes `bytes`. The caller

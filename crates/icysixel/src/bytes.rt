@@ -2,6 +2,7 @@
 
 ghost use Rattle.std.specs.Prelude.{◌≡◌, ◌≤◌, ℕ, List, [], length};
 ghost use Rattle.std.specs.Mem.{manually_drop_value};
+ghost use Rattle.icysixel.specs.Blocks.{IsNoBlock};
 ghost use Rattle.icysixel.specs.inside.Bytes.{bytes_own};
 
 mod measured;
@@ -13,11 +14,11 @@ use std::ptr::null_mut;
 
 /// A block with its length and capacity, and the ownership of it.
 ///
-/// A capacity of 0 means that there is no block.
+/// A capacity of 0 means that there is no block. Then the pointer is null in what C receives.
 #[repr(C)]
 #[derive(Drop)]
 pub struct Bytes {
-    at: *mut u8,
+    pub at: *mut u8,
     pub len: usize,
     pub capacity: usize,
     alloc: Global,
@@ -32,7 +33,7 @@ impl Model for Bytes {
 impl Bytes {
     /// No block.
     pub fn none(alloc: Global) -> Bytes
-        ensures { (result.items ≡ []) × (result.capacity ≡ 0) }
+        ensures { (result.items ≡ []) × IsNoBlock result.at result.len result.capacity }
     {
         let at = null_mut();
         Bytes {
@@ -43,10 +44,14 @@ impl Bytes {
         }
     }
 
-    /// The block of a vector.
+    /// The block of a vector, or none of a vector without bytes.
     pub fn of(alloc: Global, bytes: Vec<u8>) -> Bytes
-        ensures { result.items ≡ bytes.items }
+        ensures items { result.items ≡ bytes.items }
+        ensures empty { bytes.items ≡ [] → IsNoBlock result.at result.len result.capacity }
     {
+        if bytes.is_empty() {
+            return Bytes::none(alloc);
+        }
         Bytes::of_measured(Measured::of(alloc, bytes))
     }
 

@@ -2,6 +2,7 @@
 
 ghost use Rattle.std.specs.Prelude.{◌≡◌, ◌≢◌, ◌≤◌, Some, None, is_some, []};
 ghost use Rattle.icy_sixel.specs.declared.receiver.received_image.ReceivedImage.{ReceivedImage};
+ghost use Rattle.icysixel.specs.Blocks.{IsNoBlock};
 ghost use Rattle.icysixel.specs.Changes.{Acts};
 ghost use Rattle.icysixel.specs.FinalRows.{AreInOrder, ArePixelsCopied};
 ghost use Rattle.icysixel.specs.Finish.{IsFinished};
@@ -108,6 +109,8 @@ pub extern "C" fn icysixel_take_pixels(
         → slot.old.handle.state ≡ Some before → before.image ≡ Some image
         → AreInOrder order image.pixels.items bytes.new.items }
     ensures capacity { bytes.new.len ≤ bytes.new.capacity }
+    ensures empty { result ≡ 0 → bytes.new.items ≡ []
+        → IsNoBlock bytes.new.at bytes.new.len bytes.new.capacity }
     ensures unwritten { result ≢ 0 → bytes.new ≡ bytes.old }
     ensures taken { (after : State) → slot.new.handle.state ≡ Some after → after.image ≡ None }
     ensures same { result ≢ 0 → slot.new.handle.state ≡ slot.old.handle.state }
@@ -130,6 +133,8 @@ fn transfer(alloc: Global, state: &mut State, order: u8, bytes: &mut Bytes) -> u
     ensures done { (image : ReceivedImage) → state.old.image ≡ Some image → result ≡ 0 }
     ensures pixels { (image : ReceivedImage) → state.old.image ≡ Some image
         → AreInOrder order image.pixels.items bytes.new.items }
+    ensures empty { result ≡ 0 → bytes.new.items ≡ []
+        → IsNoBlock bytes.new.at bytes.new.len bytes.new.capacity }
     ensures unwritten { result ≢ 0 → bytes.new ≡ bytes.old }
     ensures taken { state.new.image ≡ None }
     ensures same { result ≢ 0 → state.new ≡ state.old }
@@ -148,7 +153,7 @@ fn transfer(alloc: Global, state: &mut State, order: u8, bytes: &mut Bytes) -> u
 #[unsafe(no_mangle)]
 pub extern "C" fn icysixel_free_bytes(alloc: Global, bytes: &mut Bytes)
     ensures bytes { bytes.new.items ≡ [] }
-    ensures capacity { bytes.new.capacity ≡ 0 }
+    ensures none { IsNoBlock bytes.new.at bytes.new.len bytes.new.capacity }
 {
     let none = Bytes::none(alloc);
     mem::replace(bytes, none).free(&alloc);

@@ -1,7 +1,8 @@
 //! The calls that encode an image, and copy and transfer the text.
 
 ghost use Rattle.std.specs.Prelude.{◌≡◌, ◌≢◌, ◌<◌, ◌≤◌, ℕ, List, Some, None, is_some, ◌++◌};
-ghost use Rattle.std.specs.Prelude.{length, drop};
+ghost use Rattle.std.specs.Prelude.{[], length, drop};
+ghost use Rattle.icysixel.specs.Blocks.{IsNoBlock};
 ghost use Rattle.icysixel.specs.Encodings.{IsEncodeCall};
 ghost use Rattle.icysixel.specs.Kept.{IsImageKept, kept_text};
 ghost use Rattle.icysixel.specs.declared.state.State.{State};
@@ -83,6 +84,8 @@ pub extern "C" fn icysixel_take_text(alloc: Global, slot: &mut Slot, bytes: &mut
     ensures text { (before : State) (text : List ℕ) → slot.old.handle.state ≡ Some before
         → kept_text before ≡ Some text → bytes.new.items ≡ text }
     ensures capacity { bytes.new.len ≤ bytes.new.capacity }
+    ensures empty { result ≡ 0 → bytes.new.items ≡ []
+        → IsNoBlock bytes.new.at bytes.new.len bytes.new.capacity }
     ensures unwritten { result ≢ 0 → bytes.new ≡ bytes.old }
     ensures taken { (after : State) → slot.new.handle.state ≡ Some after → after.text ≡ None }
     ensures same { result ≢ 0 → slot.new.handle.state ≡ slot.old.handle.state }
@@ -102,6 +105,8 @@ fn transfer(alloc: Global, state: &mut State, bytes: &mut Bytes) -> u32
     ensures no_text { kept_text state.old ≡ None → result ≡ 5 }
     ensures done { (text : List ℕ) → kept_text state.old ≡ Some text → result ≡ 0 }
     ensures text { (text : List ℕ) → kept_text state.old ≡ Some text → bytes.new.items ≡ text }
+    ensures empty { result ≡ 0 → bytes.new.items ≡ []
+        → IsNoBlock bytes.new.at bytes.new.len bytes.new.capacity }
     ensures unwritten { result ≢ 0 → bytes.new ≡ bytes.old }
     ensures taken { state.new.text ≡ None }
     ensures same { result ≢ 0 → state.new ≡ state.old }

@@ -43,5 +43,5 @@ none_spec 𝓤 𝓛 𝓜 𝓡 wired =
     (tt, (zero, (zero, (zero, (((tt, tt), tt), tt))))) $
     returns ! (look_at ! 0 refl) $ free_all ! refl $
     suffices ! _ (ends_at 𝓛 F.ended stayed c z (laws.lowered made) made (tt, tt) (tt, tt)) $
-    says ! (refl, refl) $ nothing ! $ fields_in ! made (lit< tt) (lit< tt) $ fjoin ! $
+    says ! (refl, (refl, (refl, refl))) $ nothing ! $ fields_in ! made (lit< tt) (lit< tt) $ fjoin ! $
     nothing ! $ nothing ! $ fjoin ! $ join ! $ nothing ! $ join ! $ done !))
