@@ -5,7 +5,16 @@ use crate::rattle::rattle_std::prelude::{String, Vec};
 use core::fmt::Display;
 use core::mem::ManuallyDrop;
 use std::fs::File;
-use std::io::{self, Read, Write};
+use std::io::{Read, Write};
+
+pub use std::{io, process};
+
+/// The names that each file of the program has without an import.
+pub mod prelude {
+    pub use super::{Eprint, HostRuntime};
+    pub(crate) use super::eprintln_to as eprintln;
+    pub use crate::rattle::rattle_std::prelude::*;
+}
 
 /// Stands for the runtime.
 pub struct HostRuntime;
@@ -39,7 +48,7 @@ impl Eprint for HostRuntime {
 macro_rules! eprintln_to {
     ($rt:expr; $($text:tt)*) => { $rt.eprintln(format_args!($($text)*)) };
 }
-pub(crate) use eprintln_to as eprintln;
+pub(crate) use eprintln_to;
 
 /// Standard input.
 pub struct Stdin;

@@ -1,10 +1,11 @@
-//! What erased Rattle code needs beside Rust's `core`: allocations that can fail, and SIMD.
+//! The part of Rattle's `std` that differs from Rust's: allocations that can fail, and SIMD.
 
 extern crate alloc as rust_alloc;
 
 pub mod alloc;
 mod boxed;
-pub mod index;
+mod index;
+pub mod marker;
 #[cfg(not(target_arch = "x86_64"))]
 mod plain;
 pub mod simd;
@@ -14,12 +15,15 @@ mod vec;
 #[cfg(target_arch = "x86_64")]
 mod x86;
 
-/// What Rattle's prelude has otherwise than Rust's.
+pub use core::{fmt, mem, ptr, result};
+
+/// The names that each file has without an import.
 pub mod prelude {
     pub use super::boxed::Box;
     pub use super::index::Proved;
+    pub use super::marker::Drop;
+    pub(crate) use super::string::format_in as format;
     pub use super::string::{String, ToString};
     pub use super::vec::Vec;
-    pub(crate) use super::string::format_in as format;
     pub(crate) use super::vec::vec_in as vec;
 }
