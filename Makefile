@@ -7,6 +7,8 @@
 #   make mutants      tries all mutants, before a release
 #   make verdict      proves everything anew by `rt ci`, before a release
 #   make bench        times the program and the library
+#   make rust         writes the project as plain Rust to out/rust and builds it by cargo, unproved
+#   make lib-rust     builds the library for C of it in out/rust/out
 #   make lib-aarch64  builds the library for aarch64 in out/aarch64, by Debian's cross compiler
 #   make lib-v3       builds the shared library for x86-64-v3 in out/x86-64-v3
 #   make dist         makes the files of a release in out/dist
@@ -22,49 +24,39 @@
 
 MAKEFLAGS += --no-builtin-rules
 
-crate = crates/icysixel
-header = $(crate)/include/icysixel.h
-hooks = $(crate)/memory/icysixel_memory.c
-map = $(crate)/icysixel.map
 program = crates/sixel/out/sixel
 programs = $(foreach path,$(wildcard crates/*/src/main.rt),$(path:%/src/main.rt=%/out/)$(word 2,\
 	$(subst /, ,$(path))))
 tests = crates/sixel_tests/out/sixel_tests
 tests_by_rattle = $(tests).by-rattle
+crate = crates/icysixel
 archive = $(crate)/out/libicysixel.a
 archive_by_rattle = $(crate)/out/libicysixel.by-rattle.a
+# The Makefile of plain Rust.
+plain = out/rust/Makefile
 # The archives for other processors than this one.
 others = aarch64 x86-64-v3
 archives_for_others = $(others:%=$(crate)/out/libicysixel.%.a)
-# The shared library has a folder of its own, so that `-L out -licysixel` links the archive.
-shared = out/shared/libicysixel.so
-# The header has the version, and the map the number of the soname.
-version = $(shell sed -n 's/^.define ICYSIXEL_VERSION "\(.*\)"/\1/p' $(header))
-soname = libicysixel.so.$(shell sed -n 's/^ICYSIXEL_\([0-9]*\) {/\1/p' $(map))
-
-# What is installed below PREFIX: mode, source and place of each file, links to the library, and
-# files that describe it, which are made of templates.
-prefix = $(or $(PREFIX),/usr/local)
-libdir = $(or $(LIBDIR),lib)
-installed = $(DESTDIR)$(prefix)
-program_files = 755:$(program):bin/sixel 644:man/sixel.1:share/man/man1/sixel.1
-library_files = 644:out/libicysixel.a:$(libdir)/libicysixel.a 644:out/icysixel.h:include/icysixel.h \
-	755:$(shared):$(libdir)/libicysixel.so.$(version) 644:out/icysixel.3:share/man/man3/icysixel.3 \
-	$(foreach path,LICENSE-MIT LICENSE-APACHE $(wildcard examples/*.c examples/python/*),\
-		644:$(path):share/doc/icysixel/$(path))
-links = $(libdir)/$(soname) $(libdir)/libicysixel.so
-described = $(addprefix $(libdir)/,pkgconfig/icysixel.pc cmake/icysixel/icysixelConfig.cmake \
-	cmake/icysixel/icysixelConfigVersion.cmake)
 
 all: program lib
 
 program: $(program)
 
-lib: out/libicysixel.a $(shared) out/icysixel.h out/icysixel.pc out/icysixel.3
+include scripts/library.mk
 
 lib-aarch64: out/aarch64/libicysixel.a out/aarch64/shared/libicysixel.so
 
 lib-v3: out/x86-64-v3/shared/libicysixel.so
+
+# Plain Rust has a Makefile of its own, which does not need the kit.
+rust: $(plain)
+	$(call plain_rust,workspace)
+
+lib-rust: $(plain)
+	$(call plain_rust,lib)
+
+program-rust: $(plain)
+	$(call plain_rust,program)
 
 check:
 	./check
@@ -94,44 +86,11 @@ dist: all lib-aarch64 lib-v3
 abi: $(shared)
 	scripts/abi $(header) $(shared) abi/icysixel.txt
 
-install: install-program install-lib
-
-install-program: program
-	$(call copy,$(program_files))
-
-install-lib: lib
-	$(call copy,$(library_files))
-	$(foreach link,$(links),ln -sf libicysixel.so.$(version) "$(installed)/$(link)" &&) :
-	$(foreach file,$(described),$(description))
-
-uninstall:
-	rm -f $(foreach file,$(program_files) $(library_files),"$(installed)/$(call part,3)")
-	rm -f $(foreach file,$(links) $(described),"$(installed)/$(file)")
-	rm -rf "$(installed)/share/doc/icysixel" "$(installed)/$(libdir)/cmake/icysixel"
-
 clean:
 	rm -rf out crates/*/out
 
-.PHONY: all program lib lib-aarch64 lib-v3 check built unit test mutants verdict bench dist abi \
-	install install-program install-lib uninstall clean
-
-# A part of the description of a file.
-part = $(word $1,$(subst :, ,$(file)))
-
-# Installs files of these descriptions.
-define copied
-install -D -m $(call part,1) $(call part,2) "$(installed)/$(call part,3)"
-
-endef
-copy = $(foreach file,$1,$(copied))
-
-# Fills in a template, of a library in this prefix with these folders below it.
-describe = sed 's|@prefix@|$2|; s|@lib@|$3|; s|@include@|$4|; s|@version@|$(version)|' $(crate)/$1.in
-define description
-mkdir -p "$(installed)/$(dir $(file))"
-$(call describe,$(notdir $(file)),$(prefix),/$(libdir),/include) >"$(installed)/$(file)"
-
-endef
+.PHONY: all program lib-aarch64 lib-v3 rust lib-rust program-rust check built unit test mutants \
+	verdict bench dist abi clean
 
 # The crates of crates.txt, lowest first, and those that a crate uses.
 crates := $(shell sed -n 's/^\([a-z_]*\).*:.*/\1/p' crates.txt)
@@ -157,14 +116,13 @@ begun = out/begun.$(subst /,.,$@)
 start = @mkdir -p out $(@D) && touch $(begun)
 end = @touch -r $(begun) $@
 
-# Reports in one line what to do.
-stop = { echo '$1' >&2; exit 3; }
-has = command -v $1 >/dev/null || $(call stop,$1 is missing: $2)
-
-# Reports which crate is proved, of how many: all, or those up to the program that is asked for.
+# Reports which crate is proved, of how many: all, or those up to the program that is asked for; and
+# the minutes since make was started.
 place = $(shell grep -v '^\#' crates.txt | grep -n '^$1[ :]' | cut -d: -f1)
 goal = $(filter $(crates),$(notdir $(MAKECMDGOALS)))
-report = @echo '$1 $2, crate $(call place,$2) of $(or $(call place,$(goal)),$(words $(crates)))'
+started := $(shell date +%s)
+report = @echo "$1 $2, crate $(call place,$2) of $(or $(call place,$(goal)),$(words $(crates)))," \
+	"after $$((($$(date +%s) - $(started)) / 60)) minutes"
 
 # Runs `rt` in a folder, with its output in a file of out/. An error shows the end of that file.
 jobs := $(or $(filter 1 2 3,$(shell nproc)),4)
@@ -175,13 +133,14 @@ define rt
 	$(call stop,less than 1 GB of disk is free: free 3 GB and run make again); }
 endef
 
-# Runs the compiler for C.
-cc = $(call has,$(firstword $(CC)),install a C compiler or set CC); \
-	$(CC) -std=c11 -O2 -fPIC $(CFLAGS)
-
-.DELETE_ON_ERROR:
-
-.SECONDEXPANSION:
+# Writes the project as plain Rust, whose Makefile is as new as all of it.
+plain_rust = @$(MAKE) -s -C out/rust CPU=$(or $(CPU),$(chosen),$(cpu_of_$(shell uname -m))) $1
+cpu_of_x86_64 = x86-64-v2
+$(plain): $(wildcard out/cpu) $(shell find $(wildcard rust scripts crates/*/src crates/icysixel) \
+	-type f -not -path '*/out/*' -not -path '*/target/*')
+	$(start)
+	python3 scripts/plain_rust out/rust
+	$(end)
 
 # Proves and builds a library.
 $(libraries:%=crates/%/out/proved): crates/%/out/proved: $$(call sources,$$*) $$(call proofs,$$*)
@@ -253,31 +212,3 @@ $(lastword $(archives_for_others)): | $(firstword $(archives_for_others))
 out/aarch64/%: override CC = aarch64-linux-gnu-gcc
 out/aarch64/%: override AR = aarch64-linux-gnu-ar
 
-out/icysixel_memory.o $(others:%=out/%/icysixel_memory.o): $(hooks)
-	mkdir -p $(@D)
-	$(cc) -c $(hooks) -o $@
-
-out/libicysixel.a: $(archive)
-$(others:%=out/%/libicysixel.a): out/%/libicysixel.a: $(crate)/out/libicysixel.%.a
-out/libicysixel.a $(others:%=out/%/libicysixel.a): $$(@D)/icysixel_memory.o
-	cp $(filter %.a,$^) $@
-	$(AR) rs $@ $(@D)/icysixel_memory.o
-
-# The map lets only the calls of the header out.
-%/shared/libicysixel.so: %/libicysixel.a $(map)
-	mkdir -p $(@D)
-	$(cc) $(LDFLAGS) -shared -Wl,-soname,$(soname) -Wl,--version-script,$(map) \
-		-Wl,-z,noexecstack,-z,relro,-z,now,-z,defs \
-		-Wl,--whole-archive,$<,--no-whole-archive -o $@
-
-out/icysixel.h: $(header)
-	install -D -m 644 $(header) $@
-
-out/icysixel.3: $(header) scripts/manual
-	mkdir -p out
-	scripts/manual $(header) >$@
-
-# In out/, icysixel.pc names its own folder.
-out/icysixel.pc: $(header) $(crate)/icysixel.pc.in
-	mkdir -p out
-	$(call describe,icysixel.pc,$${pcfiledir}) >$@

@@ -3,6 +3,7 @@
 The folder gets all that `rust/` contains, and each crate as a module of one of its packages. Then
 `cargo build --offline` builds it there.
 """
+import itertools
 import re
 import shutil
 import sys
@@ -21,12 +22,16 @@ HOMES = {it: (f"crate::rattle::{it}", MODULES / it) for it in re.findall(
 HOMES |= {it: (f"crate::{it}", Path(it, "src", it)) for it in ("icysixel", "sixel")}
 PRELUDE = "crate::rattle::rattle_std::prelude::{*, format, vec}"
 PROGRAM_PRELUDE = "crate::host::prelude::{*, eprintln, format, vec}"
+# What the Makefile of plain Rust installs and reads.
+COPIED = ("LICENSE-*", "examples/*.*", "examples/python/*", "man/*", "scripts/library.mk",
+          "scripts/manual", "crates/icysixel/*.*", "crates/icysixel/[im]*/*.[ch]")
 LAYOUTS = layouts((ROOT / "crates/icysixel/include/icysixel.h").read_text())
 
 
 def plain(text, crate):
     """The plain Rust of a source of a crate."""
-    source = Source(text)
+    # Examples in doc comments are Rattle, which rustdoc would run.
+    source = Source(text.replace("/// ```rust\n", "/// ```text\n"))
     source.homes = {name: home for name, (home, _) in HOMES.items()} | {"crate": HOMES[crate][0]}
     source.layouts = LAYOUTS
     at = 0
@@ -38,11 +43,22 @@ def plain(text, crate):
     return f"{header[0]}\nuse {prelude};\n{header.string[header.end():]}"
 
 
+def copy(folder):
+    """Copies all that is not translated."""
+    for name in ["crates", *(it.name for it in (ROOT / "rust").iterdir() if it.is_dir())]:
+        shutil.rmtree(folder / name, ignore_errors=True)
+    shutil.copytree(ROOT / "rust", folder, dirs_exist_ok=True,
+                    ignore=shutil.ignore_patterns("target"))
+    for name in itertools.chain(*map(ROOT.glob, COPIED)):
+        target = folder / name.relative_to(ROOT)
+        target.parent.mkdir(parents=True, exist_ok=True)
+        shutil.copy(name, target)
+        if name.name.startswith("LICENSE"):
+            shutil.copy(name, folder / "icy_sixel")
+
+
 def main(folder):
-    for package in "icy_sixel", "icysixel", "sixel":
-        shutil.rmtree(folder / package, ignore_errors=True)
-    ignored = shutil.ignore_patterns("target", "Cargo.lock")
-    shutil.copytree(ROOT / "rust", folder, ignore=ignored, dirs_exist_ok=True)
+    copy(folder)
     for crate, (_, home) in HOMES.items():
         sources = ROOT / "crates" / crate / "src"
         for name in sorted(sources.rglob("*.rt")):

@@ -1,91 +1,86 @@
-//! The C library: the calls of `icysixel`, an allocator over C's, and an abort in place of a panic.
+//! The memory of the C library, and an abort in place of a panic.
 
 use core::alloc::{GlobalAlloc, Layout};
+use core::ffi::c_void;
 use core::panic::PanicInfo;
+use core::ptr::null_mut;
 
-unsafe extern "C" {
-    fn abort() -> !;
-}
-
-#[panic_handler]
-fn panic(_info: &PanicInfo<'_>) -> ! {
-    unsafe { abort() }
-}
-
-/// C's allocator. The library needs no alignment above that of malloc.
-struct Memory;
+/// The greatest alignment of a block of `malloc`. The library needs at most 8.
+const ALIGNMENT: usize = 16;
 
 #[global_allocator]
 static MEMORY: Memory = Memory;
 
-#[cfg(not(feature = "hooks"))]
-mod memory {
-    use core::ffi::c_void;
-
+#[panic_handler]
+fn panic(_info: &PanicInfo<'_>) -> ! {
     unsafe extern "C" {
-        fn malloc(size: usize) -> *mut c_void;
-        fn realloc(at: *mut c_void, size: usize) -> *mut c_void;
-        fn free(at: *mut c_void);
+        safe fn abort() -> !;
     }
-
-    pub unsafe fn alloc(size: usize, _align: usize) -> *mut u8 {
-        unsafe { malloc(size).cast() }
-    }
-
-    pub unsafe fn resize(at: *mut u8, _held: usize, size: usize, _align: usize) -> *mut u8 {
-        unsafe { realloc(at.cast(), size).cast() }
-    }
-
-    pub unsafe fn dealloc(at: *mut u8) {
-        unsafe { free(at.cast()) }
-    }
+    abort()
 }
 
-#[cfg(feature = "hooks")]
-mod memory {
-    use core::ptr::null_mut;
-
-    #[repr(C)]
-    struct Block {
-        given: bool,
-        at: *mut u8,
-    }
-
-    impl Block {
-        fn pointer(self) -> *mut u8 {
-            if self.given { self.at } else { null_mut() }
-        }
-    }
-
-    unsafe extern "C" {
-        fn rattle_alloc(size: usize, align: usize) -> Block;
-        fn rattle_realloc(at: *mut u8, held: usize, size: usize, align: usize) -> Block;
-        fn rattle_dealloc(at: *mut u8);
-    }
-
-    pub unsafe fn alloc(size: usize, align: usize) -> *mut u8 {
-        unsafe { rattle_alloc(size, align).pointer() }
-    }
-
-    pub unsafe fn resize(at: *mut u8, held: usize, size: usize, align: usize) -> *mut u8 {
-        unsafe { rattle_realloc(at, held, size, align).pointer() }
-    }
-
-    pub unsafe fn dealloc(at: *mut u8) {
-        unsafe { rattle_dealloc(at) }
-    }
-}
+/// C's allocator: `malloc`, or the memory hooks of the header.
+struct Memory;
 
 unsafe impl GlobalAlloc for Memory {
     unsafe fn alloc(&self, layout: Layout) -> *mut u8 {
-        unsafe { memory::alloc(layout.size(), layout.align()) }
+        if layout.align() > ALIGNMENT {
+            return null_mut();
+        }
+        unsafe { allocate(layout) }
     }
 
-    unsafe fn realloc(&self, at: *mut u8, layout: Layout, size: usize) -> *mut u8 {
-        unsafe { memory::resize(at, layout.size(), size, layout.align()) }
+    unsafe fn realloc(&self, block: *mut u8, layout: Layout, size: usize) -> *mut u8 {
+        unsafe { reallocate(block, layout, size) }
     }
 
-    unsafe fn dealloc(&self, at: *mut u8, _layout: Layout) {
-        unsafe { memory::dealloc(at) }
+    unsafe fn dealloc(&self, block: *mut u8, _layout: Layout) {
+        unsafe { free(block.cast()) }
     }
+}
+
+#[cfg(not(feature = "hooks"))]
+unsafe extern "C" {
+    fn malloc(size: usize) -> *mut c_void;
+    fn realloc(block: *mut c_void, size: usize) -> *mut c_void;
+    fn free(block: *mut c_void);
+}
+
+#[cfg(not(feature = "hooks"))]
+unsafe fn allocate(layout: Layout) -> *mut u8 {
+    unsafe { malloc(layout.size()).cast() }
+}
+
+#[cfg(not(feature = "hooks"))]
+unsafe fn reallocate(block: *mut u8, _layout: Layout, size: usize) -> *mut u8 {
+    unsafe { realloc(block.cast(), size).cast() }
+}
+
+/// The result of a hook. The pointer is never null.
+#[cfg(feature = "hooks")]
+#[repr(C)]
+struct Block {
+    given: bool,
+    at: *mut u8,
+}
+
+#[cfg(feature = "hooks")]
+unsafe extern "C" {
+    fn rattle_alloc(size: usize, align: usize) -> Block;
+    fn rattle_realloc(block: *mut u8, held: usize, size: usize, align: usize) -> Block;
+    #[link_name = "rattle_dealloc"]
+    fn free(block: *mut c_void);
+}
+
+#[cfg(feature = "hooks")]
+unsafe fn allocate(layout: Layout) -> *mut u8 {
+    let Block { given, at } = unsafe { rattle_alloc(layout.size(), layout.align()) };
+    if given { at } else { null_mut() }
+}
+
+#[cfg(feature = "hooks")]
+unsafe fn reallocate(block: *mut u8, layout: Layout, size: usize) -> *mut u8 {
+    let (held, align) = (layout.size(), layout.align());
+    let Block { given, at } = unsafe { rattle_realloc(block, held, size, align) };
+    if given { at } else { null_mut() }
 }

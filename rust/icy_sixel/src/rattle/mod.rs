@@ -1,6 +1,7 @@
 //! The verified crates, without their contracts, and what they need beside `core`.
 //!
 //! `scripts/plain_rust` makes them. What only contracts use is left in them.
+#![allow(clippy::all, rustdoc::all)]
 #![allow(dead_code, unused_imports, unused_labels, unused_variables)]
 
 #[cfg(not(target_pointer_width = "64"))]

@@ -1,4 +1,5 @@
 use super::alloc::{AllocError, Global};
+use super::rust_alloc::string;
 use super::vec::Vec;
 use core::fmt::{self, Arguments, Display, Write};
 use core::ops::Deref;
@@ -70,6 +71,13 @@ impl String {
     #[inline]
     pub fn into_bytes(self) -> Vec<u8> {
         self.0
+    }
+
+    /// Returns Rust's string of the text, without spare capacity.
+    pub fn into_exact(self) -> Result<string::String, AllocError> {
+        let bytes = self.0.into_exact()?;
+        // The bytes are those of a text.
+        Ok(unsafe { string::String::from_utf8_unchecked(bytes) })
     }
 
     #[inline]

@@ -1,7 +1,10 @@
 use super::alloc::{AllocError, AllocFailed, Global};
 use super::index::proved;
+use core::alloc::Layout;
+use core::mem::ManuallyDrop;
 use core::ops::{Deref, DerefMut, RangeBounds};
 use core::slice;
+use super::rust_alloc::alloc::realloc;
 use super::rust_alloc::vec;
 
 /// A vector whose allocations can fail.
@@ -51,6 +54,30 @@ impl<T> Vec<T> {
         let mut copy = Vec::with_capacity(alloc, items.len())?;
         copy.0.extend_from_slice(items);
         Ok(copy)
+    }
+
+    /// Returns Rust's vector of the items, without spare capacity.
+    pub fn into_exact(self) -> Result<vec::Vec<T>, AllocError> {
+        const { assert!(size_of::<T>() > 0) };
+        if self.0.is_empty() {
+            return Ok(vec::Vec::new());
+        }
+        let mut items = ManuallyDrop::new(self.0);
+        let (len, capacity) = (items.len(), items.capacity());
+        let mut block: *mut T = items.as_mut_ptr();
+        if len < capacity {
+            // The block has the layout of this many items, and only its result is used from now on.
+            block = unsafe {
+                let layout = Layout::array::<T>(capacity).unwrap_unchecked();
+                realloc(block.cast(), layout, len * size_of::<T>()).cast()
+            };
+            if block.is_null() {
+                drop(ManuallyDrop::into_inner(items));
+                return Err(AllocError);
+            }
+        }
+        // The block has this many items and no more.
+        Ok(unsafe { vec::Vec::from_raw_parts(block, len, len) })
     }
 
     #[inline]
