@@ -48,9 +48,12 @@ class ProgramTest(unittest.TestCase):
 
     name = ""
 
+    def builds(self):
+        return builds_of(self.name)
+
     def ends(self, arguments, stdin, expected, **options):
         """Tests the status, output and error, on a pipe and on a file."""
-        for program in builds_of(self.name):
+        for program in self.builds():
             with tempfile.TemporaryFile() as file:
                 file.write(stdin)
                 for source in (stdin, file):
@@ -62,7 +65,7 @@ class ProgramTest(unittest.TestCase):
 
     def fails(self, words, stdin, error):
         """Tests the error for arguments and redirections of the shell."""
-        for program in builds_of(self.name):
+        for program in self.builds():
             with self.subTest(program=program.name, words=words):
                 ended = run("sh", "-c", f'exec "$0" {words}', program, stdin=stdin)
                 self.assertEqual(ended, (1, b"", error.encode() + b"\n"))

@@ -38,7 +38,10 @@ def layout(source, at):
         if "ghost" not in words:
             members.append(words[words.index(":") - 1])
         place = end + 1
-    size, align, offsets = source.layouts[NAMES.get(name, f"icysixel_{name.lower()}")]
+    in_c = NAMES.get(name, f"icysixel_{name.lower()}")
+    if in_c not in source.layouts:
+        raise source.error(at, f"the header has no {in_c}")
+    size, align, offsets = source.layouts[in_c]
     facts = [f"size_of::<{name}>() == {size}", f"align_of::<{name}>() == {align}"]
     facts += [f"core::mem::offset_of!({name}, {member}) == {offset}"
               for member, offset in zip(members, offsets)]
@@ -58,7 +61,7 @@ def call(source, at):
         end = source.find(place, ",", ")")
         add_parameter(source.word(place), " ".join(source.words(place + 2, end)), declared, passed)
         place = end + 1
-    end = body(source, closed)
+    end = body(source, closed + 1)
     result = f" -> {source.word(closed + 2)}" if source.word(closed + 1) == "->" else ""
     calls = f"{name}({', '.join(passed)})"
     if any("*" in it for it in declared):

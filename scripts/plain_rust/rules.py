@@ -56,7 +56,7 @@ def attribute(source, at):
         elif kept != names:
             source.replace(opened + 3, closed - 2, ", ".join(kept))
         if "Error" in names:
-            display(source, closed)
+            display(source, closed + 1)
     return closed + 1
 
 

@@ -60,7 +60,7 @@ class Source:
         """The place of the first of these words from a place on, outside of brackets."""
         at = first
         while self.word(at) not in ends:
-            if not self.word(at):
+            if self.word(at) in ("", *CLOSING.values()):
                 raise self.error(first, f"no {' or '.join(ends)}")
             at = self.close(at) + 1 if self.word(at) in CLOSING else at + 1
         return at

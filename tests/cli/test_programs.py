@@ -129,7 +129,7 @@ class TestPrograms(ProgramTest):
 
     def test_defaults(self):
         """Arguments that state the defaults change nothing, others do."""
-        for program in builds_of("sixel"):
+        for program in self.builds():
             for width, height, same, others in DEFAULTS:
                 with self.subTest(program=program.name, same=same):
                     noise = random.Random(1).randbytes(3 * width * height)
@@ -146,7 +146,7 @@ class TestPrograms(ProgramTest):
         levels, picture = math.isqrt(error), b"P5 200 100 255\n" + noise
         with tempfile.NamedTemporaryFile() as file:
             Path(file.name).write_bytes(b"P5 2 1 255\n\0\xff")
-            for program in builds_of("sixel"):
+            for program in self.builds():
                 for words, grays, drawn in GRAYS:
                     with self.subTest(program=program.name, words=words):
                         words += f" -p {file.name}"
@@ -165,12 +165,12 @@ class TestPrograms(ProgramTest):
         mean = [sum(it) // len(GRADIENT) for it in zip(*GRADIENT)]
         picture = b"P6 48 36 255\n%s" % b"".join(map(bytes, GRADIENT))
         flat = b"P6 48 72 255\n%s" % b"".join(map(bytes, GRADIENT + FLAT))
-        for program, (count, amount) in itertools.product(builds_of("sixel"), SPREADS):
+        for program, (count, amount) in itertools.product(self.builds(), SPREADS):
             with self.subTest(program=program.name, count=count):
                 entries = registers(self.drawn(program, f"-c {count} -d none", picture))
                 text = self.drawn(program, f"-c {count}", picture)
                 self.assertEqual(registers(text), {spread(it, mean, amount) for it in entries})
-        for program in builds_of("sixel"):
+        for program in self.builds():
             entries = registers(self.drawn(program, "-c 16 -d none", flat))
             self.assertEqual(registers(self.drawn(program, "-c 16", flat)), entries)
 
@@ -227,7 +227,7 @@ class TestPrograms(ProgramTest):
         rows = (Path(SAMPLES) / "expected.tsv").read_text().splitlines()[1:]
         self.assertTrue(rows)
         for file, arguments, status, digest in (it.split("\t") for it in rows):
-            for program in builds_of("sixel"):
+            for program in self.builds():
                 with self.subTest(program=program.name, file=file):
                     stdin = (Path(SAMPLES) / file).read_bytes()
                     ended = run(program, *arguments.split(), stdin=stdin)

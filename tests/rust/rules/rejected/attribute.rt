@@ -1,0 +1,3 @@
+// rustc: cannot find attribute `measure` in this scope
+#[measure(arith)]
+fn one() {}

@@ -1,0 +1,3 @@
+// rustc: cannot find derive macro `Linear` in this scope
+#[derive(Drop, Linear)]
+struct One;

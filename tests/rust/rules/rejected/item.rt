@@ -1,0 +1,2 @@
+// rustc: expected
+lemma fn total(items: &[u8]) {}

@@ -1,0 +1,4 @@
+use std::fmt;
+use thiserror::Error;
+
+use crate::size::Size;
