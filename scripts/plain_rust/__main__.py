@@ -35,7 +35,7 @@ def main(folder):
     copy(folder)
     for crate, (_, home) in HOMES.items():
         sources = ROOT / "crates" / crate / "src"
-        for name in sorted(sources.rglob("*.rt")):
+        for name in sorted(set(sources.rglob("*.rt")) - set(sources.rglob("tests.rt"))):
             place = name.relative_to(sources).with_suffix(".rs")
             if place.name in ("lib.rs", "main.rs"):
                 place = place.with_name("mod.rs")

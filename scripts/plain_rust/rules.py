@@ -147,3 +147,11 @@ def entry(source, at):
     if source.has(at, "fn main ("):
         source.insert(at, "pub ")
     return None
+
+
+def tests(source, at):
+    """The tests inside a crate, which only the kit runs."""
+    if not source.has(at, "# [ cfg ( test ) ] mod tests ;"):
+        return None
+    source.cut_lines(at, at + 9)
+    return at + 10

@@ -3,11 +3,11 @@ import re
 from pathlib import Path
 
 from interface import call, layout, layouts
-from rules import attribute, clauses, drop, entry, error_import, ghost, index, path
+from rules import attribute, clauses, drop, entry, error_import, ghost, index, path, tests
 from source import Source
 
 ROOT = Path(__file__).resolve().parent.parent.parent
-RULES = ghost, layout, attribute, clauses, drop, index, error_import, path, entry, call
+RULES = ghost, layout, tests, attribute, clauses, drop, index, error_import, path, entry, call
 MODULES = Path("icy_sixel/src/rattle")
 # The module of each crate, and the folder of its files.
 HOMES = {it: (f"crate::rattle::{it}", MODULES / it) for it in re.findall(

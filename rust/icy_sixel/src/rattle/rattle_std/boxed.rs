@@ -1,3 +1,5 @@
+//! Values on the heap.
+
 use super::alloc::{AllocFailed, Allocator, Global};
 use core::alloc::Layout;
 use core::ops::{Deref, DerefMut};
@@ -26,11 +28,6 @@ impl<T> Box<T> {
             boxed::Box::from_raw(at)
         };
         Ok(Box { inner, alloc })
-    }
-
-    /// Returns the value.
-    pub fn into_inner(b: Box<T>) -> T {
-        *b.inner
     }
 }
 

@@ -1,58 +1,39 @@
 //! Indices that are proved to be in range.
 //!
-//! With the feature `trusted` they are not checked, as in the library that Rattle compiles. Else, or
-//! with debug assertions, they are.
+//! They are checked, unless the feature `unchecked` is on and debug assertions are off.
 
-use core::ops::{Index, IndexMut, Range, RangeFrom, RangeFull, RangeTo};
+use core::hint::assert_unchecked;
+use core::ops::{Index, IndexMut};
+use core::slice::SliceIndex;
+
+const IS_CHECKED: bool = cfg!(not(feature = "unchecked")) || cfg!(debug_assertions);
 
 /// An index, or a range of indices, that is proved to be in range.
 #[derive(Clone, Copy)]
 pub struct Proved<I>(pub I);
 
-macro_rules! index {
-    ($($index:ty => $output:ty, $self:ident, $i:ident;)*) => {
-        $(
-            impl<T> Index<Proved<$index>> for [T] {
-                type Output = $output;
+impl<T, I: SliceIndex<[T]>> Index<Proved<I>> for [T] {
+    type Output = I::Output;
 
-                #[inline(always)]
-                fn index(&self, Proved($i): Proved<$index>) -> &$output {
-                    let $self = self;
-                    if cfg!(not(feature = "unchecked")) || cfg!(debug_assertions) {
-                        return &$self[$i];
-                    }
-                    unsafe { $self.get_unchecked($i) }
-                }
-            }
-
-            impl<T> IndexMut<Proved<$index>> for [T] {
-                #[inline(always)]
-                fn index_mut(&mut self, Proved($i): Proved<$index>) -> &mut $output {
-                    let $self = self;
-                    if cfg!(not(feature = "unchecked")) || cfg!(debug_assertions) {
-                        return &mut $self[$i];
-                    }
-                    unsafe { $self.get_unchecked_mut($i) }
-                }
-            }
-        )*
-    };
+    #[inline(always)]
+    fn index(&self, Proved(index): Proved<I>) -> &I::Output {
+        if IS_CHECKED { &self[index] } else { unsafe { self.get_unchecked(index) } }
+    }
 }
 
-index! {
-    usize => T, items, i;
-    Range<usize> => [T], items, i;
-    RangeFrom<usize> => [T], items, i;
-    RangeTo<usize> => [T], items, i;
-    RangeFull => [T], items, i;
+impl<T, I: SliceIndex<[T]>> IndexMut<Proved<I>> for [T] {
+    #[inline(always)]
+    fn index_mut(&mut self, Proved(index): Proved<I>) -> &mut I::Output {
+        if IS_CHECKED { &mut self[index] } else { unsafe { self.get_unchecked_mut(index) } }
+    }
 }
 
-/// States a condition that is proved to hold: with `trusted` the compiler takes it for granted.
+/// Checks a condition that is proved to hold, or lets the compiler rely on it.
 #[inline(always)]
-pub(crate) fn proved(condition: bool) {
-    if cfg!(not(feature = "unchecked")) || cfg!(debug_assertions) {
+pub fn proved(condition: bool) {
+    if IS_CHECKED {
         assert!(condition);
     } else {
-        unsafe { core::hint::assert_unchecked(condition) }
+        unsafe { assert_unchecked(condition) }
     }
 }

@@ -23,7 +23,7 @@ pub mod prelude {
     pub use super::index::Proved;
     pub use super::marker::Drop;
     pub(crate) use super::string::format_in as format;
-    pub use super::string::{String, ToString};
+    pub use super::string::String;
     pub use super::vec::Vec;
     pub(crate) use super::vec::vec_in as vec;
 }

@@ -1,3 +1,5 @@
+//! Texts.
+
 use super::alloc::{AllocError, Global};
 use super::rust_alloc::string;
 use super::vec::Vec;
@@ -10,7 +12,6 @@ use core::str;
 pub struct String(Vec<u8>);
 
 /// Returns a text: `format!(in alloc; "{}", x)`.
-
 macro_rules! format_in {
     (in $alloc:expr; $($text:tt)*) => {
         $crate::rattle::rattle_std::prelude::String::of_arguments($alloc, format_args!($($text)*))
@@ -19,19 +20,13 @@ macro_rules! format_in {
 pub(crate) use format_in;
 
 impl String {
+    /// Returns an empty text. It does not allocate.
     #[inline]
     pub fn new(alloc: Global) -> String {
         String(Vec::new(alloc))
     }
 
-    pub fn with_capacity(alloc: Global, capacity: usize) -> Result<String, AllocError> {
-        Ok(String(Vec::with_capacity(alloc, capacity)?))
-    }
-
-    pub fn from_str(alloc: Global, text: &str) -> Result<String, AllocError> {
-        Ok(String(Vec::from_slice(alloc, text.as_bytes())?))
-    }
-
+    /// Returns a formatted text.
     pub fn of_arguments(alloc: Global, arguments: Arguments<'_>) -> Result<String, AllocError> {
         let mut text = String::new(alloc);
         text.write_fmt(arguments)?;
@@ -44,6 +39,7 @@ impl String {
         Ok(String(bytes))
     }
 
+    /// Appends a character.
     #[inline]
     pub fn push(&mut self, letter: char) -> Result<(), AllocError> {
         if letter.is_ascii() {
@@ -52,22 +48,25 @@ impl String {
         self.push_str(letter.encode_utf8(&mut [0; 4]))
     }
 
+    /// Appends a text.
     #[inline]
     pub fn push_str(&mut self, text: &str) -> Result<(), AllocError> {
         self.0.extend_from_slice(text.as_bytes())
     }
 
-    /// Appends formatted text: what `write!` calls.
+    /// Appends formatted text, as `write!` calls it.
     pub fn write_fmt(&mut self, arguments: Arguments<'_>) -> Result<(), AllocError> {
         fmt::write(&mut Writer(self), arguments).map_err(|_| AllocError)
     }
 
+    /// The text.
     #[inline]
     pub fn as_str(&self) -> &str {
         // The bytes are those of texts.
         unsafe { str::from_utf8_unchecked(&self.0) }
     }
 
+    /// The bytes of the text.
     #[inline]
     pub fn into_bytes(self) -> Vec<u8> {
         self.0
@@ -78,11 +77,6 @@ impl String {
         let bytes = self.0.into_exact()?;
         // The bytes are those of a text.
         Ok(unsafe { string::String::from_utf8_unchecked(bytes) })
-    }
-
-    #[inline]
-    pub fn capacity(&self) -> usize {
-        self.0.capacity()
     }
 }
 
@@ -101,22 +95,11 @@ impl Display for String {
     }
 }
 
-/// Appends what is formatted.
+/// Appends pieces of formatted text.
 struct Writer<'a>(&'a mut String);
 
 impl Write for Writer<'_> {
     fn write_str(&mut self, text: &str) -> fmt::Result {
         self.0.push_str(text).map_err(|_| fmt::Error)
-    }
-}
-
-/// Returns a text of a value.
-pub trait ToString {
-    fn to_string(&self, alloc: Global) -> Result<String, AllocError>;
-}
-
-impl<T: Display + ?Sized> ToString for T {
-    fn to_string(&self, alloc: Global) -> Result<String, AllocError> {
-        String::of_arguments(alloc, format_args!("{self}"))
     }
 }

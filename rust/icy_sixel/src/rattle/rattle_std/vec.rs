@@ -1,18 +1,19 @@
+//! Vectors.
+
 use super::alloc::{AllocError, AllocFailed, Global};
 use super::index::proved;
-use core::alloc::Layout;
-use core::mem::ManuallyDrop;
-use core::ops::{Deref, DerefMut, RangeBounds};
-use core::slice;
 use super::rust_alloc::alloc::realloc;
 use super::rust_alloc::vec;
+use core::alloc::Layout;
+use core::mem::{self, ManuallyDrop};
+use core::ops::{Deref, DerefMut, RangeBounds};
+use core::slice;
 
 /// A vector whose allocations can fail.
 #[derive(Debug)]
 pub struct Vec<T>(pub(crate) vec::Vec<T>);
 
 /// Returns a vector: `vec![in alloc; item; count]`.
-
 macro_rules! vec_in {
     (in $alloc:expr; $item:expr; $count:expr) => {
         $crate::rattle::rattle_std::prelude::Vec::from_elem($alloc, $item, $count)
@@ -57,49 +58,36 @@ impl<T> Vec<T> {
     }
 
     /// Returns Rust's vector of the items, without spare capacity.
-    pub fn into_exact(self) -> Result<vec::Vec<T>, AllocError> {
-        const { assert!(size_of::<T>() > 0) };
-        if self.0.is_empty() {
-            return Ok(vec::Vec::new());
-        }
-        let mut items = ManuallyDrop::new(self.0);
-        let (len, capacity) = (items.len(), items.capacity());
-        let mut block: *mut T = items.as_mut_ptr();
-        if len < capacity {
-            // The block has the layout of this many items, and only its result is used from now on.
-            block = unsafe {
-                let layout = Layout::array::<T>(capacity).unwrap_unchecked();
-                realloc(block.cast(), layout, len * size_of::<T>()).cast()
-            };
-            if block.is_null() {
-                drop(ManuallyDrop::into_inner(items));
-                return Err(AllocError);
-            }
-        }
-        // The block has this many items and no more.
-        Ok(unsafe { vec::Vec::from_raw_parts(block, len, len) })
+    pub fn into_exact(mut self) -> Result<vec::Vec<T>, AllocError> {
+        self.shrink()?;
+        Ok(self.0)
     }
 
+    /// The allocator.
     #[inline]
     pub fn allocator(&self) -> &Global {
         &Global
     }
 
+    /// For how many items there is memory.
     #[inline]
     pub fn capacity(&self) -> usize {
         self.0.capacity()
     }
 
+    /// The items.
     #[inline]
     pub fn as_slice(&self) -> &[T] {
         &self.0
     }
 
+    /// The items, which can be changed.
     #[inline]
     pub fn as_mut_slice(&mut self) -> &mut [T] {
         &mut self.0
     }
 
+    /// The address of the first item.
     #[inline]
     pub fn as_mut_ptr(&mut self) -> *mut T {
         self.0.as_mut_ptr()
@@ -178,41 +166,71 @@ impl<T> Vec<T> {
         Ok(())
     }
 
+    /// Removes and returns the last item.
     #[inline]
     pub fn pop(&mut self) -> Option<T> {
         self.0.pop()
     }
 
+    /// Drops the items from this number on.
     #[inline]
     pub fn truncate(&mut self, len: usize) {
         self.0.truncate(len);
     }
 
+    /// Drops all items.
     #[inline]
     pub fn clear(&mut self) {
         self.0.clear();
     }
 
+    /// Removes and returns an item, whose place the last one gets.
     #[inline]
     pub fn swap_remove(&mut self, at: usize) -> T {
         self.0.swap_remove(at)
     }
 
+    /// Removes and returns an item. Those after it move up.
     #[inline]
     pub fn remove(&mut self, at: usize) -> T {
         self.0.remove(at)
     }
 
+    /// Removes the items of a range, and returns them.
     #[inline]
     pub fn drain<R: RangeBounds<usize>>(&mut self, range: R) -> vec::Drain<'_, T> {
         self.0.drain(range)
     }
 
-    #[inline]
+    /// Frees spare capacity, unless the allocator fails.
     pub fn shrink_to_fit(&mut self) {
-        self.0.shrink_to_fit();
+        let _ = self.shrink();
     }
 
+    /// Frees spare capacity. After an error the items and the capacity are as before.
+    fn shrink(&mut self) -> Result<(), AllocError> {
+        const { assert!(size_of::<T>() > 0) };
+        let (len, capacity) = (self.0.len(), self.0.capacity());
+        if len == 0 {
+            self.0 = vec::Vec::new();
+        } else if len < capacity {
+            let layout = Layout::array::<T>(capacity).map_err(|_| AllocError)?;
+            let mut items = ManuallyDrop::new(mem::take(&mut self.0));
+            let block = items.as_mut_ptr();
+            // The block has this layout. After an error it is still that of the items.
+            self.0 = unsafe {
+                let new = realloc(block.cast(), layout, len * size_of::<T>()).cast::<T>();
+                if new.is_null() {
+                    self.0 = ManuallyDrop::into_inner(items);
+                    return Err(AllocError);
+                }
+                vec::Vec::from_raw_parts(new, len, len)
+            };
+        }
+        Ok(())
+    }
+
+    /// Removes items that are equal to the one before them.
     #[inline]
     pub fn dedup(&mut self)
     where

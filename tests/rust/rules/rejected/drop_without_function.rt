@@ -1,0 +1,4 @@
+// line 4: no fn
+struct Stack;
+
+impl Drop for Stack {}

@@ -1,0 +1,4 @@
+
+use crate::host::prelude::{*, eprintln, format, vec};
+mod spread;
+mod words;

@@ -1,0 +1,4 @@
+mod spread;
+#[cfg(test)]
+mod tests;
+mod words;
