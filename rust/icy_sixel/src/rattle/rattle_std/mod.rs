@@ -11,6 +11,8 @@ mod plain;
 pub mod simd;
 pub mod snapshot;
 mod string;
+#[cfg(test)]
+mod tests;
 mod vec;
 #[cfg(target_arch = "x86_64")]
 mod x86;
