@@ -115,8 +115,7 @@ int main(void)
 {
     static const int colors[] = {256, 64, 16, 2};
     static const int kinds[] = {
-        ICYSIXEL_DITHER_OFF, ICYSIXEL_DITHER_DIFFUSION, ICYSIXEL_DITHER_ORDERED,
-        ICYSIXEL_DITHER_DIFFUSION + ICYSIXEL_WEIGHTS_LUMA};
+        ICYSIXEL_DITHER_OFF, ICYSIXEL_DITHER_DIFFUSION, ICYSIXEL_DITHER_ORDERED};
     static uint8_t pixels[4 * PIXELS];
     digest = 0xcbf29ce484222325;
     for (size_t image = 0; image < 4; image++) {
@@ -125,7 +124,7 @@ int main(void)
             choose(pixels, image, colors[i]);
             for (int form = 0; form < 2; form++) {
                 encode(pixels, image, (int[5]){ICYSIXEL_PALETTE_FARTHEST, colors[i], form});
-                for (int k = 0; k < 8; k++)
+                for (int k = 0; k < 6; k++)
                     encode(pixels, image, (int[5]){ICYSIXEL_PALETTE_REFINED, colors[i], form,
                                                    kinds[k / 2], k % 2});
             }
