@@ -96,9 +96,11 @@ out/libicysixel.a $(others:%=out/%/libicysixel.a): $$(@D)/icysixel_memory.o
 out/icysixel.h: $(header)
 	install -D -m 644 $(header) $@
 
-out/icysixel.3: $(header) scripts/manual
+# The source of a release has the manual page, so that nothing is needed to make it.
+page = $(wildcard man/icysixel.3)
+out/icysixel.3: $(header) $(or $(page),scripts/manual)
 	mkdir -p out
-	scripts/manual $(header) >$@
+	$(if $(page),cat $(page),scripts/manual $(header)) >$@
 
 # In out/, icysixel.pc names its own folder.
 out/icysixel.pc: $(header) $(crate)/icysixel.pc.in

@@ -10,14 +10,23 @@ import unittest
 from pathlib import Path
 
 from build import HEADERS, ROOT, needs, run
+from install.test_abi import ABI, HEADER
 from install.users import HERE, PIXELS, RED, UsersTest, variables
 from vectors import packed_vectors
 
 DIST = ROOT / "out/dist"
 LOADER = "/lib64/ld-linux-x86-64.so.2"
 CROSS = "aarch64-linux-gnu"
+# What builds the source neither has nor needs.
+ABSENT = "python3", "git", "rt"
 # A program for aarch64, as `gcc decode.c` in USERS.
 DECODE = f"{CROSS}-gcc decode.c $(pkg-config --cflags --libs icysixel) -o $room/decode"
+
+
+def contents(package):
+    """The mode, the path and the link of each file of a Debian package."""
+    listed = run("dpkg-deb", "-c", package)[1].decode().splitlines()
+    return {(words[0], *words[5:]) for words in map(str.split, listed)}
 
 
 def make_dist(**changes):
@@ -28,7 +37,7 @@ def make_dist(**changes):
     return (DIST / "SHA256SUMS").read_text()
 
 
-@needs(f"{CROSS}-gcc", "dpkg-deb", "pkg-config", "rt")
+@needs(f"{CROSS}-gcc", "cargo", "dh", "dpkg-buildpackage", "pkg-config", "rt")
 class TestDist(UsersTest):
     """The tests share a folder with what all files contain."""
 
@@ -36,7 +45,7 @@ class TestDist(UsersTest):
     def setUpClass(cls):
         cls.room = Path(cls.enterClassContext(tempfile.TemporaryDirectory()))
         cls.sums = make_dist()
-        for file in DIST.glob("*.tar.gz"):
+        for file in *DIST.glob("*.tar.gz"), *DIST.glob("*.crate"):
             assert run("tar", "-xf", file, "-C", cls.room)[0] == 0
         for file in DIST.glob("*.deb"):
             folder = cls.room / file.stem.rpartition("_")[2]
@@ -59,7 +68,7 @@ class TestDist(UsersTest):
 
     def test_names(self):
         """README names files of the release."""
-        names = re.findall(r"[\w.*-]+(?:\.deb|\.tar\.gz)", (ROOT / "README.md").read_text())
+        names = re.findall(r"[\w.*-]+\.(?:deb|tar\.gz|crate|dsc)", (ROOT / "README.md").read_text())
         self.assertTrue(names)
         for name in names:
             with self.subTest(name=name):
@@ -67,9 +76,9 @@ class TestDist(UsersTest):
 
     @needs("lintian")
     def test_packages(self):
-        """lintian finds no error in the Debian packages."""
-        packages = sorted(DIST.glob("*.deb"))
-        self.assertEqual(len(packages), 5)
+        """lintian finds no error in the Debian packages and their source."""
+        packages = *DIST.glob("*.deb"), *DIST.glob("*.dsc")
+        self.assertEqual(len(packages), 6)
         root = ["--allow-root"] if os.getuid() == 0 else []
         ended = run("lintian", *root, "--fail-on", "error", *packages, timeout=300)
         self.assertEqual(ended[0], 0, ended[1].decode())
@@ -118,6 +127,38 @@ class TestDist(UsersTest):
         examples = f"{root}/usr/share/doc/libicysixel-dev/examples"
         self.works(examples, {"PATH": "/usr/sbin:/usr/bin:/sbin:/bin"}, root)
 
+    def test_source(self):
+        """Without a network, the source builds packages with the same files."""
+        room = self.room / "source"
+        stub = room / "absent"
+        stub.mkdir(parents=True)
+        for name in ABSENT:
+            (stub / name).symlink_to("/bin/false")
+        source, = DIST.glob("*.dsc")
+        folder = room / "icysixel"
+        self.assertEqual(run("dpkg-source", "-x", source, folder)[0], 0)
+        # Debian's cargo, if it is installed.
+        env = os.environ | {"PATH": f"{stub}:/usr/bin:{os.environ['PATH']}"}
+        offline = ["unshare", "-rn"] if run("unshare", "-rn", "true")[0] == 0 else []
+        checked = [] if run("dpkg-checkbuilddeps", cwd=folder)[0] == 0 else ["-d"]
+        words = *offline, "dpkg-buildpackage", "-b", "-us", "-uc", *checked
+        status, told, errors = run(*words, cwd=folder, env=env, timeout=900)
+        self.assertEqual(status, 0, (told + errors)[-4000:].decode())
+        built = sorted(room.glob("*.deb"))
+        self.assertEqual(len(built), 3)
+        for package in built:
+            with self.subTest(package=package.name):
+                found = contents(DIST / package.name) - contents(package)
+                self.assertEqual([it for it in found if "glibc-hwcaps" not in it[1]], [])
+                self.assertEqual(contents(package) - contents(DIST / package.name), set())
+        library = folder / "out/shared/libicysixel.so"
+        interface = run(ROOT / "scripts/abi", HEADER, library)[1].decode()
+        self.assertEqual(interface.splitlines(), ABI.read_text().splitlines())
+        prefix = room / "usr"
+        words = "make", "-s", "install", f"PREFIX={prefix}"
+        self.assertEqual(run(*words, cwd=folder, env=env), (0, b"", b""))
+        self.works(prefix / "share/doc/icysixel/examples", variables(prefix))
+
     @needs("qemu-aarch64")
     def test_aarch64(self):
         """A program links the library of the tarball and of the packages for aarch64."""
@@ -136,16 +177,13 @@ class TestDist(UsersTest):
                 ended = run("sh", "-c", command, stdin=RED, **options)
                 self.assertEqual(ended[:2], (0, PIXELS), ended[2].decode())
 
-    @needs("cargo")
     def test_cargo(self):
-        """A program depends on the crate, without a network and without a variable."""
+        """A program depends on the Cargo crate by its path, without a network."""
         crate = self.folder("icy_sixel-*")
         user = self.room / "user"
         (user / "src").mkdir(parents=True)
         shutil.copy(crate / "examples/decode.rs", user / "src/main.rs")
         manifest = (HERE.parent / "rust/user.toml").read_text()
         (user / "Cargo.toml").write_text(manifest.replace("../icy_sixel", f"../{crate.name}"))
-        env = {name: it for name, it in os.environ.items() if name != "ICYSIXEL_LIB_DIR"}
-        words = "cargo", "run", "-q", "--offline"
-        ended = run(*words, stdin=RED, cwd=user, env=env, timeout=300)
+        ended = run("cargo", "run", "-q", "--offline", stdin=RED, cwd=user, timeout=300)
         self.assertEqual(ended[:2], (0, b"image 1 6 9 1\n" + PIXELS + b"\n"), ended[2].decode())
