@@ -4,22 +4,22 @@
 
 mod dcs_session;
 mod drawn;
+mod session;
 mod stream;
 
-use crate::codes::error_of;
-use crate::error::Result;
-use crate::ffi::Handle;
-use crate::receiver::{Height, ReceivedImage};
-pub use crate::settings::DcsSettings;
+use crate::error::{Result, SixelError};
+use crate::proved;
+use crate::rattle::rattle_std::alloc::Global;
+use crate::rattle::rattle_std::prelude::Box;
+pub use crate::rattle::sixel_base::settings::DcsSettings;
+pub use crate::rattle::sixel_base::status::{SixelDcsFeedStatus, SixelFeedStatus};
+use crate::receiver::{FailedFeed, Height, Received, ReceivedImage};
 use crate::sixel_image::SixelImage;
-pub use crate::status::{SixelDcsFeedResult, SixelDcsFeedStatus, SixelFeedResult, SixelFeedStatus};
-pub use dcs_session::SixelDcsStreamDecoder;
-pub(crate) use dcs_session::string_status;
-use std::alloc::{Layout, handle_alloc_error};
-use std::fmt;
-use std::sync::{Mutex, MutexGuard, PoisonError};
-pub use stream::SixelStreamDecoder;
-pub(crate) use stream::payload_status;
+use alloc::alloc::handle_alloc_error;
+use core::alloc::Layout;
+use core::fmt;
+pub use dcs_session::{SixelDcsFeedResult, SixelDcsStreamDecoder};
+pub use stream::{SixelFeedResult, SixelStreamDecoder};
 
 /// A decoder: 256 color registers from image to image, and the host's settings.
 ///
@@ -27,11 +27,12 @@ pub(crate) use stream::payload_status;
 /// register. The settings are whether images are cropped, how many pixels an image can have, and
 /// its clip. They apply to each image and session that is begun afterwards.
 ///
-/// The library takes one call at a time on a decoder. Calls that change it borrow it mutably. Calls
-/// that only read it take turns by a lock. So a decoder is `Send` and `Sync`, and so are its
-/// sessions.
+/// A decoder is `Send` and `Sync`, and so are its sessions.
 pub struct SixelDecoder {
-    handle: Mutex<Handle>,
+    /// The decoder, and the image that a session or a receiver has open.
+    pub(crate) core: Box<proved::SixelReceiver>,
+    /// Where images end.
+    pub(crate) height: Height,
 }
 
 impl SixelDecoder {
@@ -51,7 +52,7 @@ impl SixelDecoder {
     ///
     /// [`OutOfMemory`](crate::SixelError::OutOfMemory).
     pub fn try_new() -> Result<Self> {
-        Handle::new().map(Self::of).map_err(error_of)
+        Self::of(proved::SixelDecoder::new(), Height::Bands)
     }
 
     /// Copies the decoder as `clone` does, or returns an error.
@@ -60,40 +61,34 @@ impl SixelDecoder {
     ///
     /// [`OutOfMemory`](crate::SixelError::OutOfMemory).
     pub fn try_clone(&self) -> Result<Self> {
-        self.shared().copy().map(Self::of)
+        Self::of(self.core.decoder().clone(), self.height)
     }
 
-    fn of(handle: Handle) -> Self {
-        Self { handle: Mutex::new(handle) }
-    }
-
-    /// The handle, for a call that has the decoder to itself.
-    pub(crate) fn handle(&mut self) -> &mut Handle {
-        self.handle.get_mut().unwrap_or_else(PoisonError::into_inner)
-    }
-
-    /// The handle, for a call that only reads.
-    pub(crate) fn shared(&self) -> MutexGuard<'_, Handle> {
-        self.handle.lock().unwrap_or_else(PoisonError::into_inner)
+    /// A decoder without an open image, whose images end at this height.
+    fn of(decoder: proved::SixelDecoder, height: Height) -> Result<Self> {
+        match Box::new(Global, proved::SixelReceiver::with_decoder(decoder)) {
+            Ok(core) => Ok(Self { core, height }),
+            Err(_) => Err(SixelError::OutOfMemory),
+        }
     }
 
     /// Returns the color of a register: red, green and blue, a byte each.
     #[must_use]
     pub fn register(&self, register: u8) -> [u8; 3] {
-        self.shared().register(register)
+        self.core.decoder().register(register)
     }
 
     /// Sets the color of a register: red, green and blue, a byte each.
     ///
     /// A terminal has a palette of its own. Register 0 is the background of an opaque image.
     pub fn set_register(&mut self, register: u8, color: [u8; 3]) {
-        self.handle().set_register(register, color);
+        self.core.decoder_mut().set_register(register, color);
     }
 
     /// Returns the colors of all registers: red, green and blue, a byte each.
     #[must_use]
     pub fn registers(&self) -> [[u8; 3]; 256] {
-        self.shared().registers()
+        self.core.decoder().registers()
     }
 
     /// Sets the colors of the registers from `first` on.
@@ -101,20 +96,20 @@ impl SixelDecoder {
     /// A color is red, green and blue, a byte each. A terminal sets its whole palette by one call.
     /// Colors that are left after register 255 have no effect.
     pub fn set_registers(&mut self, first: u8, colors: &[[u8; 3]]) {
-        self.handle().set_registers(first, colors);
+        self.core.decoder_mut().set_registers(first, colors);
     }
 
     /// Resets the registers to those of a new decoder, without changing the settings.
     ///
     /// An image does not reset them, so the next one starts with the registers that it defined.
     pub fn reset_palette(&mut self) {
-        self.handle().reset();
+        self.core.decoder_mut().reset_palette();
     }
 
     /// Whether images are cropped to their raster attributes; off in a new decoder.
     #[must_use]
     pub fn raster_crop(&self) -> bool {
-        self.shared().height() == Height::Raster as u8
+        self.height == Height::Raster
     }
 
     /// Sets whether images are cropped to their raster attributes.
@@ -124,12 +119,7 @@ impl SixelDecoder {
     /// they have one. Crop does not change the width, the pixels of the remaining rows, the
     /// registers and the errors.
     pub fn set_raster_crop(&mut self, on: bool) {
-        self.set_height(if on { Height::Raster } else { Height::Bands });
-    }
-
-    /// Sets where images end.
-    pub(crate) fn set_height(&mut self, height: Height) {
-        self.handle().set_height(height as u8);
+        self.height = if on { Height::Raster } else { Height::Bands };
     }
 
     /// Whether images are lenient; off in a new decoder.
@@ -137,12 +127,7 @@ impl SixelDecoder {
     /// [`SixelReceiver::set_lenient`](crate::SixelReceiver::set_lenient) describes such images.
     #[must_use]
     pub fn is_lenient(&self) -> bool {
-        self.shared().lenient()
-    }
-
-    /// Sets whether images are lenient.
-    pub(crate) fn set_lenient(&mut self, on: bool) {
-        self.handle().set_lenient(on);
+        self.core.decoder().is_lenient()
     }
 
     /// Whether images have a transparent background whatever P2 says; off in a new decoder.
@@ -150,12 +135,7 @@ impl SixelDecoder {
     /// [`SixelReceiver::set_transparent`](crate::SixelReceiver::set_transparent) describes them.
     #[must_use]
     pub fn is_transparent(&self) -> bool {
-        self.shared().transparent()
-    }
-
-    /// Sets whether images have a transparent background whatever P2 says.
-    pub(crate) fn set_transparent(&mut self, on: bool) {
-        self.handle().set_transparent(on);
+        self.core.decoder().is_transparent()
     }
 
     /// Returns how many pixels an image can have.
@@ -163,7 +143,7 @@ impl SixelDecoder {
     /// The limit is 67,108,864 in a new decoder, and never more.
     #[must_use]
     pub fn pixel_limit(&self) -> usize {
-        self.shared().limit()
+        self.core.decoder().pixel_limit()
     }
 
     /// Sets how many pixels an image can have: at least 1, and at most 67,108,864.
@@ -172,7 +152,7 @@ impl SixelDecoder {
     /// clipped image only the part inside the clip counts. An image is rejected as soon as it has
     /// more pixels than the limit. Encoding has no such limit.
     pub fn set_pixel_limit(&mut self, pixels: usize) {
-        self.handle().set_limit(pixels);
+        self.core.decoder_mut().set_pixel_limit(pixels);
     }
 
     /// Returns the clip: how many columns and rows an image can have.
@@ -181,7 +161,7 @@ impl SixelDecoder {
     /// nothing, because no image has more.
     #[must_use]
     pub fn clip(&self) -> (usize, usize) {
-        self.shared().clip()
+        self.core.decoder().clip()
     }
 
     /// Sets the clip: each side is at least 1, and at most 1,000,000.
@@ -200,7 +180,7 @@ impl SixelDecoder {
     /// # Ok::<(), icy_sixel::SixelError>(())
     /// ```
     pub fn set_clip(&mut self, width: usize, height: usize) {
-        self.handle().set_clip(width, height);
+        self.core.decoder_mut().set_clip(width, height);
     }
 
     /// Decodes the first DCS sequence in the bytes, or all of them as a payload.
@@ -255,14 +235,14 @@ impl SixelDecoder {
 
     /// Decodes by a copy, which replaces the decoder if it succeeds.
     ///
-    /// So an error leaves the registers unchanged, also if the caller's pixels cannot be allocated.
+    /// So an error leaves the registers unchanged, also if the pixels cannot be returned.
     fn by_copy(
         &mut self,
-        decode: impl FnOnce(&mut Handle) -> Result<ReceivedImage>,
+        decode: impl FnOnce(&mut proved::SixelDecoder) -> proved::Result<proved::ReceivedImage>,
     ) -> Result<ReceivedImage> {
-        let mut copy = self.handle().copy()?;
-        let image = decode(&mut copy)?;
-        *self.handle() = copy;
+        let mut copy = self.core.decoder().clone();
+        let image = ReceivedImage::of(decode(&mut copy)?, self.height, true)?;
+        *self.core = proved::SixelReceiver::with_decoder(copy);
         Ok(image)
     }
 
@@ -287,8 +267,7 @@ impl SixelDecoder {
     ///
     /// None.
     pub fn begin_frame(&mut self, settings: DcsSettings) -> Result<SixelStreamDecoder<'_>> {
-        self.begin_payload(settings);
-        Ok(SixelStreamDecoder::new(self))
+        Ok(SixelStreamDecoder::new(self, settings))
     }
 
     /// Begins a DCS sequence that is decoded in chunks, from its introducer to its end.
@@ -307,30 +286,34 @@ impl SixelDecoder {
     /// # Ok::<(), icy_sixel::SixelError>(())
     /// ```
     pub fn begin_dcs(&mut self) -> SixelDcsStreamDecoder<'_> {
-        self.begin_string();
         SixelDcsStreamDecoder::new(self)
     }
 
-    /// Opens a payload, in place of an open image.
-    pub(crate) fn begin_payload(&mut self, settings: DcsSettings) {
-        self.handle().begin_payload(settings.parameters());
+    /// Reads a chunk of the open image.
+    pub(crate) fn feed(&mut self, chunk: &[u8]) -> core::result::Result<Received, FailedFeed> {
+        if let [byte] = chunk
+            && let Some(received) = self.core.try_byte(*byte)
+        {
+            return Ok(received.into());
+        }
+        Ok(self.core.feed(chunk)?.into())
     }
 
-    /// Opens a DCS sequence, in place of an open image.
-    pub(crate) fn begin_string(&mut self) {
-        self.handle().begin();
-    }
-
-    /// The size of the open image.
-    pub(crate) fn size_so_far(&self) -> Option<(usize, usize)> {
-        let size = self.shared().size_so_far().ok()?;
-        Some((size.width, size.height))
+    /// Closes the open image, and stores its registers if no error occurs.
+    pub(crate) fn finish(&mut self) -> Result<ReceivedImage> {
+        let before = self.core.decoder().clone();
+        let is_complete = self.core.has_ended();
+        let image = ReceivedImage::of(self.core.finish()?, self.height, is_complete);
+        if image.is_err() {
+            *self.core.decoder_mut() = before;
+        }
+        image
     }
 }
 
 /// Ends the process as Rust's own collections do if an allocation fails.
 fn end_without_memory() -> ! {
-    handle_alloc_error(Layout::new::<Handle>())
+    handle_alloc_error(Layout::new::<proved::SixelReceiver>())
 }
 
 impl Default for SixelDecoder {

@@ -1,12 +1,24 @@
 //! Encoding: the SIXEL output of an image.
 
-use crate::codes::{BAD_DIMENSIONS, BUFFER_MISMATCH, error_of};
-use crate::error::{Result, SixelError};
-use crate::ffi::{self, Color, Handle};
-use crate::sixel_image::{BackgroundMode, PixelAspectRatio};
-use crate::size::{pixel_bytes, validate_buffer, validate_encode_dimensions};
+mod pixel_format;
 
-pub use crate::mapping::{Amplitude, Dither, Mapping, Tolerance, Weights};
+use crate::error::{Result, SixelError};
+use crate::proved;
+use crate::rattle::rattle_std::alloc::Global;
+use crate::rattle::rattle_std::prelude::String as ProvedText;
+use crate::rattle::sixel_base::size;
+pub use crate::rattle::sixel_encoder::TextForm;
+use crate::rattle::sixel_encoder::{
+    self, Source, encode_in_palette, encode_refined, encode_source, encode_with_indices,
+};
+pub use crate::rattle::sixel_palette::dither::{Amplitude, Dither};
+use crate::rattle::sixel_palette::dithering;
+pub use crate::rattle::sixel_palette::mapping::{Mapping, Tolerance, Weights};
+use crate::sixel_image::{BackgroundMode, PixelAspectRatio};
+use alloc::borrow::Cow;
+use alloc::string::String;
+use alloc::vec::Vec;
+pub use pixel_format::PixelFormat;
 
 /// How an image is encoded.
 #[derive(Clone, Debug)]
@@ -18,59 +30,6 @@ pub struct EncodeOptions {
 impl Default for EncodeOptions {
     fn default() -> Self {
         Self { max_colors: 256 }
-    }
-}
-
-/// Which SIXEL output of an image is returned.
-///
-/// A decoder returns the same image from both.
-#[derive(Clone, Copy, Debug, PartialEq, Eq)]
-pub enum TextForm {
-    /// Each palette entry of a band has a pass of its own, to the right edge.
-    Plain,
-    /// The same pixels in fewer bytes, or the plain output if that is shorter.
-    Compact,
-}
-
-/// What the bytes of a pixel are.
-#[derive(Clone, Copy, Debug, Default, PartialEq, Eq)]
-pub enum PixelFormat {
-    /// Red, green, blue and alpha.
-    #[default]
-    Rgba,
-    /// Blue, green, red and alpha, as most window systems have them.
-    Bgra,
-    /// Red, green and blue.
-    Rgb,
-    /// Blue, green and red.
-    Bgr,
-    /// The index of a given color.
-    Indexed {
-        /// The index of transparent pixels.
-        transparent: Option<u8>,
-    },
-}
-
-impl PixelFormat {
-    /// The number of bytes of a pixel.
-    fn bytes(self) -> usize {
-        match self {
-            Self::Rgba | Self::Bgra => 4,
-            Self::Rgb | Self::Bgr => 3,
-            Self::Indexed { .. } => 1,
-        }
-    }
-
-    /// The format as C passes it, and the transparent index.
-    fn in_c(self) -> (u8, u8) {
-        match self {
-            Self::Rgba => (0, 0),
-            Self::Bgra => (1, 0),
-            Self::Rgb => (2, 0),
-            Self::Bgr => (3, 0),
-            Self::Indexed { transparent: None } => (4, 0),
-            Self::Indexed { transparent: Some(index) } => (5, index),
-        }
     }
 }
 
@@ -190,52 +149,54 @@ impl<'a> Encoding<'a> {
     /// - `OutOfMemory`: an allocation fails
     pub fn encode(&self, pixels: &[u8]) -> Result<String> {
         validate_encode_dimensions(self.width, self.height)?;
-        let row = self.format.bytes() * self.width;
-        let stride = if self.stride == 0 { row } else { self.stride };
-        let error = |code| match code {
-            BUFFER_MISMATCH => {
-                let expected = stride * (self.height - 1) + row;
-                SixelError::BufferSizeMismatch { expected, actual: pixels.len() }
-            }
-            code => error_of(code),
-        };
-        let mut handle = Handle::new().map_err(error_of)?;
-        let length = handle.encode(pixels, &self.in_c()).map_err(error)?;
-        let mut text = Vec::new();
-        text.try_reserve_exact(length)?;
-        handle.take_text(&mut text).map_err(error_of)?;
-        Ok(String::from_utf8(text).expect("a SIXEL text is ASCII"))
-    }
-
-    /// The encoding as C passes it. There a bound of 0 colors means 256.
-    pub(crate) fn in_c(&self) -> ffi::Encoding {
-        let (format, transparent) = self.format.in_c();
-        let (palette, max_colors, given) = match self.palette {
-            PaletteMode::Refined(most) => (0, if most == 0 { u16::MAX } else { most }, &[][..]),
-            PaletteMode::Farthest(most) => (1, most.max(1), &[][..]),
-            PaletteMode::Given(colors) => (2, 0, colors),
-        };
-        let mut colors = [Color::default(); 256];
-        for (color, &[red, green, blue]) in colors.iter_mut().zip(given) {
-            *color = Color { red, green, blue };
-        }
-        let (dithering, tolerance) = self.mapping.in_c();
-        ffi::Encoding {
+        let rows = self.rows_of(pixels)?;
+        let source = Source {
+            pixels: &self.format.to_rgba(&rows)?,
             width: self.width,
             height: self.height,
-            stride: self.stride,
-            tolerance,
-            max_colors,
-            color_count: u16::try_from(given.len()).unwrap_or(u16::MAX),
-            format,
-            pixel_height: self.aspect_ratio.pad() as u8,
-            background: u8::from(!self.background_mode.is_transparent()),
-            palette,
-            dithering,
-            form: u8::from(self.form == TextForm::Compact),
-            transparent,
-            colors,
+            aspect_ratio: self.aspect_ratio,
+            background_mode: self.background_mode,
+        };
+        text_of(match (self.format, self.palette) {
+            (PixelFormat::Indexed { .. }, PaletteMode::Given(colors)) => {
+                encode_with_indices(Global, &source, colors, &rows, self.form)
+            }
+            (PixelFormat::Indexed { .. }, _) => Err(proved::SixelError::color_count()),
+            (_, PaletteMode::Refined(max_colors)) => {
+                encode_refined(Global, &source, max_colors, self.mapping, self.form)
+            }
+            (_, PaletteMode::Farthest(max_colors)) => {
+                encode_source(Global, &source, max_colors, self.form)
+            }
+            (_, PaletteMode::Given(colors)) => {
+                encode_in_palette(Global, &source, colors, self.mapping, self.form)
+            }
+        })
+    }
+
+    /// The rows of the image, without the bytes between them.
+    fn rows_of<'p>(&self, pixels: &'p [u8]) -> Result<Cow<'p, [u8]>> {
+        let row = self.format.bytes() * self.width;
+        let stride = if self.stride == 0 { row } else { self.stride };
+        if stride < row {
+            return Err(proved::SixelError::short_stride().into());
         }
+        let above = stride.checked_mul(self.height - 1);
+        let Some(expected) = above.and_then(|above| above.checked_add(row)) else {
+            return Err(SixelError::IntegerOverflow);
+        };
+        if pixels.len() < expected {
+            return Err(SixelError::BufferSizeMismatch { expected, actual: pixels.len() });
+        }
+        if stride == row {
+            return Ok(Cow::Borrowed(&pixels[..expected]));
+        }
+        let mut rows = Vec::new();
+        rows.try_reserve_exact(row * self.height)?;
+        for bytes in pixels.chunks(stride).take(self.height) {
+            rows.extend_from_slice(&bytes[..row]);
+        }
+        Ok(Cow::Owned(rows))
     }
 }
 
@@ -255,8 +216,8 @@ impl<'a> Encoding<'a> {
 /// ```
 ///
 /// The pixels are rows of `width`, four bytes each. Without dithering and tolerance each opaque
-/// pixel has the index of its nearest entry, the first of equals. A transparent pixel has index 0, and its color
-/// has no effect.
+/// pixel has the index of its nearest entry, the first of equals. A transparent pixel has index 0,
+/// and its color has no effect.
 ///
 /// # Errors
 ///
@@ -272,18 +233,8 @@ pub fn palette_indices(
     colors: &[[u8; 3]],
     mapping: Mapping,
 ) -> Result<Vec<u8>> {
-    let error = |code| match code {
-        BAD_DIMENSIONS => SixelError::InvalidDimensions { width, height: 0 },
-        BUFFER_MISMATCH => SixelError::BufferSizeMismatch {
-            expected: pixels.len() / 4 / width * width * 4,
-            actual: pixels.len(),
-        },
-        code => error_of(code),
-    };
-    let mut indices = Vec::new();
-    indices.try_reserve_exact(pixels.len() / 4)?;
-    ffi::palette_indices(pixels, width, colors, mapping.in_c(), &mut indices).map_err(error)?;
-    Ok(indices)
+    let indices = dithering::palette_indices(Global, pixels, width, colors, mapping)?;
+    Ok(indices.into_exact()?)
 }
 
 /// Returns the SIXEL output of pixels of four bytes each.
@@ -309,8 +260,8 @@ pub fn sixel_encode(
     height: usize,
     options: &EncodeOptions,
 ) -> Result<String> {
-    let encoding = exact_encoding(pixels, width, height)?;
-    encoding.palette(PaletteMode::Farthest(options.max_colors)).encode(pixels)
+    let options = sixel_encoder::EncodeOptions { max_colors: options.max_colors };
+    text_of(sixel_encoder::sixel_encode(Global, pixels, width, height, &options))
 }
 
 /// Does what [`sixel_encode`] does with the default options.
@@ -322,13 +273,21 @@ pub fn sixel_encode_default(pixels: &[u8], width: usize, height: usize) -> Resul
     sixel_encode(pixels, width, height, &EncodeOptions::default())
 }
 
-/// The encoding of pixels without gaps, four bytes each. More bytes are an error.
-pub(crate) fn exact_encoding(
-    pixels: &[u8],
-    width: usize,
-    height: usize,
-) -> Result<Encoding<'static>> {
-    validate_encode_dimensions(width, height)?;
-    validate_buffer(pixel_bytes(width, height)?, pixels.len())?;
-    Ok(Encoding::new(width, height))
+/// Returns an error unless an image of this size can be encoded.
+///
+/// # Errors
+///
+/// In this order:
+///
+/// - [`InvalidDimensions`](SixelError::InvalidDimensions) for a zero size
+/// - [`IntegerOverflow`](SixelError::IntegerOverflow) for more bytes of pixels than `usize::MAX`
+/// - `InvalidDimensions` for a side above 1,000,000 or an area above 67,108,864, where the height
+///   is rounded up to whole bands of six rows
+pub fn validate_encode_dimensions(width: usize, height: usize) -> Result<()> {
+    Ok(size::validate_encode_dimensions(width, height)?)
+}
+
+/// The output that the core returns, without spare capacity.
+pub(crate) fn text_of(output: proved::Result<ProvedText>) -> Result<String> {
+    Ok(output?.into_exact()?)
 }

@@ -1,17 +1,17 @@
 //! Why a call failed.
 
-use std::collections::TryReserveError;
-use std::error::Error;
-use std::fmt;
-
-pub(crate) const COLOR_COUNT: &str = "number of colors is not 1 to 256";
-pub(crate) const INDEX_RANGE: &str = "palette index out of range";
-pub(crate) const ROWS_NOT_FINAL: &str = "rows are not final";
-pub(crate) const ROWS_RELEASED: &str = "rows were released";
-pub(crate) const SHORT_STRIDE: &str = "stride is shorter than a row";
+use crate::proved;
+use crate::rattle::rattle_std::alloc::AllocError;
+use crate::rattle::sixel_base::error::{
+    COLOR_COUNT, INDEX_RANGE, ROWS_NOT_FINAL, ROWS_RELEASED, SHORT_STRIDE,
+};
+use alloc::collections::TryReserveError;
+use alloc::string::String;
+use core::error::Error;
+use core::fmt;
 
 /// The result of a call that can fail.
-pub type Result<T> = std::result::Result<T, SixelError>;
+pub type Result<T> = core::result::Result<T, SixelError>;
 
 /// Why a call failed.
 #[derive(Clone, Debug, PartialEq, Eq)]
@@ -44,7 +44,7 @@ impl SixelError {
     /// The error of invalid data for this reason, or `OutOfMemory`.
     ///
     /// It is `OutOfMemory` if the text cannot be allocated.
-    pub(crate) fn of_data(reason: &str) -> Self {
+    fn of_data(reason: &str) -> Self {
         let mut text = String::new();
         match text.try_reserve_exact(reason.len()) {
             Ok(()) => {
@@ -84,6 +84,29 @@ fn subject(text: &str) -> &'static str {
 }
 
 impl Error for SixelError {}
+
+impl From<proved::SixelError> for SixelError {
+    fn from(error: proved::SixelError) -> Self {
+        match error {
+            proved::SixelError::InvalidDimensions { width, height } => {
+                Self::InvalidDimensions { width, height }
+            }
+            proved::SixelError::BufferSizeMismatch { expected, actual } => {
+                Self::BufferSizeMismatch { expected, actual }
+            }
+            proved::SixelError::InvalidData(reason) => Self::of_data(reason),
+            proved::SixelError::NoSixelData => Self::NoSixelData,
+            proved::SixelError::IntegerOverflow => Self::IntegerOverflow,
+            proved::SixelError::OutOfMemory => Self::OutOfMemory,
+        }
+    }
+}
+
+impl From<AllocError> for SixelError {
+    fn from(_: AllocError) -> Self {
+        Self::OutOfMemory
+    }
+}
 
 impl From<TryReserveError> for SixelError {
     fn from(_: TryReserveError) -> Self {

@@ -1,20 +1,24 @@
 #![doc = include_str!("../README.md")]
+#![no_std]
 
-mod codes;
+extern crate alloc;
+
+#[forbid(unsafe_code)]
 pub mod decoder;
+#[forbid(unsafe_code)]
 pub mod encoder;
+#[forbid(unsafe_code)]
 mod error;
-#[allow(unsafe_code)]
-mod ffi;
-mod handle;
-mod mapping;
+#[forbid(unsafe_code)]
 pub mod palette;
+#[rustfmt::skip]
+mod rattle;
+#[forbid(unsafe_code)]
 pub mod receiver;
+#[forbid(unsafe_code)]
 pub mod script;
-mod settings;
+#[forbid(unsafe_code)]
 pub mod sixel_image;
-mod size;
-mod status;
 
 pub use decoder::{
     DcsSettings, SixelDcsFeedResult, SixelDcsFeedStatus, SixelDcsStreamDecoder, SixelDecoder,
@@ -23,13 +27,14 @@ pub use decoder::{
 pub use encoder::{
     Amplitude, Dither, EncodeOptions, Encoding, Mapping, PaletteMode, PixelFormat, TextForm,
     Tolerance, Weights, palette_indices, sixel_encode, sixel_encode_default,
+    validate_encode_dimensions,
 };
 pub use error::{Result, SixelError};
 pub use palette::{PaletteChoice, RefinedPalette, choose_palette, refine_palette, witnesses_hold};
+use rattle::icy_sixel as proved;
 pub use receiver::{
     BandStatus, ChannelOrder, FailedFeed, Height, Received, ReceivedBand, ReceivedImage, RowLayout,
     SixelReceiver,
 };
 pub use script::Status;
 pub use sixel_image::{BackgroundMode, PixelAspectRatio, SixelImage};
-pub use size::validate_encode_dimensions;

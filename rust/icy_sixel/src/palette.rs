@@ -1,8 +1,10 @@
 //! The palette of an image, and a certificate that no palette is much better.
 
-use crate::codes::error_of;
-use crate::error::{Result, SixelError};
-use crate::ffi::{self, Color};
+use crate::error::Result;
+use crate::rattle::rattle_std::alloc::Global;
+use crate::rattle::sixel_palette::palette;
+pub use crate::rattle::sixel_palette::palette::witnesses_hold;
+use alloc::vec::Vec;
 
 /// A palette, each pixel's palette index, and a certificate of the palette's error.
 #[derive(Clone, Debug, PartialEq, Eq)]
@@ -48,19 +50,12 @@ pub struct PaletteChoice {
 /// `BufferSizeMismatch` if the length is no multiple of four, before anything is allocated; it
 /// expects the length rounded down. Otherwise only `OutOfMemory`.
 pub fn choose_palette(pixels: &[u8], max_colors: u16) -> Result<PaletteChoice> {
-    validate_pixels(pixels)?;
-    let mut colors = [Color::default(); MOST_COLORS];
-    let mut witnesses = [Color::default(); MOST_COLORS + 1];
-    let mut indices = Vec::new();
-    indices.try_reserve_exact(pixels.len() / 4)?;
-    let palette =
-        ffi::choose_palette(pixels, max_colors, &mut colors, &mut witnesses, &mut indices)
-            .map_err(error_of)?;
+    let choice = palette::choose_palette(Global, pixels, max_colors)?;
     Ok(PaletteChoice {
-        colors: listed(&colors[..palette.colors])?,
-        indices,
-        error: palette.error,
-        witnesses: listed(&witnesses[..palette.witnesses])?,
+        colors: choice.colors.into_exact()?,
+        indices: choice.indices.into_exact()?,
+        error: choice.error,
+        witnesses: choice.witnesses.into_exact()?,
     })
 }
 
@@ -105,58 +100,12 @@ pub struct RefinedPalette {
 /// `InvalidData` if `max_colors` is 0 or above 256, and for more than 67,108,864 pixels. Otherwise
 /// only `OutOfMemory`.
 pub fn refine_palette(pixels: &[u8], max_colors: u16) -> Result<RefinedPalette> {
-    validate_pixels(pixels)?;
-    let mut colors = [Color::default(); MOST_COLORS];
-    let mut witnesses = [Color::default(); MOST_COLORS + 1];
-    let mut indices = Vec::new();
-    indices.try_reserve_exact(pixels.len() / 4)?;
-    let refined =
-        ffi::refine_palette(pixels, max_colors, &mut colors, &mut witnesses, &mut indices)
-            .map_err(error_of)?;
+    let refined = palette::refine_palette(Global, pixels, max_colors)?;
     Ok(RefinedPalette {
-        colors: listed(&colors[..refined.colors])?,
-        indices,
+        colors: refined.colors.into_exact()?,
+        indices: refined.indices.into_exact()?,
         error: refined.error,
-        witnesses: listed(&witnesses[..refined.witnesses])?,
+        witnesses: refined.witnesses.into_exact()?,
         apart: refined.apart,
     })
-}
-
-/// Returns an error unless the pixels have four bytes each.
-fn validate_pixels(pixels: &[u8]) -> Result<()> {
-    let beyond = pixels.len() % 4;
-    if beyond == 0 {
-        return Ok(());
-    }
-    let (expected, actual) = (pixels.len() - beyond, pixels.len());
-    Err(SixelError::BufferSizeMismatch { expected, actual })
-}
-
-/// Returns whether every two witnesses have a squared distance of at least `error`.
-///
-/// If so, then for any list of fewer colors some witness has to each of these a squared distance of
-/// at least a fourth of `error`.
-#[must_use]
-pub fn witnesses_hold(witnesses: &[[u8; 3]], error: u32) -> bool {
-    let is_apart = |(place, color): (usize, &[u8; 3])| {
-        witnesses[..place].iter().all(|other| distance(color, other) >= error)
-    };
-    witnesses.iter().enumerate().all(is_apart)
-}
-
-/// The most entries that a palette has.
-const MOST_COLORS: usize = 256;
-
-/// The colors as a list of their channels.
-fn listed(colors: &[Color]) -> Result<Vec<[u8; 3]>> {
-    let mut list = Vec::new();
-    list.try_reserve_exact(colors.len())?;
-    list.extend(colors.iter().map(|color| [color.red, color.green, color.blue]));
-    Ok(list)
-}
-
-/// The squared distance of two colors.
-fn distance(one: &[u8; 3], other: &[u8; 3]) -> u32 {
-    let gap = |channel: usize| u32::from(one[channel].abs_diff(other[channel]));
-    (0..3).map(|channel| gap(channel) * gap(channel)).sum()
 }

@@ -3,16 +3,16 @@
 mod received_image;
 mod rows;
 
-use crate::codes::error_of;
 use crate::decoder::{DcsSettings, SixelDecoder};
-use crate::decoder::{payload_status, string_status};
 use crate::error::{Result, SixelError};
-use crate::ffi::Fed;
+use crate::proved;
+pub use crate::proved::{ChannelOrder, Height, RowLayout};
+use crate::rattle::rattle_std::alloc::Global;
 use crate::script::Status;
-pub use received_image::{Height, ReceivedImage};
-pub use rows::{BandStatus, ChannelOrder, ReceivedBand, RowLayout};
-use std::error::Error;
-use std::fmt;
+use core::error::Error;
+use core::fmt;
+pub use received_image::ReceivedImage;
+pub use rows::{BandStatus, ReceivedBand};
 
 /// The result of a feed of a receiver.
 #[derive(Clone, Copy, Debug, PartialEq, Eq)]
@@ -22,6 +22,12 @@ pub struct Received {
     pub consumed: usize,
     /// The status, as a session of that form returns it.
     pub status: Status,
+}
+
+impl From<proved::Received> for Received {
+    fn from(received: proved::Received) -> Self {
+        Self { consumed: received.consumed, status: received.status.into() }
+    }
 }
 
 /// Why a feed of a receiver failed, and what it did all the same.
@@ -49,12 +55,11 @@ impl From<FailedFeed> for SixelError {
     }
 }
 
-/// The open image, if one is.
-#[derive(Clone, Copy, Debug, PartialEq, Eq)]
-enum Open {
-    Nothing,
-    Payload,
-    ControlString,
+impl From<proved::FailedFeed> for FailedFeed {
+    fn from(failed: proved::FailedFeed) -> Self {
+        let proved::FailedFeed { consumed, status, error } = failed;
+        Self { consumed, status: status.into(), error: error.into() }
+    }
 }
 
 /// A decoder, and at most one image that it is receiving.
@@ -83,7 +88,6 @@ enum Open {
 #[derive(Debug)]
 pub struct SixelReceiver {
     decoder: SixelDecoder,
-    open: Open,
 }
 
 impl SixelReceiver {
@@ -96,8 +100,8 @@ impl SixelReceiver {
     /// Creates a receiver with this decoder and no open image.
     #[must_use]
     pub fn with_decoder(mut decoder: SixelDecoder) -> Self {
-        decoder.handle().abort();
-        Self { decoder, open: Open::Nothing }
+        decoder.core.abort();
+        Self { decoder }
     }
 
     /// Returns the decoder, and aborts an open image.
@@ -116,23 +120,21 @@ impl SixelReceiver {
     /// Whether an image is open: it was begun, and neither finished nor aborted.
     #[must_use]
     pub fn is_receiving(&self) -> bool {
-        self.open != Open::Nothing
+        self.decoder.core.is_receiving()
     }
 
     /// Begins a payload with the decoder's current registers and settings.
     ///
     /// An open image is aborted. The call does not allocate.
     pub fn begin_frame(&mut self, settings: DcsSettings) {
-        self.decoder.begin_payload(settings);
-        self.open = Open::Payload;
+        self.decoder.core.begin_frame(Global, settings);
     }
 
     /// Begins a DCS sequence with the decoder's current registers and settings.
     ///
     /// An open image is aborted. The call does not allocate.
     pub fn begin_dcs(&mut self) {
-        self.decoder.begin_string();
-        self.open = Open::ControlString;
+        self.decoder.core.begin_dcs(Global);
     }
 
     /// Reads a chunk of the open image, and does not consume what follows the image.
@@ -150,22 +152,8 @@ impl SixelReceiver {
     ///
     /// [`SixelStreamDecoder::feed`]: crate::SixelStreamDecoder::feed
     /// [`SixelDcsStreamDecoder::feed`]: crate::SixelDcsStreamDecoder::feed
-    pub fn feed(&mut self, chunk: &[u8]) -> std::result::Result<Received, FailedFeed> {
-        let (fed, answer) = self.decoder.handle().feed(chunk);
-        let Received { consumed, status } = self.received(fed);
-        match answer {
-            Ok(()) => Ok(Received { consumed, status }),
-            Err(code) => Err(FailedFeed { consumed, status, error: error_of(code) }),
-        }
-    }
-
-    /// The result of a feed of the open image.
-    fn received(&self, fed: Fed) -> Received {
-        let status = match self.open {
-            Open::ControlString => Status::Dcs(string_status(fed)),
-            Open::Payload | Open::Nothing => Status::Payload(payload_status(fed)),
-        };
-        Received { consumed: fed.consumed, status }
+    pub fn feed(&mut self, chunk: &[u8]) -> core::result::Result<Received, FailedFeed> {
+        self.decoder.feed(chunk)
     }
 
     /// Closes the image, returns it, and stores its registers in the decoder.
@@ -178,14 +166,12 @@ impl SixelReceiver {
     /// that of [`feed`](Self::feed). An error closes the image too, and leaves the decoder
     /// unchanged.
     pub fn finish(&mut self) -> Result<ReceivedImage> {
-        self.open = Open::Nothing;
-        self.decoder.handle().finish()
+        self.decoder.finish()
     }
 
     /// Aborts the open image, if there is one. The decoder is unchanged.
     pub fn abort(&mut self) {
-        self.decoder.handle().abort();
-        self.open = Open::Nothing;
+        self.decoder.core.abort();
     }
 
     /// Returns how many columns of six pixels were written so far.
@@ -193,7 +179,7 @@ impl SixelReceiver {
     /// It is that of the sessions, and 0 if no image is open. The call does not allocate.
     #[must_use]
     pub fn canvas_paints(&self) -> u64 {
-        self.decoder.shared().canvas_paints()
+        self.decoder.core.canvas_paints()
     }
 
     /// Whether the payload of the open image has begun and no feed has failed.
@@ -202,7 +188,7 @@ impl SixelReceiver {
     /// no image is open.
     #[must_use]
     pub fn in_payload(&self) -> bool {
-        self.decoder.shared().in_payload()
+        self.decoder.core.in_payload()
     }
 
     /// Returns the width and the height of the image so far, as a payload session does.
@@ -211,7 +197,7 @@ impl SixelReceiver {
     /// allocate. The size is that of [`size_so_far`](crate::SixelStreamDecoder::size_so_far).
     #[must_use]
     pub fn size_so_far(&self) -> Option<(usize, usize)> {
-        self.decoder.size_so_far()
+        self.decoder.core.size_so_far()
     }
 
     /// Returns the last row with a set pixel, plus one, or 0 if there is none.
@@ -220,7 +206,7 @@ impl SixelReceiver {
     /// does, and returns 0 if no image is open.
     #[must_use]
     pub fn drawn_height(&self) -> usize {
-        self.decoder.shared().drawn_height()
+        self.decoder.core.drawn_height()
     }
 
     /// Returns how many rows from the top of the open image are final.
@@ -234,7 +220,7 @@ impl SixelReceiver {
     ///   [`set_height`](Self::set_height).
     #[must_use]
     pub fn rows_so_far(&self) -> usize {
-        self.decoder.shared().rows_so_far()
+        self.decoder.core.rows_so_far()
     }
 
     /// Returns the color of a register: red, green and blue, a byte each.
@@ -278,7 +264,7 @@ impl SixelReceiver {
     /// No row is added to an image, and a clip ends it first. [`into_decoder`](Self::into_decoder)
     /// returns a decoder with the same setting.
     pub fn set_height(&mut self, height: Height) {
-        self.decoder.set_height(height);
+        self.decoder.height = height;
     }
 
     /// Sets whether a command with a fault is ignored, in place of rejecting the image.
@@ -294,7 +280,7 @@ impl SixelReceiver {
     /// - `finish` of a DCS sequence without terminator returns its image so far, once its payload
     ///   has begun.
     pub fn set_lenient(&mut self, on: bool) {
-        self.decoder.set_lenient(on);
+        self.decoder.core.set_lenient(on);
     }
 
     /// Sets whether pixels that are not drawn are transparent, whatever P2 of an image says.
@@ -304,7 +290,7 @@ impl SixelReceiver {
     /// image stays the one that P2 selects. So a multiplexer can encode the image again with its
     /// P2, and the background shows through where nothing was drawn.
     pub fn set_transparent(&mut self, on: bool) {
-        self.decoder.set_transparent(on);
+        self.decoder.core.set_transparent(on);
     }
 
     /// Sets how many pixels an image can have.

@@ -1,6 +1,7 @@
 //! The status of an image, a payload or a DCS sequence.
 
-use crate::status::{SixelDcsFeedStatus, SixelFeedStatus};
+use crate::decoder::{SixelDcsFeedStatus, SixelFeedStatus};
+use crate::proved;
 
 /// The status of a payload or of a DCS sequence.
 #[derive(Clone, Copy, Debug, PartialEq, Eq)]
@@ -20,5 +21,14 @@ impl Status {
             Self::Payload(SixelFeedStatus::NeedMoreData)
                 | Self::Dcs(SixelDcsFeedStatus::NeedMoreData)
         )
+    }
+}
+
+impl From<proved::Status> for Status {
+    fn from(status: proved::Status) -> Self {
+        match status {
+            proved::Status::Payload(status) => Self::Payload(status),
+            proved::Status::Dcs(status) => Self::Dcs(status),
+        }
     }
 }

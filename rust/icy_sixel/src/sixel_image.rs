@@ -1,16 +1,20 @@
 //! An image as its pixels, sizes, pixel shape and background.
 
-use crate::codes::{COLOR_COUNT, error_of};
-use crate::encoder::{
-    EncodeOptions, Encoding, Mapping, PaletteMode, PixelFormat, TextForm, exact_encoding,
-};
+use crate::decoder::DcsSettings;
+use crate::encoder::{EncodeOptions, Mapping, TextForm, text_of};
 use crate::error::{Result, SixelError};
-use crate::ffi::Handle;
-use crate::settings::DcsSettings;
-pub use crate::settings::{BackgroundMode, PixelAspectRatio};
-use crate::size::{pixel_bytes, validate_buffer};
-use std::fmt;
-use std::str::FromStr;
+use crate::proved;
+use crate::rattle::rattle_std::alloc::Global;
+pub use crate::rattle::sixel_base::settings::{BackgroundMode, PixelAspectRatio};
+use crate::rattle::sixel_base::size::pixel_bytes;
+use crate::rattle::sixel_encoder::{
+    Source, encode_in_palette, encode_refined, encode_source, encode_with_indices,
+};
+use crate::receiver::{Height, ReceivedImage};
+use alloc::string::String;
+use alloc::vec::Vec;
+use core::fmt;
+use core::str::FromStr;
 
 /// An image of four bytes per pixel: red, green, blue, alpha.
 ///
@@ -48,7 +52,8 @@ impl SixelImage {
     ///
     /// Those of [`SixelDecoder::decode`](crate::SixelDecoder::decode).
     pub fn decode(bytes: &[u8]) -> Result<Self> {
-        Handle::new().map_err(error_of)?.decode(bytes)?.into_image()
+        let image = proved::SixelDecoder::new().decode_drawn(Global, bytes)?;
+        ReceivedImage::of(image, Height::Bands, true)?.into_image()
     }
 
     /// Decodes one payload, as [`SixelDecoder::decode_from_dcs`] of a new decoder does.
@@ -59,7 +64,8 @@ impl SixelImage {
     ///
     /// [`SixelDecoder::decode_from_dcs`]: crate::SixelDecoder::decode_from_dcs
     pub fn decode_from_dcs(bytes: &[u8], settings: DcsSettings) -> Result<Self> {
-        Handle::new().map_err(error_of)?.decode_payload(bytes, settings)?.into_image()
+        let image = proved::SixelDecoder::new().decode_from_dcs_drawn(Global, bytes, settings)?;
+        ReceivedImage::of(image, Height::Bands, true)?.into_image()
     }
 
     /// Creates an image with square pixels and a transparent background.
@@ -83,7 +89,10 @@ impl SixelImage {
     /// A zero size is `InvalidDimensions`, bytes above `usize::MAX` are `IntegerOverflow`, and
     /// another number of bytes is `BufferSizeMismatch`, in this order. The pixels are dropped then.
     pub fn try_from_rgba(pixels: Vec<u8>, width: usize, height: usize) -> Result<Self> {
-        validate_buffer(pixel_bytes(width, height)?, pixels.len())?;
+        let (expected, actual) = (pixel_bytes(width, height)?, pixels.len());
+        if actual != expected {
+            return Err(SixelError::BufferSizeMismatch { expected, actual });
+        }
         Ok(Self::from_rgba(pixels, width, height))
     }
 
@@ -148,7 +157,7 @@ impl SixelImage {
     /// (`IntegerOverflow`), sizes above the limits (`InvalidDimensions`), and pixels of another
     /// number of bytes (`BufferSizeMismatch`). `OutOfMemory` if an allocation fails.
     pub fn encode_with(&self, options: &EncodeOptions) -> Result<String> {
-        self.encoding()?.palette(PaletteMode::Farthest(options.max_colors)).encode(&self.pixels)
+        text_of(encode_source(Global, &self.source(), options.max_colors, TextForm::Plain))
     }
 
     /// Returns the compact SIXEL output of this image: the same pixels in fewer bytes.
@@ -160,8 +169,7 @@ impl SixelImage {
     ///
     /// Those of [`encode_with`](Self::encode_with).
     pub fn encode_compact(&self, options: &EncodeOptions) -> Result<String> {
-        let encoding = self.encoding()?.form(TextForm::Compact);
-        encoding.palette(PaletteMode::Farthest(options.max_colors)).encode(&self.pixels)
+        text_of(encode_source(Global, &self.source(), options.max_colors, TextForm::Compact))
     }
 
     /// Returns the SIXEL output of this image in a given palette of 1 to 256 colors.
@@ -193,15 +201,13 @@ impl SixelImage {
         mapping: Mapping,
         form: TextForm,
     ) -> Result<String> {
-        let encoding = self.encoding()?.mapping(mapping).form(form);
-        encoding.palette(PaletteMode::Given(colors)).encode(&self.pixels)
+        text_of(encode_in_palette(Global, &self.source(), colors, mapping, form))
     }
 
     /// Returns the SIXEL output of this image by given palette indices.
     ///
     /// There is an index for each pixel, row by row. The indices of transparent pixels have no
-    /// effect, and neither have the colors of pixels. If opaque pixels have all 256 indices and
-    /// other pixels are transparent, equal colors get their first index.
+    /// effect, and neither have the colors of pixels.
     ///
     /// # Errors
     ///
@@ -216,33 +222,7 @@ impl SixelImage {
         indices: &[u8],
         form: TextForm,
     ) -> Result<String> {
-        let encoding = self.encoding()?.form(form).palette(PaletteMode::Given(colors));
-        if colors.is_empty() || colors.len() > 256 {
-            return Err(error_of(COLOR_COUNT));
-        }
-        validate_buffer(self.width * self.height, indices.len())?;
-        let is_opaque = |pixel: usize| self.pixels[4 * pixel + 3] >= 128;
-        let mut is_used = [false; 256];
-        for (pixel, &index) in indices.iter().enumerate() {
-            is_used[usize::from(index)] |= is_opaque(pixel);
-        }
-        let mut pixels = Vec::new();
-        if let Some(free) = (0..=255).find(|&index| !is_used[usize::from(index)]) {
-            pixels.try_reserve_exact(indices.len())?;
-            let listed = indices.iter().enumerate();
-            pixels.extend(listed.map(|(pixel, &it)| if is_opaque(pixel) { it } else { free }));
-            encoding.format(PixelFormat::Indexed { transparent: Some(free) }).encode(&pixels)
-        } else if (0..indices.len()).all(is_opaque) {
-            encoding.format(PixelFormat::Indexed { transparent: None }).encode(indices)
-        } else {
-            // No index is left for transparent pixels, and all 256 colors are there.
-            pixels.try_reserve_exact(self.pixels.len())?;
-            for (pixel, &index) in indices.iter().enumerate() {
-                let [red, green, blue] = colors[usize::from(index)];
-                pixels.extend([red, green, blue, self.pixels[4 * pixel + 3]]);
-            }
-            encoding.encode(&pixels)
-        }
+        text_of(encode_with_indices(Global, &self.source(), colors, indices, form))
     }
 
     /// Returns the SIXEL output of this image in a refined palette.
@@ -272,14 +252,18 @@ impl SixelImage {
         mapping: Mapping,
         form: TextForm,
     ) -> Result<String> {
-        let encoding = self.encoding()?.mapping(mapping).form(form);
-        encoding.palette(PaletteMode::Refined(max_colors)).encode(&self.pixels)
+        text_of(encode_refined(Global, &self.source(), max_colors, mapping, form))
     }
 
-    /// The encoding of this image, or the error of its sizes.
-    fn encoding(&self) -> Result<Encoding<'_>> {
-        let encoding = exact_encoding(&self.pixels, self.width, self.height)?;
-        Ok(encoding.aspect_ratio(self.aspect_ratio).background_mode(self.background_mode))
+    /// This image with its pixels borrowed.
+    fn source(&self) -> Source<'_> {
+        Source {
+            pixels: &self.pixels,
+            width: self.width,
+            height: self.height,
+            aspect_ratio: self.aspect_ratio,
+            background_mode: self.background_mode,
+        }
     }
 }
 

@@ -1,5 +1,5 @@
 //! Each allocation fails in turn: the call returns `OutOfMemory`, no register changes, and the same
-//! call succeeds with memory. The library allocates by Rust's global allocator, which this file
+//! call succeeds with memory. The crate allocates by Rust's global allocator, which this file
 //! replaces by one that counts and fails.
 
 #![allow(unsafe_code)]
@@ -7,10 +7,10 @@
 mod common;
 
 use common::*;
-use icy_sixel::receiver::SixelReceiver;
+use icy_sixel::receiver::{ReceivedImage, SixelReceiver};
 use icy_sixel::{
     DcsSettings, EncodeOptions, Result, SixelDcsStreamDecoder, SixelDecoder, SixelError,
-    SixelImage, SixelStreamDecoder, choose_palette,
+    SixelImage, SixelStreamDecoder, TextForm, choose_palette,
 };
 use std::alloc::{GlobalAlloc, Layout, System};
 use std::cell::Cell;
@@ -27,6 +27,8 @@ thread_local! {
     static GRANTED: Cell<i64> = const { Cell::new(-1) };
     /// Bytes that are allocated.
     static HELD: Cell<i64> = const { Cell::new(0) };
+    /// The size of the largest block that was allocated at once. A block that grows is not new.
+    static LARGEST: Cell<usize> = const { Cell::new(0) };
 }
 
 /// Counts an allocation, and returns whether it fails.
@@ -43,6 +45,7 @@ unsafe impl GlobalAlloc for Counting {
             return null_mut();
         }
         HELD.set(HELD.get() + layout.size() as i64);
+        LARGEST.set(LARGEST.get().max(layout.size()));
         // SAFETY: the caller's own promise.
         unsafe { System.alloc(layout) }
     }
@@ -307,6 +310,46 @@ fn pixels_have_their_own_capacity() {
             drop(image);
             assert_eq!(HELD.get(), with_image - 4 * (width * height) as i64);
         }
+    }
+}
+
+/// Asserts that bytes are returned in the block in which they grew: no new block is half as large.
+#[track_caller]
+fn is_not_copied(bytes: usize, capacity: usize) {
+    assert_eq!(capacity, bytes);
+    let largest = LARGEST.replace(0);
+    assert!(2 * largest < bytes, "a block of {largest} bytes for {bytes}");
+}
+
+#[test]
+fn pixels_are_not_copied() {
+    let bands = "#1!1000~-".repeat(100);
+    let string = format!("\x1bP9;1q{bands}\x1b\\").into_bytes();
+    let check = |image: Result<SixelImage>| {
+        let pixels = image.unwrap().pixels;
+        is_not_copied(pixels.len(), pixels.capacity());
+    };
+    let mut decoder = SixelDecoder::new();
+    let mut receiver = SixelReceiver::new();
+    LARGEST.set(0);
+    check(SixelImage::decode(&string));
+    check(decoder.decode(&string));
+    let mut session = decoder.begin_dcs();
+    feed_chunks(&string, |chunk| session.feed(chunk)).unwrap();
+    check(session.finish());
+    receiver.begin_dcs();
+    feed_chunks(&string, |chunk| Ok(receiver.feed(chunk)?)).unwrap();
+    check(receiver.finish().and_then(ReceivedImage::into_image));
+}
+
+#[test]
+fn texts_are_not_copied() {
+    let image = SixelImage::from_rgba([9, 9, 9, 255].repeat(60 * 6000), 60, 6000);
+    let indices: Vec<u8> = (0..60 * 6000u64).map(|pixel| (pixel * pixel / 7 % 16) as u8).collect();
+    LARGEST.set(0);
+    for form in [TextForm::Plain, TextForm::Compact] {
+        let text = image.encode_indexed(&[[0; 3]; 16], &indices, form).unwrap();
+        is_not_copied(text.len(), text.capacity());
     }
 }
 

@@ -22,7 +22,7 @@ type Outcome = std::result::Result<SixelImage, String>;
 /// Calls a function with the columns of each vector of a file.
 fn each_vector(name: &str, mut check: impl FnMut(&[&str])) {
     let named = env::var_os("SIXEL_VECTORS").map(PathBuf::from);
-    let beside = PathBuf::from(env!("CARGO_MANIFEST_DIR")).join("../../crates/sixel_tests/data");
+    let beside = PathBuf::from(env!("CARGO_MANIFEST_DIR")).join("../../../crates/sixel_tests/data");
     if named.is_none() && !beside.is_dir() {
         eprintln!("{name}: skipped, because the package stands alone");
         return;

@@ -1,11 +1,22 @@
 //! The session that decodes one DCS sequence in chunks.
 
-use crate::codes::{CANCELLED, COMPLETE, DCS_STREAM_FAILED, MORE, error_of, session_result};
-use crate::decoder::SixelDecoder;
+use crate::decoder::session::Session;
+use crate::decoder::{SixelDcsFeedStatus, SixelDecoder};
 use crate::error::Result;
-use crate::ffi::Fed;
+use crate::proved;
+use crate::rattle::rattle_std::alloc::Global;
+use crate::script::Status;
 use crate::sixel_image::SixelImage;
-use crate::status::{SixelDcsFeedResult, SixelDcsFeedStatus};
+
+/// What a feed of a DCS sequence session did.
+#[derive(Clone, Copy, Debug, PartialEq, Eq)]
+#[must_use = "it says how many bytes belong to the image, and whether it has ended"]
+pub struct SixelDcsFeedResult {
+    /// How many bytes of the chunk belong to the DCS sequence.
+    pub consumed: usize,
+    /// What the caller does next.
+    pub status: SixelDcsFeedStatus,
+}
 
 /// A DCS sequence that is decoded in chunks, from its introducer to its end.
 ///
@@ -21,14 +32,14 @@ use crate::status::{SixelDcsFeedResult, SixelDcsFeedStatus};
 #[derive(Debug)]
 #[must_use = "a session gives its image by `finish`"]
 pub struct SixelDcsStreamDecoder<'a> {
-    owner: &'a mut SixelDecoder,
-    has_failed: bool,
+    session: Session<'a>,
 }
 
 impl<'a> SixelDcsStreamDecoder<'a> {
-    /// The session of the DCS sequence that the decoder has begun.
-    pub(crate) fn new(owner: &'a mut SixelDecoder) -> Self {
-        Self { owner, has_failed: false }
+    /// Begins a DCS sequence.
+    pub(super) fn new(owner: &'a mut SixelDecoder) -> Self {
+        owner.core.begin_dcs(Global);
+        Self { session: Session::new(owner, proved::SixelError::dcs_stream_failed) }
     }
 
     /// Reads a chunk up to the DCS sequence's end; what follows is left to the caller.
@@ -44,9 +55,9 @@ impl<'a> SixelDcsStreamDecoder<'a> {
     /// - those of [`decode_from_dcs`](SixelDecoder::decode_from_dcs) for the payload
     /// - after an error `InvalidData` with `DCS stream decoder has failed`
     pub fn feed(&mut self, chunk: &[u8]) -> Result<SixelDcsFeedResult> {
-        let (fed, answer) = self.owner.handle().feed(chunk);
-        session_result(answer, &mut self.has_failed, DCS_STREAM_FAILED)?;
-        Ok(SixelDcsFeedResult { consumed: fed.consumed, status: string_status(fed) })
+        let fed = self.session.feed(chunk)?;
+        let Status::Dcs(status) = fed.status else { unreachable!("a DCS sequence is open") };
+        Ok(SixelDcsFeedResult { consumed: fed.consumed, status })
     }
 
     /// Returns how many columns of six pixels were written so far.
@@ -55,7 +66,7 @@ impl<'a> SixelDcsStreamDecoder<'a> {
     /// session does, and returns 0 before the payload.
     #[must_use]
     pub fn canvas_paints(&self) -> u64 {
-        self.owner.shared().canvas_paints()
+        self.session.core().canvas_paints()
     }
 
     /// Whether the header is read and the payload has begun; `false` after an error.
@@ -64,7 +75,7 @@ impl<'a> SixelDcsStreamDecoder<'a> {
     /// data.
     #[must_use]
     pub fn in_payload(&self) -> bool {
-        self.owner.shared().in_payload()
+        self.session.core().in_payload()
     }
 
     /// Returns the width and the height of the image so far, as a payload session does.
@@ -73,7 +84,7 @@ impl<'a> SixelDcsStreamDecoder<'a> {
     /// that of [`size_so_far`](crate::SixelStreamDecoder::size_so_far).
     #[must_use]
     pub fn size_so_far(&self) -> Option<(usize, usize)> {
-        self.owner.size_so_far()
+        self.session.core().size_so_far()
     }
 
     /// Returns the last row with a set pixel, plus one, or 0 if there is none.
@@ -82,7 +93,7 @@ impl<'a> SixelDcsStreamDecoder<'a> {
     /// does, and returns 0 before the payload.
     #[must_use]
     pub fn drawn_height(&self) -> usize {
-        self.owner.shared().drawn_height()
+        self.session.core().drawn_height()
     }
 
     /// Returns the image of a sequence that has ended, and stores its registers.
@@ -98,30 +109,11 @@ impl<'a> SixelDcsStreamDecoder<'a> {
     /// - `InvalidData` with `DCS stream decoder has failed` after a failed feed
     /// - `OutOfMemory` if an allocation fails
     pub fn finish(self) -> Result<SixelImage> {
-        if self.has_failed {
-            return Err(error_of(DCS_STREAM_FAILED));
-        }
-        self.owner.handle().finish()?.into_image()
+        self.session.finish()
     }
 
     /// Ends the session without changing the decoder, as dropping it does.
     pub fn abort(self) {
         drop(self);
-    }
-}
-
-impl Drop for SixelDcsStreamDecoder<'_> {
-    fn drop(&mut self) {
-        self.owner.handle().abort();
-    }
-}
-
-/// The status of a DCS sequence.
-pub(crate) fn string_status(fed: Fed) -> SixelDcsFeedStatus {
-    match fed.status {
-        MORE => SixelDcsFeedStatus::NeedMoreData,
-        COMPLETE => SixelDcsFeedStatus::Complete,
-        CANCELLED => SixelDcsFeedStatus::Cancelled(fed.byte),
-        _ => SixelDcsFeedStatus::Interrupted(fed.byte),
     }
 }

@@ -1,9 +1,10 @@
 //! Images that are decoded in one call, with what is reported of them beside their pixels.
 
 use super::SixelDecoder;
+use crate::decoder::DcsSettings;
 use crate::error::Result;
+use crate::rattle::rattle_std::alloc::Global;
 use crate::receiver::ReceivedImage;
-use crate::settings::DcsSettings;
 
 impl SixelDecoder {
     /// Decodes as [`decode`](Self::decode) does, and returns what a finished image reports too.
@@ -21,7 +22,7 @@ impl SixelDecoder {
     ///
     /// Those of `decode`.
     pub fn decode_drawn(&mut self, bytes: &[u8]) -> Result<ReceivedImage> {
-        self.by_copy(|copy| copy.decode(bytes))
+        self.by_copy(|copy| copy.decode_drawn(Global, bytes))
     }
 
     /// Decodes as [`decode_from_dcs`](Self::decode_from_dcs) does, and returns the same.
@@ -34,6 +35,6 @@ impl SixelDecoder {
         bytes: &[u8],
         settings: DcsSettings,
     ) -> Result<ReceivedImage> {
-        self.by_copy(|copy| copy.decode_payload(bytes, settings))
+        self.by_copy(|copy| copy.decode_from_dcs_drawn(Global, bytes, settings))
     }
 }

@@ -1,11 +1,22 @@
 //! The session that decodes one payload in chunks.
 
-use crate::codes::{MORE, STREAM_FAILED, error_of, session_result};
-use crate::decoder::SixelDecoder;
+use crate::decoder::session::Session;
+use crate::decoder::{DcsSettings, SixelDecoder, SixelFeedStatus};
 use crate::error::Result;
-use crate::ffi::Fed;
+use crate::proved;
+use crate::rattle::rattle_std::alloc::Global;
+use crate::script::Status;
 use crate::sixel_image::SixelImage;
-use crate::status::{SixelFeedResult, SixelFeedStatus};
+
+/// What a feed of a payload session did.
+#[derive(Clone, Copy, Debug, PartialEq, Eq)]
+#[must_use = "it says how many bytes belong to the image, and whether it has ended"]
+pub struct SixelFeedResult {
+    /// How many bytes of the chunk belong to the payload.
+    pub consumed: usize,
+    /// What the caller does next.
+    pub status: SixelFeedStatus,
+}
 
 /// A payload that is decoded in chunks.
 ///
@@ -14,14 +25,14 @@ use crate::status::{SixelFeedResult, SixelFeedStatus};
 #[derive(Debug)]
 #[must_use = "a session gives its image by `finish`"]
 pub struct SixelStreamDecoder<'a> {
-    owner: &'a mut SixelDecoder,
-    has_failed: bool,
+    session: Session<'a>,
 }
 
 impl<'a> SixelStreamDecoder<'a> {
-    /// The session of the payload that the decoder has begun.
-    pub(crate) fn new(owner: &'a mut SixelDecoder) -> Self {
-        Self { owner, has_failed: false }
+    /// Begins a payload with these settings.
+    pub(super) fn new(owner: &'a mut SixelDecoder, settings: DcsSettings) -> Self {
+        owner.core.begin_frame(Global, settings);
+        Self { session: Session::new(owner, proved::SixelError::stream_failed) }
     }
 
     /// Reads a chunk up to its first terminator, which is left to the caller.
@@ -35,9 +46,9 @@ impl<'a> SixelStreamDecoder<'a> {
     /// invalid. After an error each later feed returns
     /// [`InvalidData`](crate::SixelError::InvalidData) with `stream decoder has failed`.
     pub fn feed(&mut self, chunk: &[u8]) -> Result<SixelFeedResult> {
-        let (fed, answer) = self.owner.handle().feed(chunk);
-        session_result(answer, &mut self.has_failed, STREAM_FAILED)?;
-        Ok(SixelFeedResult { consumed: fed.consumed, status: payload_status(fed) })
+        let fed = self.session.feed(chunk)?;
+        let Status::Payload(status) = fed.status else { unreachable!("a payload is open") };
+        Ok(SixelFeedResult { consumed: fed.consumed, status })
     }
 
     /// Returns how many columns of six pixels were written so far.
@@ -49,7 +60,7 @@ impl<'a> SixelStreamDecoder<'a> {
     /// It is 0 after an error. The call does not allocate.
     #[must_use]
     pub fn canvas_paints(&self) -> u64 {
-        self.owner.shared().canvas_paints()
+        self.session.core().canvas_paints()
     }
 
     /// Returns the width and the height of the image so far, unless a feed has failed.
@@ -58,7 +69,7 @@ impl<'a> SixelStreamDecoder<'a> {
     /// of the whole payload is at least as large, unless it is cropped. The call does not allocate.
     #[must_use]
     pub fn size_so_far(&self) -> Option<(usize, usize)> {
-        self.owner.size_so_far()
+        self.session.core().size_so_far()
     }
 
     /// The last row with a set pixel, plus one, or 0 if there is none.
@@ -68,7 +79,7 @@ impl<'a> SixelStreamDecoder<'a> {
     /// lower. It is 0 after an error, and does not allocate.
     #[must_use]
     pub fn drawn_height(&self) -> usize {
-        self.owner.shared().drawn_height()
+        self.session.core().drawn_height()
     }
 
     /// Ends the payload, returns its image, and stores its registers in the decoder.
@@ -79,28 +90,11 @@ impl<'a> SixelStreamDecoder<'a> {
     ///
     /// Those of [`feed`](Self::feed), and `OutOfMemory`. They leave the decoder unchanged.
     pub fn finish(self) -> Result<SixelImage> {
-        if self.has_failed {
-            return Err(error_of(STREAM_FAILED));
-        }
-        self.owner.handle().finish()?.into_image()
+        self.session.finish()
     }
 
     /// Ends the session without changing the decoder, as dropping it does.
     pub fn abort(self) {
         drop(self);
-    }
-}
-
-impl Drop for SixelStreamDecoder<'_> {
-    fn drop(&mut self) {
-        self.owner.handle().abort();
-    }
-}
-
-/// The status of a payload.
-pub(crate) fn payload_status(fed: Fed) -> SixelFeedStatus {
-    match fed.status {
-        MORE => SixelFeedStatus::NeedMoreData,
-        _ => SixelFeedStatus::Terminated(fed.byte),
     }
 }

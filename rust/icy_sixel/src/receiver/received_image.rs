@@ -1,21 +1,10 @@
 //! An image that a decoder has finished, and copies of its rows.
 
-use super::rows::{ChannelOrder, RowLayout};
-use crate::codes::{ROWS_NOT_FINAL, ROWS_RELEASED, error_of};
-use crate::error::Result;
-use crate::settings::{BackgroundMode, PixelAspectRatio};
-use crate::sixel_image::SixelImage;
-
-/// Where an image ends.
-#[derive(Clone, Copy, Debug, PartialEq, Eq)]
-pub enum Height {
-    /// At the end of its last band, or lower if raster attributes name a greater height.
-    Bands = 0,
-    /// At the last height that raster attributes name, if there is one.
-    Raster = 1,
-    /// At that height, or lower if a pixel below it is set, as other terminals do.
-    Drawn = 2,
-}
+use crate::error::{Result, SixelError};
+use crate::proved;
+use crate::receiver::{ChannelOrder, Height, RowLayout};
+use crate::sixel_image::{BackgroundMode, PixelAspectRatio, SixelImage};
+use alloc::vec::Vec;
 
 /// An image that was decoded, without the rows that were released.
 #[derive(Clone, Debug, PartialEq, Eq)]
@@ -47,6 +36,28 @@ pub struct ReceivedImage {
 }
 
 impl ReceivedImage {
+    /// The image that ends at this height. No pixel is copied.
+    pub(crate) fn of(
+        mut image: proved::ReceivedImage,
+        height: Height,
+        is_complete: bool,
+    ) -> Result<Self> {
+        image.crop(height);
+        Ok(Self {
+            pixels: image.pixels.into_exact()?,
+            width: image.width,
+            height: image.height,
+            first_row: image.first_row,
+            drawn_height: image.drawn_height,
+            raster_width: image.raster_width,
+            raster_height: image.raster_height,
+            ignored_commands: image.ignored_commands,
+            is_complete,
+            aspect_ratio: image.aspect_ratio,
+            background_mode: image.background_mode,
+        })
+    }
+
     /// Whether no pixel is set and no raster attributes name a height.
     ///
     /// Terminals do not move their cursor for such an image.
@@ -76,12 +87,12 @@ impl ReceivedImage {
         out: &mut [u8],
     ) -> Result<()> {
         if first.checked_add(rows).is_none_or(|end| end > self.height) {
-            return Err(error_of(ROWS_NOT_FINAL));
+            return Err(proved::SixelError::rows_not_final().into());
         }
         if first < self.first_row {
-            return Err(error_of(ROWS_RELEASED));
+            return Err(proved::SixelError::rows_released().into());
         }
-        layout.check(rows, out.len())?;
+        check_layout(layout, rows, out.len())?;
         for row in 0..rows {
             let from = 4 * self.width * (first - self.first_row + row);
             let source = &self.pixels[from..from + 4 * self.width];
@@ -103,7 +114,7 @@ impl ReceivedImage {
     /// `InvalidData` with `rows were released` if no memory has all rows.
     pub fn into_image(self) -> Result<SixelImage> {
         if self.first_row > 0 {
-            return Err(error_of(ROWS_RELEASED));
+            return Err(proved::SixelError::rows_released().into());
         }
         Ok(SixelImage {
             pixels: self.pixels,
@@ -112,5 +123,21 @@ impl ReceivedImage {
             aspect_ratio: self.aspect_ratio,
             background_mode: self.background_mode,
         })
+    }
+}
+
+/// Checks that `rows` rows lie apart from each other in `actual` bytes of memory.
+fn check_layout(layout: RowLayout, rows: usize, actual: usize) -> Result<()> {
+    if layout.columns.max(1) > layout.stride / 4 {
+        return Err(proved::SixelError::short_stride().into());
+    }
+    let above = rows.saturating_sub(1).checked_mul(layout.stride);
+    match above.and_then(|above| above.checked_add(4 * layout.columns)) {
+        _ if rows == 0 => Ok(()),
+        None => Err(SixelError::IntegerOverflow),
+        Some(expected) if actual < expected => {
+            Err(SixelError::BufferSizeMismatch { expected, actual })
+        }
+        Some(_) => Ok(()),
     }
 }

@@ -1,9 +1,8 @@
 //! Rows of an open image, copied to a caller's memory in its own layout.
 
-use super::{FailedFeed, Received, SixelReceiver};
-use crate::codes::{BAD_STRIDE, BUFFER_TOO_SMALL, NO_SESSION, ROWS, ROWS_NOT_FINAL, error_of};
-use crate::error::{Result, SixelError};
-use crate::ffi::BufferLayout;
+use crate::error::Result;
+use crate::proved;
+use crate::receiver::{FailedFeed, RowLayout, SixelReceiver};
 use crate::script::Status;
 
 /// What a feed of a band did.
@@ -25,24 +24,14 @@ pub enum BandStatus {
     Image(Status),
 }
 
-/// The order of a pixel's bytes in memory.
-#[derive(Clone, Copy, Debug, PartialEq, Eq)]
-pub enum ChannelOrder {
-    /// Red, green, blue, alpha, as an image has them.
-    Rgba,
-    /// Blue, green, red, alpha, as most window systems have them.
-    Bgra,
-}
-
-/// How rows of pixels lie in a caller's memory.
-#[derive(Clone, Copy, Debug, PartialEq, Eq)]
-pub struct RowLayout {
-    /// How many bytes lie between the beginnings of two rows.
-    pub stride: usize,
-    /// How many pixels of a row are written. Bytes right of them are left as they are.
-    pub columns: usize,
-    /// The order of a pixel's bytes.
-    pub order: ChannelOrder,
+impl From<proved::ReceivedBand> for ReceivedBand {
+    fn from(band: proved::ReceivedBand) -> Self {
+        let status = match band.status {
+            proved::BandStatus::Rows => BandStatus::Rows,
+            proved::BandStatus::Image(status) => BandStatus::Image(status.into()),
+        };
+        Self { consumed: band.consumed, status }
+    }
 }
 
 impl SixelReceiver {
@@ -56,14 +45,8 @@ impl SixelReceiver {
     /// # Errors
     ///
     /// Those of `feed`.
-    pub fn feed_band(&mut self, chunk: &[u8]) -> std::result::Result<ReceivedBand, FailedFeed> {
-        let (fed, answer) = self.decoder.handle().feed_band(chunk);
-        let Received { consumed, status } = self.received(fed);
-        match answer {
-            Err(code) => Err(FailedFeed { consumed, status, error: error_of(code) }),
-            Ok(()) if fed.status == ROWS => Ok(ReceivedBand { consumed, status: BandStatus::Rows }),
-            Ok(()) => Ok(ReceivedBand { consumed, status: BandStatus::Image(status) }),
-        }
+    pub fn feed_band(&mut self, chunk: &[u8]) -> core::result::Result<ReceivedBand, FailedFeed> {
+        Ok(self.decoder.core.feed_band(chunk)?.into())
     }
 
     /// Copies final rows of the open image to the caller's memory.
@@ -91,32 +74,7 @@ impl SixelReceiver {
         layout: RowLayout,
         out: &mut [u8],
     ) -> Result<()> {
-        if layout.columns == 0 {
-            return self.check_rows(first, rows, layout, out.len());
-        }
-        match self.decoder.shared().copy_rows(first, rows, &layout.in_c(), out) {
-            Ok(()) => Ok(()),
-            Err(NO_SESSION) if (first, rows) != (0, 0) => Err(error_of(ROWS_NOT_FINAL)),
-            Err(NO_SESSION) if !layout.is_short() => Ok(()),
-            Err(NO_SESSION) => Err(error_of(BAD_STRIDE)),
-            Err(code) => Err(layout.error(code, layout.byte_len(rows), out.len())),
-        }
-    }
-
-    /// Checks a copy of no columns, which C does not have, because 0 means all columns there.
-    fn check_rows(
-        &self,
-        first: usize,
-        rows: usize,
-        layout: RowLayout,
-        actual: usize,
-    ) -> Result<()> {
-        if first.checked_add(rows).is_none_or(|end| end > self.rows_so_far()) {
-            return Err(error_of(ROWS_NOT_FINAL));
-        }
-        let column = RowLayout { stride: 4, columns: 1, ..layout };
-        self.copy_rows(first, rows, column, &mut vec![0; 4 * rows])?;
-        layout.check(rows, actual)
+        Ok(self.decoder.core.copy_rows(first, rows, layout, out)?)
     }
 
     /// Releases the final rows above row `rows`, whose memory is used again.
@@ -130,53 +88,6 @@ impl SixelReceiver {
     /// `InvalidData` with `rows are not final` if `rows` is greater than
     /// [`rows_so_far`](Self::rows_so_far).
     pub fn release_rows(&mut self, rows: usize) -> Result<()> {
-        match self.decoder.handle().release_rows(rows) {
-            Err(NO_SESSION) if rows == 0 => Ok(()),
-            Err(NO_SESSION) => Err(error_of(ROWS_NOT_FINAL)),
-            answer => answer.map_err(error_of),
-        }
-    }
-}
-
-impl RowLayout {
-    /// The layout for C, where a stride of 0 would mean rows without gaps.
-    fn in_c(self) -> BufferLayout {
-        let order = u8::from(self.order == ChannelOrder::Bgra);
-        BufferLayout { stride: self.stride.max(1), columns: self.columns, order }
-    }
-
-    /// The error of a code, for rows of `expected` bytes and memory of `actual` bytes.
-    fn error(self, code: u32, expected: usize, actual: usize) -> SixelError {
-        match code {
-            BUFFER_TOO_SMALL => SixelError::BufferSizeMismatch { expected, actual },
-            other => error_of(other),
-        }
-    }
-
-    /// Checks that `rows` rows lie apart from each other in `actual` bytes of memory.
-    pub(super) fn check(self, rows: usize, actual: usize) -> Result<()> {
-        if self.is_short() {
-            return Err(error_of(BAD_STRIDE));
-        }
-        let above = rows.saturating_sub(1).checked_mul(self.stride);
-        match above.and_then(|above| above.checked_add(4 * self.columns)) {
-            _ if rows == 0 => Ok(()),
-            None => Err(SixelError::IntegerOverflow),
-            Some(expected) if actual < expected => {
-                Err(SixelError::BufferSizeMismatch { expected, actual })
-            }
-            Some(_) => Ok(()),
-        }
-    }
-
-    /// Whether the stride is shorter than a row, or than a pixel.
-    fn is_short(self) -> bool {
-        self.columns.max(1) > self.stride / 4
-    }
-
-    /// How many bytes these rows take.
-    fn byte_len(self, rows: usize) -> usize {
-        let above = rows.saturating_sub(1).saturating_mul(self.stride);
-        above.saturating_add(self.columns.saturating_mul(4))
+        Ok(self.decoder.core.release_rows(rows)?)
     }
 }
