@@ -7,11 +7,9 @@ from pathlib import Path
 from build import HEADERS, ROOT, needs, run
 from install.users import UsersTest, variables
 from library import SHARED
-from rust.declared import of_header
 
 HEADER, README = (HEADERS / "icysixel.h").read_text(), (ROOT / "README.md").read_text()
-# The result and the parameters of each function.
-CALLS = {name: it for name, it in of_header(HEADER).items() if f" {name}(" in HEADER}
+CALLS = re.findall(r"^\w+ (icysixel_\w+)\(", HEADER, re.M)
 
 
 def make(*words):

@@ -1,17 +1,18 @@
-"""Tests the Rust crate over the C library, with no network: build, tests, declarations, memory."""
+"""Tests the Cargo crate with no network: its tests and features, package, users and memory."""
 import os
 import re
 import shutil
+import sys
 import tempfile
 import unittest
 from pathlib import Path
 
-from build import ARCHIVES, DATA, HEADERS, MEMORY, ROOT, needs, run
-from rust.declared import of_header, of_rust
+from build import DATA, ROOT, needs, run
 
-CRATE = ROOT / "rust/icy_sixel"
+HERE = Path(__file__).parent
 MEMCHECK = ["valgrind", "-q", "--leak-check=full", "--show-leak-kinds=definite,indirect"]
 MEMCHECK += ["--errors-for-leak-kinds=definite,indirect", "--error-exitcode=9"]
+SMALL = "i686-unknown-linux-gnu"
 STRING = b"text\x1bP9;1q#1;2;100;0;0@\x1b\\text"
 IMAGE = b"image 1 6 9 1\n\xff\0\0\xff" + bytes(20) + b"\n"
 
@@ -23,51 +24,46 @@ def version(text):
 
 @needs("cargo")
 class TestRust(unittest.TestCase):
-    """The tests share a folder with a copy of the crate, without the repository around it."""
+    """The tests share a folder, which has the project as plain Rust in `plain`."""
 
     @classmethod
     def setUpClass(cls):
-        wanted = re.search("^rust-version.*", (CRATE / "Cargo.toml").read_text(), re.M)[0]
+        wanted = (ROOT / "rust/icy_sixel/Cargo.toml").read_text().split("rust-version")[1]
         if version(run("cargo", "--version")[1].decode()) < version(wanted):
             raise unittest.SkipTest("cargo is older than the crate demands")
         cls.folder = Path(cls.enterClassContext(tempfile.TemporaryDirectory()))
-        ignored = shutil.ignore_patterns("lib", "target", "Cargo.lock")
-        shutil.copytree(CRATE, cls.folder / "icy_sixel", ignore=ignored)
-        for name, archive in zip(("llvm", "rattle"), ARCHIVES):
-            (cls.folder / name).mkdir()
-            shutil.copy(archive, cls.folder / name / "libicysixel.a")
+        status, _, errors = run(sys.executable, ROOT / "scripts/plain_rust", cls.folder / "plain")
+        assert status == 0, errors.decode()
+        # Link-time optimization of each test would take minutes.
+        cls.variables = {"CARGO_PROFILE_RELEASE_LTO": "off", "CARGO_NET_OFFLINE": "true"}
+        cls.variables |= {"CARGO_TARGET_DIR": str(cls.folder / "target")}
+        cls.variables |= {"SIXEL_VECTORS": str(DATA)}
 
-    def cargo(self, *words, crate="icy_sixel", library="llvm", status=0, **variables):
-        """Runs cargo with the library of a folder, and returns all that it writes."""
-        variables |= {"CARGO_NET_OFFLINE": "true", "CARGO_TARGET_DIR": str(self.folder / "target")}
-        variables |= {"SIXEL_VECTORS": str(DATA), "ICYSIXEL_LIB_DIR": str(self.folder / library)}
-        options = {"env": os.environ | variables, "cwd": self.folder / crate, "timeout": 900}
+    def cargo(self, *words, crate="plain/icy_sixel", status=0, **variables):
+        """Runs cargo in the folder of a package, and returns all that it writes."""
+        env = os.environ | self.variables | variables
+        options = {"env": env, "cwd": self.folder / crate, "timeout": 900}
         found, written, errors = run("cargo", *words, **options)
         text = (written + errors).decode(errors="replace")
         self.assertEqual(found, status, f"cargo {' '.join(words)}\n{text[-4000:]}")
         return text
 
-    def test_declarations(self):
-        """The declarations of ffi.rs are those of the header, and no other file has `unsafe`."""
-        sources = (CRATE / "src").rglob("*.rs")
-        found = [it.name for it in sources if re.search(r"\bunsafe\b", it.read_text())]
-        self.assertEqual(found, ["ffi.rs"])
-        declared = of_rust("".join((CRATE / f"src/{it}.rs").read_text() for it in ("ffi", "codes")))
-        header = of_header((HEADERS / "icysixel.h").read_text())
-        self.assertEqual(len(declared), 73)
-        self.assertEqual(declared, {name: header.get(name) for name in declared})
-
-    def test_missing_archive(self):
-        """Without the archive the build reports how to make it."""
-        self.assertIn("run `./lib`", self.cargo("build", library="nowhere", status=101))
-
     def test_crate(self):
-        """The crate's tests pass, plain and optimized, with the archives of both compilers."""
-        for words, library in ([], "llvm"), (["--release"], "llvm"), ([], "rattle"):
-            with self.subTest(words=words, library=library):
-                text = self.cargo("test", *words, library=library)
-                self.assertGreater(text.count("... ok"), 40)
+        """The crate's tests pass, plain and optimized, with index checks and without."""
+        for words in [], ["--release"], ["--release", "--features", "unchecked"]:
+            with self.subTest(words=words):
+                text = self.cargo("test", *words)
+                self.assertGreater(text.count("... ok"), 80)
                 self.assertNotIn("... ignored", text)
+                self.assertNotIn("warning", text)
+
+    def test_unsafe(self):
+        """Only the support code has `unsafe`."""
+        sources = self.folder / "plain/icy_sixel/src"
+        found = [it for it in sources.rglob("*.rs") if re.search(r"\bunsafe\b", it.read_text())]
+        support = sources / "rattle/rattle_std"
+        self.assertTrue(found)
+        self.assertEqual([it for it in found if support not in it.parents], [])
 
     def test_style(self):
         """clippy, rustfmt and rustdoc report nothing."""
@@ -88,18 +84,34 @@ class TestRust(unittest.TestCase):
                 words = [*MEMCHECK, program, *filters, "--test-threads=1"]
                 self.assertEqual(run(*words, timeout=900)[0], 0)
 
-    def test_dependent_program(self):
-        """A program links the crate with link-time optimization, beside the memory hooks of C."""
-        library, user = self.folder / "with_memory", self.folder / "user"
-        shutil.copytree(self.folder / "llvm", library)
-        hooks = library / "memory.o"
-        self.assertEqual(run("gcc", "-fPIC", "-c", MEMORY, "-o", hooks)[0], 0)
-        self.assertEqual(run("ar", "rs", library / "libicysixel.a", hooks)[0], 0)
+    def test_package(self):
+        """The package stands alone, and a program has it in the place of the crate of its name."""
+        self.cargo("package", "--allow-dirty")
+        package, = (self.folder / "target/package").glob("*.crate")
+        self.assertEqual(run("tar", "-xf", package, "-C", self.folder)[0], 0)
+        unpacked = (self.folder / package.stem).rename(self.folder / "icy_sixel")
+        self.assertEqual(len([*unpacked.glob("LICENSE-*")]), 2)
+        user = self.folder / "user"
         (user / "src").mkdir(parents=True)
-        shutil.copy(Path(__file__).with_name("user.toml"), user / "Cargo.toml")
-        shutil.copy(CRATE / "examples/decode.rs", user / "src/main.rs")
-        self.cargo("build", "--release", crate="user", library="with_memory")
+        shutil.copy(HERE / "user.toml", user / "Cargo.toml")
+        shutil.copy(unpacked / "examples/decode.rs", user / "src/main.rs")
+        self.cargo("build", "--release", crate="user")
         for words in [], ["1"]:
             with self.subTest(words=words):
                 program = self.folder / "target/release/user"
                 self.assertEqual(run(program, *words, stdin=STRING)[:2], (0, IMAGE))
+
+    def test_no_std(self):
+        """The crate links no `std`."""
+        user = self.folder / "no_std"
+        user.mkdir()
+        shutil.copy(HERE / "no_std.toml", user / "Cargo.toml")
+        shutil.copy(HERE / "no_std.rs", user)
+        self.cargo("build", crate="no_std")
+
+    def test_small_target(self):
+        """A target with addresses of 32 bits is rejected, with the reason."""
+        folder = run("rustc", "--print", "target-libdir", "--target", SMALL)[1].decode().strip()
+        if not Path(folder).is_dir():
+            self.skipTest(f"not installed: Rust's library for {SMALL}")
+        self.assertIn("64 bits", self.cargo("check", "--target", SMALL, status=101))
