@@ -39,11 +39,11 @@ WIDE = "!65535~"
 HOSTILE = [f"{WIDE}$", f"{WIDE}$@$", f"#1{WIDE}$#2{WIDE}$", f"{7 * WIDE}$", "@", "-"]
 HOSTILE += ["#1;1;120;50;100"]
 CC = f"cd {ROOT}/bench && {os.environ.get('CC', 'cc')} -std=c11 -O2"
-CARGO = f"cd {ROOT}/rust/icy_sixel && ICYSIXEL_LIB_DIR={LIBRARY} cargo build --offline"
+PLAIN = f"python3 {ROOT}/scripts/plain_rust {{room}} && cd {{room}}/icy_sixel"
 # How each timer is built in the folder {room}, and run on a file.
 BUILDS = {
     "C": f"{CC} -I{LIBRARY} speed.c -L{LIBRARY} -licysixel -o {{room}}/c",
-    "Rust": f"{CARGO} --release --example speed --target-dir {{room}}/target",
+    "Rust": f"{PLAIN} && cargo build --offline --release --example speed",
     "libsixel": f"{CC} libsixel.c $(pkg-config --cflags --libs libsixel) -o {{room}}/peer",
 }
 TIMERS = {
