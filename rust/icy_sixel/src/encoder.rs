@@ -13,7 +13,7 @@ use crate::rattle::sixel_encoder::{
 };
 pub use crate::rattle::sixel_palette::dither::{Amplitude, Dither};
 use crate::rattle::sixel_palette::dithering;
-pub use crate::rattle::sixel_palette::mapping::{Mapping, Tolerance, Weights};
+pub use crate::rattle::sixel_palette::mapping::{Mapping, Tolerance};
 use crate::sixel_image::{BackgroundMode, PixelAspectRatio};
 use alloc::borrow::Cow;
 use alloc::string::String;
@@ -83,11 +83,7 @@ impl<'a> Encoding<'a> {
             aspect_ratio: PixelAspectRatio::default(),
             background_mode: BackgroundMode::default(),
             palette: PaletteMode::Refined(256),
-            mapping: Mapping {
-                dither: Dither::Off,
-                tolerance: Tolerance::Squared(0),
-                weights: Weights::Equal,
-            },
+            mapping: Mapping { dither: Dither::Off, tolerance: Tolerance::Squared(0) },
             form: TextForm::Plain,
         }
     }
@@ -203,12 +199,11 @@ impl<'a> Encoding<'a> {
 /// Returns the palette index of each pixel in a palette of 1 to 256 colors.
 ///
 /// ```
-/// use icy_sixel::encoder::{Dither, Mapping, Tolerance, Weights, palette_indices};
+/// use icy_sixel::encoder::{Dither, Mapping, Tolerance, palette_indices};
 ///
 /// let gray = [100, 100, 100, 255].repeat(3);
 /// let colors = [[0, 0, 0], [255, 255, 255]];
-/// let (tolerance, weights) = (Tolerance::Squared(0), Weights::Equal);
-/// let mapping = |dither| Mapping { dither, tolerance, weights };
+/// let mapping = |dither| Mapping { dither, tolerance: Tolerance::Squared(0) };
 /// let diffused = mapping(Dither::Diffusion { strength: 8 });
 /// assert_eq!(palette_indices(&gray, 3, &colors, diffused)?, [0, 1, 0]);
 /// assert_eq!(palette_indices(&gray, 3, &colors, mapping(Dither::Off))?, [0, 0, 0]);

@@ -26,8 +26,7 @@ pub use decoder::{
 };
 pub use encoder::{
     Amplitude, Dither, EncodeOptions, Encoding, Mapping, PaletteMode, PixelFormat, TextForm,
-    Tolerance, Weights, palette_indices, sixel_encode, sixel_encode_default,
-    validate_encode_dimensions,
+    Tolerance, palette_indices, sixel_encode, sixel_encode_default, validate_encode_dimensions,
 };
 pub use error::{Result, SixelError};
 pub use palette::{PaletteChoice, RefinedPalette, choose_palette, refine_palette, witnesses_hold};

@@ -175,13 +175,12 @@ impl SixelImage {
     /// Returns the SIXEL output of this image in a given palette of 1 to 256 colors.
     ///
     /// ```
-    /// use icy_sixel::encoder::{Dither, Mapping, TextForm, Tolerance, Weights};
+    /// use icy_sixel::encoder::{Dither, Mapping, TextForm, Tolerance};
     /// use icy_sixel::SixelImage;
     ///
     /// let gray = SixelImage::try_from_rgba([100, 100, 100, 255].repeat(3), 3, 1)?;
     /// let dither = Dither::Diffusion { strength: 8 };
-    /// let (tolerance, weights) = (Tolerance::Squared(0), Weights::Equal);
-    /// let mapping = Mapping { dither, tolerance, weights };
+    /// let mapping = Mapping { dither, tolerance: Tolerance::Squared(0) };
     /// let colors = [[0, 0, 0], [255, 255, 255]];
     /// let text = gray.encode_with_palette(&colors, mapping, TextForm::Compact)?;
     /// assert!(text.ends_with("#0;2;0;0;0#1;2;100;100;100#0@@@$#1?@\x1b\\"));
@@ -228,12 +227,12 @@ impl SixelImage {
     /// Returns the SIXEL output of this image in a refined palette.
     ///
     /// ```
-    /// use icy_sixel::encoder::{Dither, Mapping, TextForm, Tolerance, Weights};
+    /// use icy_sixel::encoder::{Dither, Mapping, TextForm, Tolerance};
     /// use icy_sixel::SixelImage;
     ///
     /// let gray = SixelImage::try_from_rgba([100, 100, 100, 255].repeat(3), 3, 1)?;
     /// let dither = Dither::Diffusion { strength: 7 };
-    /// let mapping = Mapping { dither, tolerance: Tolerance::Auto, weights: Weights::Luma };
+    /// let mapping = Mapping { dither, tolerance: Tolerance::Auto };
     /// let text = gray.encode_refined(16, mapping, TextForm::Compact)?;
     /// assert!(text.ends_with("#0;2;39;39;39#0@@@\x1b\\"));
     /// # Ok::<(), icy_sixel::SixelError>(())

@@ -1,13 +1,13 @@
 //! A palette of more colors than it has entries for, and images in palettes.
 
 use icy_sixel::SixelError::{BufferSizeMismatch, InvalidData, InvalidDimensions};
-use icy_sixel::{Amplitude, Mapping, Tolerance, Weights, choose_palette, palette_indices};
+use icy_sixel::{Amplitude, Mapping, Tolerance, choose_palette, palette_indices};
 use icy_sixel::{Dither, EncodeOptions, Encoding, PaletteMode, PixelFormat, SixelImage, TextForm};
 use icy_sixel::{refine_palette, sixel_encode, witnesses_hold};
 
 /// Each pixel has the entry nearest to its target.
 fn exact(dither: Dither) -> Mapping {
-    Mapping { dither, tolerance: Tolerance::Squared(0), weights: Weights::Equal }
+    Mapping { dither, tolerance: Tolerance::Squared(0) }
 }
 
 /// The second pixel has squared distances of 36 and 16 to the entries.
@@ -17,19 +17,9 @@ fn tolerances() {
     let (dither, squared) = (Dither::Off, Tolerance::Squared);
     let runs = [(squared(20), 1), (squared(21), 0), (squared(u32::MAX), 0), (Tolerance::Auto, 1)];
     for (tolerance, index) in runs {
-        let mapping = Mapping { dither, tolerance, weights: Weights::Equal };
+        let mapping = Mapping { dither, tolerance };
         let found = palette_indices(&pixels, 2, &[[0; 3], [10, 0, 0]], mapping).unwrap();
         assert_eq!(found, [0, index]);
-    }
-}
-
-/// Black has squared distances of 2601 and 7921 to the entries. By luma the first one is 10404.
-#[test]
-fn weights() {
-    let colors = [[0, 51, 0], [0, 0, 89]];
-    for (weights, index) in [(Weights::Equal, 0), (Weights::Luma, 1), (Weights::default(), 0)] {
-        let mapping = Mapping { weights, ..exact(Dither::Off) };
-        assert_eq!(palette_indices(&[0, 0, 0, 255], 1, &colors, mapping).unwrap(), [index]);
     }
 }
 

@@ -130,7 +130,6 @@ fn names_of_our_own() {
     is_value::<Dither>();
     type Mapping = icy_sixel::Mapping;
     is_value::<Mapping>();
-    is_value::<icy_sixel::Weights>();
     is_value::<Form>();
     is_value::<icy_sixel::PixelFormat>();
     is_value::<icy_sixel::PaletteMode<'_>>();
