@@ -79,6 +79,8 @@ bench: all
 	python3 bench
 
 dist: all lib-aarch64 lib-v3
+	@$(call has,cargo,install Rust 1.88 or newer)
+	@$(call has,dh,install debhelper)
 	@test -z '$(filter-out --cpu x86-64-v2,$(cpu))' || \
 		$(call stop,a release is for all processors: run make dist CPU=x86-64-v2)
 	scripts/dist $(version) $(soname)

@@ -12,6 +12,7 @@ from build import ARCHIVES, HEADERS, MEMORY, ROOT, needs, run
 from vectors import packed_vectors
 
 PLAIN = ROOT / "out/rust"
+CARGO = "/usr/bin/cargo"
 VENDORED = Path("/usr/lib/rustlib/src/rust/library/vendor")
 # These read or write numbers in the order of this processor.
 LITTLE_ENDIAN = "vectors", "random"
@@ -23,11 +24,11 @@ def cross_build(target, compiler, *words):
     """Builds the library for a target by cargo, and returns the folder with what is built."""
     folder = ROOT / "out/processors"
     linker = f"CARGO_TARGET_{target.upper().replace('-', '_')}_LINKER"
-    changed = {"PATH": f"/usr/bin:{os.environ['PATH']}", "RUSTC_BOOTSTRAP": "1", linker: compiler}
+    changed = {"RUSTC": "/usr/bin/rustc", "RUSTC_BOOTSTRAP": "1", linker: compiler}
     source = 'source.crates-io.replace-with="rust"', f'source.rust.directory="{VENDORED}"'
     words += *(f"--config={it}" for it in source), f"--target={target}", f"--target-dir={folder}"
     words += "-Zbuild-std=core,alloc", "--config=profile.release.package.'*'.opt-level=0"
-    words = "cargo", "rustc", "--quiet", "--offline", "--package=icysixel", *words
+    words = CARGO, "rustc", "--quiet", "--offline", "--package=icysixel", *words
     status, _, errors = run(*words, cwd=PLAIN, env=os.environ | changed, timeout=900)
     assert status == 0, errors.decode()
     return folder / target
@@ -65,7 +66,7 @@ class TestProcessors(unittest.TestCase):
                 self.assertEqual(self.writes(name, [archive], "aarch64"), here)
 
 
-@needs("cargo")
+@needs(CARGO)
 @unittest.skipUnless(VENDORED.is_dir(), "not installed: rust-web-src")
 class TestPlainRust(TestProcessors):
     """Plain Rust, on a little-endian processor, on a big-endian one, and for Windows."""
