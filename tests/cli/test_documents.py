@@ -24,7 +24,7 @@ CODE = re.compile(
     r"\b(?:fn|struct|enum|trait|mod) (\w+)|\bensures\*? (\w+) \{|^    (\w+)[,:({]", re.M
 )
 # Words in code spans that are no definition of this repository.
-WORDS = {*"P Send Sync frames icy_sixel img2sixel malloc q rt sixel2png t".split()}
+WORDS = {*"P Send Sync frames icy_sixel img2sixel malloc q rt sixel2png t unchecked".split()}
 LINK = re.compile(r"\]\(([^)#:]+)(?:#[^)]*)?\)|^\[[^]]+\]: ([^#:\n]+)$", re.M)
 # The commands of README that run, prove and test this repository.
 TRY = [
