@@ -2,8 +2,10 @@ pub mod Bands
 pub mod Chunks
 pub mod ClippedImages
 pub mod FinalRows
+pub mod Headline
 pub mod Outcomes
 pub mod RegisterRange
+pub mod SomeDrawing
 pub mod Steps
 pub mod StoredErrors
 pub mod TransparentImages

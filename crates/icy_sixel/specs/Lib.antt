@@ -1,6 +1,7 @@
 pub mod Bands
 pub mod ClippedImages
 pub mod FinalRows
+pub mod Headline
 pub mod ImageView
 pub mod Lending
 pub mod Script

@@ -5,9 +5,10 @@ use Rattle.std.specs.Prelude.{ℕ, ◌≡◌, Bool, nat_lt, ◌||◌, List, [], 
 use Rattle.std.specs.Option.{option_or}
 use Rattle.sixel_base.specs.Bytes.{count, first_terminator}
 use Rattle.sixel_base.specs.Color.{default_registers}
+use Rattle.sixel_base.specs.declared.error.SixelError.{SixelError}
 use Rattle.sixel_base.specs.Decoder.{with_clip, with_pixel_limit, IsSetAs}
 use Rattle.sixel_base.specs.declared.state.DecoderState.{DecoderState}
-use Rattle.sixel_base.specs.Fault.{Fault, Faults}
+use Rattle.sixel_base.specs.Fault.{Fault, Faults, IsFault}
 use Rattle.sixel_base.specs.Payload.{fed_fault, payload_fault, settled, growths}
 use Rattle.sixel_base.specs.Settings.{Settings}
 use Rattle.icy_sixel.specs.declared.script.End.{End}
@@ -23,6 +24,7 @@ use Rattle.sixel_base.specs.Dcs.{dcs_count, dcs_status, dcs_fault, dcs_growths, 
 use Rattle.sixel_base.specs.Limits.{Limit}
 use Rattle.sixel_base.specs.Status.{status_of}
 use Rattle.icy_sixel.specs.ImageView.{image_value}
+use Rattle.icy_sixel.specs.declared.sixel_image.SixelImage.{SixelImage}
 use Rattle.sixel_base.specs.OneShot.{Found, Payload, found, found_fault, found_wants, IsFoundImage}
 use Rattle.sixel_base.specs.OneShot.{AreFoundRegisters}
 
@@ -115,3 +117,24 @@ AreOutcomes before (step ∷ steps) (outcome ∷ outcomes) after =
     (between : DecoderState) × IsOutcome before step outcome between
     × AreOutcomes between steps outcomes after
 AreOutcomes before steps outcomes after = ⊥
+
+-- the same step, its bytes perhaps cut in other places
+abbrev pub IsRecut : Step → Step → Type 0
+IsRecut (steps.Frame settings bytes cuts ending) (steps.Frame same copy others end) =
+    (same ≡ settings) × (copy.now ≡ bytes.now) × (end ≡ ending)
+IsRecut (steps.Dcs bytes cuts ending) (steps.Dcs copy others end) =
+    (copy.now ≡ bytes.now) × (end ≡ ending)
+IsRecut step other = other ≡ step
+
+-- the same outcome, wherever its bytes are stored: errors name the same fault, and images have the
+-- same sizes, pixels and properties
+abbrev pub IsSameOutcome : Outcome → Outcome → Type 0
+IsSameOutcome (Failed error) other =
+    (also : SixelError) × (other ≡ Failed also)
+    × (fault : Fault) × IsFault error fault × IsFault also fault
+IsSameOutcome (Finished consumed status image) other =
+    (also : SixelImage) × (other ≡ Finished consumed status also)
+    × (image_value also ≡ image_value image)
+IsSameOutcome (Decoded image) other =
+    (also : SixelImage) × (other ≡ Decoded also) × (image_value also ≡ image_value image)
+IsSameOutcome outcome other = other ≡ outcome

@@ -12,7 +12,21 @@ ghost use Rattle.sixel_base.specs.declared.state.DecoderState.{DecoderState};
 ghost use Rattle.icy_sixel.specs.ClippedImages.{HasNoClip, IsInsideClip, IsPartInside};
 ghost use Rattle.icy_sixel.specs.ClippedImages.{IsWholeImage, whole_first_fault, whole_pixel};
 ghost use Rattle.icy_sixel.specs.ClippedImages.{whole_painted_area};
+ghost use Rattle.icy_sixel.specs.Headline.{Headline};
 ghost use Rattle.icy_sixel.specs.TransparentImages.{IsCleared, drawn_pixel_of};
+
+/// States the theorem of this library, for every decoder, every image and every chunk boundary.
+///
+/// - `tokens`, `no_others`: the bytes of a payload are one list of tokens.
+/// - `cut`: cuts have no effect on the outcomes of a list of images and resets.
+/// - `one`: memory aside, such a list has one list of outcomes, and leaves one decoder.
+/// - `text`: every image within the limits has a text that means it.
+///
+/// The outcomes are those of [`run`](crate::script::run). The text is that of
+/// [`encode_with`](crate::SixelImage::encode_with).
+pub fn headline()
+    ensures { Headline }
+{}
 
 /// States that a transparent background changes only pixels that no sixel covers.
 ///
