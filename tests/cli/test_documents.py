@@ -13,6 +13,7 @@ from build import ROOT, needs, run
 EXAMPLES = {
     "rust": [*ROOT.glob("crates/sixel_examples/src/**/*.rt"), ROOT / "rust/icy_sixel/README.md"],
     "c": [*ROOT.glob("examples/*.c")],
+    "antt": [ROOT / "crates/icy_sixel/specs/Headline.antt"],
 }
 DOCUMENTS = [*ROOT.glob("*.md"), *sorted(ROOT.glob("docs/*.md"))]
 # A file of definitions that a document names, and those that it names of the file.
@@ -49,7 +50,7 @@ def blocks():
     for source in sorted(ROOT.glob("crates/*/src/**/*.rt")):
         pages.append((source, "\n".join(comments.findall(source.read_text()))))
     for page, text in pages:
-        for language, block in re.findall(r"^```(rust|c)\n(.*?)^```", text, re.M | re.S):
+        for language, block in re.findall(r"^```(rust|c|antt)\n(.*?)^```", text, re.M | re.S):
             yield page.relative_to(ROOT), language, block
 
 
@@ -81,6 +82,13 @@ class TestDocuments(unittest.TestCase):
             with self.subTest(page=str(page), block=block):
                 texts = (lines_of(it.read_text()) for it in EXAMPLES[language])
                 self.assertTrue(any(lines_of(block) in it for it in texts), "not in an example")
+
+    def test_theorem(self):
+        """VERIFICATION has the counts that `scripts/theorem` prints."""
+        status, output, errors = run(ROOT / "scripts/theorem")
+        self.assertEqual((status, errors), (0, b""))
+        page = (ROOT / "docs/VERIFICATION.md").read_text()
+        self.assertIn(f"```text\n{output.decode()}```\n", page)
 
     def test_links(self):
         """Each link to a file leads to one."""

@@ -77,6 +77,17 @@ headline-text image k text sound bytes is =
           also.2 ∙ (sym (ap text_of one) ∙ sym is.2);
     }
 
+-- so is that of an image that was encoded
+pub faithful-written : {S : Type 0} (bytes : S → List ℕ) (result : Result S SixelError)
+    (image : Image) (k : ℕ)
+    → MatchOption (image_fault image) (IfErr result (λ e. e ≡ OutOfMemory)) (λ f. result ≡ Err f)
+    → OnOk result (All (λ byte. byte < 256) image.pixels)
+    → IfOk result (λ text. IsText image k (bytes text))
+    → IfOk result (λ text. IsFaithful image k (bytes text))
+faithful-written bytes (Ok text) image k refused fits is =
+    headline-text image k (bytes text) (grind (arith, nat_tests)) fits is
+faithful-written bytes (Err e) image k refused fits is = tt
+
 -- each image within the limits has one
 headline-some : (image : Image) (k : ℕ) → image_fault image ≡ None
     → All (λ byte. byte < 256) image.pixels → (text : List ℕ) × IsFaithful image k text

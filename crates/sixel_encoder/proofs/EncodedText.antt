@@ -1,22 +1,19 @@
--- What the text of an image that was encoded is: in the fewest bytes, blind to what is hidden, and
--- read back as its trip.
+-- What the text of an image that was encoded is: blind to what is hidden, no longer than the plain
+-- one, and read back as its trip.
 use Rattle.std.proofs.Common.{◌≡◌, ℕ, ◌*◌, ◌<◌, ◌≤◌, List, Result, Ok, Err, sym, ap, ◌∙◌, arith}
 use Rattle.std.proofs.Common.{length}
 use Rattle.std.specs.Prelude.{All, IfErr, IfOk, OnOk, MatchOption}
 use Rattle.sixel_base.specs.declared.error.SixelError.{SixelError}
 use Rattle.sixel_base.specs.declared.error.SixelError.TheVariants.{OutOfMemory}
-use Rattle.sixel_base.specs.declared.settings.BackgroundMode.TheVariants.{Transparent}
 use Rattle.sixel_base.specs.Size.{banded}
 use Rattle.sixel_base.specs.declared.state.DecoderState.{DecoderState}
 use Rattle.sixel_base.specs.Payload.{Image}
 use Rattle.sixel_encoder.specs.declared.form.TextForm.{TextForm}
-use Rattle.sixel_encoder.specs.Text.{Drawing, row_of, text_of}
-use Rattle.sixel_encoder.specs.Encoding.{image_fault, AreShortest, IsDrawing, IsText}
+use Rattle.sixel_encoder.specs.Text.{Drawing}
+use Rattle.sixel_encoder.specs.Encoding.{image_fault, IsDrawing, IsText}
 use Rattle.sixel_encoder.specs.Form.{IsFormText, form_text}
-use Rattle.sixel_encoder.proofs.ShortestRows.{spells, shortest}
 use Rattle.sixel_base.specs.Limits.{Limit}
-use Rattle.sixel_encoder.specs.Trip.{CanRead, trip, IsTrip, IsReadAs, IsOneString, IsWritable}
-use Rattle.sixel_encoder.proofs.SecondTrip.{text-again}
+use Rattle.sixel_encoder.specs.Trip.{CanRead, trip, IsReadAs, IsOneString, IsWritable}
 use Rattle.std.proofs.lemmas.Bool.Decides.{nat_tests}
 use Rattle.sixel_encoder.proofs.CompactText.{length-compact, IsDrawnText-compact}
 use Rattle.sixel_encoder.proofs.DcsText.{IsOneString-drawn, IsReadAs-drawn}
@@ -30,18 +27,6 @@ pub IsDrawnText-form : (form : TextForm) (drawing : Drawing) → IsWritable draw
     → IsDrawnText drawing (form_text form drawing)
 IsDrawnText-form Plain drawing is = IsDrawnText-plain drawing is
 IsDrawnText-form Compact drawing is = IsDrawnText-compact drawing is
-
--- the plain text is that of a drawing whose rows are all in the fewest bytes
-pub shortest-written : {S : Type 0} (bytes : S → List ℕ) (result : Result S SixelError)
-    (image : Image) (k : ℕ)
-    → IfOk result (λ text. IsText image k (bytes text))
-    → IfOk result
-    (λ text.
-    (drawing : Drawing) × IsDrawing image k drawing × (bytes text ≡ text_of drawing)
-    × AreShortest drawing)
-shortest-written bytes (Ok text) image k is =
-    (is.0, is.1, is.2, λ band entry. (spells (row_of is.0 band entry), shortest _))
-shortest-written bytes (Err e) image k is = tt
 
 -- where the drawings are one, so are the texts
 pub hidden-written : {S : Type 0} (form : TextForm) (bytes : S → List ℕ)
@@ -98,13 +83,3 @@ read_back-written form bytes (Ok text) decoder image k refused fits is reads =
     let back = CanRead-drawn image k is.0 is.1 decoder reads in
     (is.0, is.1, rw is.2 (IsReadAs-drawn decoder is.0 _ sound drawn back))
 read_back-written form bytes (Err e) decoder image k refused fits is reads = tt
-
-pub again-written : {S : Type 0} (bytes : S → List ℕ) (result : Result S SixelError)
-    (decoder : DecoderState) (image : Image) (k : ℕ)
-    → IfOk result (λ text. IsText image k (bytes text)) → CanRead decoder image.width image.height
-    → IsTrip decoder.raster_crop image k
-    → image.background_mode ≡ Transparent
-    → IfOk result (λ text. IsReadAs decoder (bytes text) image)
-again-written bytes (Ok text) decoder image k is reads of clear =
-    text-again decoder image k (bytes text) reads is of clear
-again-written bytes (Err e) decoder image k is reads of clear = tt

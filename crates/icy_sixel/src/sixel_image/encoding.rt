@@ -1,10 +1,10 @@
 //! The SIXEL output of an image.
 
-ghost use Rattle.std.specs.Prelude.{◌≡◌, ℕ, ◌*◌, ◌≤◌, List, None, OnOk, IfErr, IfOk};
+ghost use Rattle.std.specs.Prelude.{◌≡◌, ℕ, ◌*◌, ◌<◌, ◌≤◌, List, None, All, OnOk, IfErr, IfOk};
 ghost use Rattle.std.specs.Prelude.{◌++◌, Some, MatchOption, codes, length, string_bytes};
 ghost use Rattle.sixel_base.specs.Limits.{Limit};
 
-use crate::sixel_image::{BackgroundMode, SixelImage};
+use crate::sixel_image::SixelImage;
 use sixel_base::{Result, SixelError};
 use sixel_encoder::{
     EncodeOptions, Source, TextForm, encode_in_palette, encode_refined, encode_source,
@@ -19,11 +19,12 @@ impl SixelImage {
     ghost use Rattle.sixel_base.specs.Size.{banded};
     ghost use Rattle.sixel_base.specs.Payload.{Image};
     ghost use Rattle.sixel_encoder.specs.Compact.{IsCompactText};
-    ghost use Rattle.sixel_encoder.specs.Text.{Drawing, text_of};
+    ghost use Rattle.sixel_encoder.specs.Text.{Drawing};
     ghost use Rattle.sixel_encoder.specs.Encoding.{image_fault, IsDrawing, IsText};
+    ghost use Rattle.icy_sixel.specs.Headline.{IsFaithful};
     ghost use Rattle.icy_sixel.specs.ImageView.{image_value};
-    ghost use Rattle.sixel_encoder.specs.Encoding.{AreShortest, shown_image};
-    ghost use Rattle.sixel_encoder.specs.Trip.{CanRead, IsOneString, IsReadAs, IsTrip, trip};
+    ghost use Rattle.sixel_encoder.specs.Encoding.{shown_image};
+    ghost use Rattle.sixel_encoder.specs.Trip.{CanRead, IsOneString, IsReadAs, trip};
     ghost use Rattle.sixel_base.specs.CallFault.{FailsBy};
     ghost use Rattle.sixel_encoder.specs.Encoding.{source_value};
     ghost use Rattle.sixel_encoder.specs.IndexedDrawing.{IsPaletteText, IsTextOf, indexed_drawing};
@@ -52,37 +53,18 @@ impl SixelImage {
     /// number of bytes (`BufferSizeMismatch`).
     ///
     /// A pixel whose alpha is below 128 is transparent. Its color and its alpha never affect the
-    /// output.
+    /// output. The output is the one text that [`headline`](crate::laws::headline) states of the
+    /// image. [`image_trip`](sixel_encoder::laws::image_trip) states how decoders with other
+    /// settings read it, and [`second_trip`](sixel_encoder::laws::second_trip) that a second round
+    /// trip changes nothing.
     pub fn encode_with(&self, alloc: Global, options: &EncodeOptions) -> Result<String>
         ensures refused { MatchOption (image_fault (image_value self.now))
             (IfErr result (λ e. e ≡ SixelError.OutOfMemory))
             (λ fault. result ≡ Err fault) }
-        ensures text { IfOk result
-            (λ text. IsText (image_value self.now) options.now.max_colors (string_bytes text)) }
-        ensures hidden { (other : Image) (bytes : List ℕ)
-            → shown_image other ≡ shown_image (image_value self.now)
-            → IsText other options.now.max_colors bytes
-            → IfOk result (λ text. string_bytes text ≡ bytes) }
-        ensures shortest { IfOk result (λ text. (drawing : Drawing)
-            × IsDrawing (image_value self.now) options.now.max_colors drawing
-            × (string_bytes text ≡ text_of drawing) × AreShortest drawing) }
-        ensures one_string { (limit : Limit)
-            → self.now.width * banded self.now.height ≤ limit.pixels
-            → IfOk result (λ text. IsOneString limit (string_bytes text)) }
-        ensures readable { OnOk result (CanRead new_decoder self.now.width self.now.height) }
-        ensures read_back { (decoder : DecoderState)
-            → CanRead decoder self.now.width self.now.height
-            → IfOk result (λ text. (drawing : Drawing)
-            × IsDrawing (image_value self.now) options.now.max_colors drawing
-            × IsReadAs decoder (string_bytes text) (trip decoder.raster_crop drawing)) }
-        ensures again { (decoder : DecoderState)
-            → CanRead decoder self.now.width self.now.height
-            → IsTrip decoder.raster_crop (image_value self.now) options.now.max_colors
-            → self.now.background_mode ≡ BackgroundMode.Transparent
-            → IfOk result (λ text. IsReadAs decoder (string_bytes text) (image_value self.now)) }
+        ensures faithful { IfOk result (λ text.
+            IsFaithful (image_value self.now) options.now.max_colors (string_bytes text)) }
+        ensures bytes { OnOk result (All (λ byte. byte < 256) (image_value self.now).pixels) }
     {
-        // A law without work: the clause `hidden` follows from it.
-        one_drawing();
         encode_source(alloc, &self.source(), options.max_colors, TextForm::Plain)
     }
 

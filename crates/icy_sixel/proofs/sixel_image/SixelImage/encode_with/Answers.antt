@@ -1,13 +1,11 @@
-use Rattle.std.proofs.Common.{◌≡◌, List, ℕ, sym, arith}
-use Rattle.std.specs.Prelude.{All, IfErr, IfOk, MatchOption, OnOk, Result, Err, string_bytes, ◌<◌}
+use Rattle.std.proofs.Common.{◌≡◌, ◌<◌, List, ℕ, arith}
+use Rattle.std.specs.Prelude.{All, IfErr, IfOk, MatchOption, OnOk, Result, Err, string_bytes}
 use Rattle.sixel_base.specs.declared.error.SixelError.{SixelError}
 use Rattle.sixel_base.specs.declared.error.SixelError.TheVariants.{OutOfMemory}
 use Rattle.sixel_base.specs.Payload.{Image}
-use Rattle.sixel_encoder.specs.declared.form.TextForm.TheVariants.{Plain}
 use Rattle.sixel_encoder.specs.Encoding.{IsText, image_fault}
 use Rattle.icy_sixel.specs.ImageView.{image_value}
-use Rattle.sixel_encoder.proofs.EncodedText.{shortest-written, hidden-written, one_string-written}
-use Rattle.sixel_encoder.proofs.EncodedText.{read_back-written, again-written}
+use Rattle.icy_sixel.proofs.Headline.{faithful-written}
 use Rattle.icy_sixel.proofs.sixel_image.SixelImage.encode_with.Goals as goal
 use Rattle.std.proofs.lemmas.Bool.Decides.{nat_tests}
 
@@ -28,32 +26,11 @@ told c = grind (arith, nat_tests)
 pub returns-clause-refused : goal.returns-clause-refused
 returns-clause-refused c = (told c).refused
 
-pub returns-clause-text : goal.returns-clause-text
-returns-clause-text c = (told c).text
+pub returns-clause-faithful : goal.returns-clause-faithful
+returns-clause-faithful c =
+    let of = told c in
+    faithful-written string_bytes c.encode_source.result (image_value c.args.self.now)
+    c.args.options.now.max_colors of.refused of.bytes_of of.text
 
-pub returns-clause-hidden : goal.returns-clause-hidden
-returns-clause-hidden c = λ other bytes same also.
-    hidden-written Plain string_bytes _ _ other _ bytes
-    (λ drawing another fits is of.
-    c.one_drawing.ensures _ other _ drawing another fits (sym same) is of)
-    (told c).bytes_of (told c).text also
-
-pub returns-clause-shortest : goal.returns-clause-shortest
-returns-clause-shortest c = shortest-written string_bytes _ _ _ (told c).text
-
-pub returns-clause-one_string : goal.returns-clause-one_string
-returns-clause-one_string c = λ limit room.
-    one_string-written Plain string_bytes _ limit _ _ (told c).refused (told c).bytes_of
-    (told c).text room
-
-pub returns-clause-readable : goal.returns-clause-readable
-returns-clause-readable c = grind (arith, nat_tests)
-
-pub returns-clause-read_back : goal.returns-clause-read_back
-returns-clause-read_back c = λ decoder reads.
-    read_back-written Plain string_bytes _ decoder _ _ (told c).refused (told c).bytes_of
-    (told c).text reads
-
-pub returns-clause-again : goal.returns-clause-again
-returns-clause-again c = λ decoder reads of clear.
-    again-written string_bytes _ decoder _ _ (told c).text reads of clear
+pub returns-clause-bytes : goal.returns-clause-bytes
+returns-clause-bytes c = (told c).bytes_of
