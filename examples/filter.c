@@ -3,11 +3,12 @@
  *     filter [-w COLUMNS] [-h ROWS] <input >output
  *
  * -w and -h are the greatest size of an image in pixels. An image is written with at most 256
- * colors, with its pixel shape and with a transparent background. All other bytes are copied: text,
- * OSC, APC, other DCS sequences, and the content that tmux passes on (ESC P tmux; .. ESC \).
+ * colors, and keeps its pixel shape, its background (P2) and its height: that of the raster
+ * attributes, or below at the last row drawn. All other bytes are copied: text, OSC, APC, other DCS
+ * sequences, and the content that tmux passes on (ESC P tmux; .. ESC \).
  *
- * An image that cannot be decoded is copied too, and not clipped, and so is one without an end. So
- * the filter loses no byte, and the terminal decides what it shows.
+ * Commands with a fault are ignored, as terminals do. An image without pixels is copied, and so is
+ * one without an end. So the filter loses no byte.
  *
  * The output of each chunk is written before the next one is read. A chunk can end anywhere.
  * Exit status 1: a read or a write fails, or memory to store an image. Exit status 2: the arguments
@@ -19,13 +20,12 @@
 #include <string.h>
 #include <unistd.h>
 
-/* Controls. ESC and a byte from 0x40 to 0x5f are one of the 8-bit ones, 0x40 above that byte. */
-enum { BEL = 0x07, CAN = 0x18, SUB = 0x1a, ESC = 0x1b };
-enum { DCS = 0x90, SOS = 0x98, OSC = 0x9d, PM = 0x9e, APC = 0x9f, C1_END = 0xa0 };
+/* Controls: a DCS sequence begins with ESC P or with its 8-bit form. */
+enum { ESC = 0x1b, DCS = 0x90 };
 
 struct filter {
     icysixel decoder; /* all images share its color registers, as in a terminal */
-    enum { TEXT, ESCAPE, IMAGE, STRING, TITLE, PASSED_ON } state;
+    enum { TEXT, ESCAPE, IMAGE, PASSED_ON } state;
     uint8_t previous;        /* the byte before the next one, outside of images */
     uint8_t *stored;         /* the open DCS sequence, in case it is copied */
     size_t length, capacity; /* bytes at `stored` */
@@ -62,6 +62,7 @@ static int write_image(icysixel *decoder, const icysixel_shape *shape)
     icysixel_bytes pixels = {0}, text = {0};
     size_t length;
     encoding.pixel_height = (uint8_t)shape->pixel_height;
+    if (shape->p2 != 1) encoding.background = ICYSIXEL_BACKGROUND_OPAQUE;
     encoding.palette = ICYSIXEL_PALETTE_FARTHEST;
     encoding.form = ICYSIXEL_FORM_COMPACT;
     if (icysixel_take_pixels(decoder, ICYSIXEL_ORDER_RGBA, &pixels) == ICYSIXEL_OK &&
@@ -95,7 +96,7 @@ static size_t read_image(struct filter *filter, const uint8_t *bytes, size_t len
     if (icysixel_feed(&filter->decoder, bytes, length, &fed) != ICYSIXEL_OK) {
         /* tmux has the only DCS sequences whose first byte after ESC P is `t`. */
         int is_tmux = filter->stored[0] == ESC && filter->length == 2 && bytes[0] == 't';
-        filter->state = is_tmux ? PASSED_ON : STRING;
+        filter->state = is_tmux ? PASSED_ON : TEXT;
         icysixel_abort(&filter->decoder);
         copy_stored(filter);
         return 0;
@@ -127,22 +128,13 @@ static void read_byte(struct filter *filter, uint8_t byte)
 {
     int is_escaped = filter->state == ESCAPE;
     /* After a byte of a UTF-8 character another one is no control. */
-    uint8_t control = byte < 0x80 || filter->previous < 0x80 ? byte : 0;
-    if (is_escaped && byte >= 0x40 && byte < 0x60) control = byte + 0x40;
+    int is_control = byte == DCS && filter->previous < 0x80;
     if (is_escaped && byte != 'P') putchar(ESC);
-    if (control == DCS) {
+    if (is_control || (is_escaped && byte == 'P')) {
         begin_image(filter, byte);
         return;
     }
-    if (byte == ESC)
-        filter->state = ESCAPE;
-    else if (control == OSC)
-        filter->state = TITLE;
-    else if (control == SOS || control == PM || control == APC)
-        filter->state = STRING;
-    else if (is_escaped || control == CAN || control == SUB ||
-             (control >= 0x80 && control < C1_END) || (control == BEL && filter->state == TITLE))
-        filter->state = TEXT;
+    filter->state = byte == ESC ? ESCAPE : TEXT;
     if (byte != ESC) putchar(byte);
     filter->previous = byte;
 }
@@ -181,6 +173,8 @@ int main(int count, char **words)
     ssize_t length;
     if (icysixel_new(&filter.decoder) != ICYSIXEL_OK) stop(1, "out of memory");
     icysixel_set_clip(&filter.decoder, clip.width, clip.height);
+    icysixel_set_height(&filter.decoder, ICYSIXEL_HEIGHT_DRAWN);
+    icysixel_set_lenient(&filter.decoder, 1);
     icysixel_set_transparent(&filter.decoder, 1);
     do {
         length = read(STDIN_FILENO, chunk, sizeof chunk);

@@ -26,7 +26,7 @@ SIXEL = [
 ]
 # The example filter.c, text around an image, and what the filter writes of each beginning of it.
 FILTER = ROOT / "examples/filter.c"
-STREAM, FILTERED = b"a\x1bPq#0~~\x1b\\b", b'a\x1bP9;1;0q"1;1;2;6#0;2;0;0;0#0~~\x1b\\b'
+STREAM, FILTERED = b"a\x1bPq#0~~\x1b\\b", b'a\x1bP9;0;0q"1;1;2;6#0;2;0;0;0#0~~\x1b\\b'
 BEGINNINGS = [b"", FILTERED[:1], FILTERED[:-1], FILTERED]
 RUNS = [f"{it}: out of memory" for it in (
     "run in a payload session", "tagged run in a payload session", "tagged run in a DCS session")]
