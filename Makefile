@@ -18,9 +18,10 @@
 #   make uninstall    removes what `make install` has copied
 #   make clean        removes what is built
 #
-# make program, lib, install-program and install-lib do one half. CPU=x86-64-v3 builds for newer
-# processors until another CPU is given; x86-64-v2 is the default. CC compiles the memory hooks and
-# links the shared library.
+# make program, lib, install-program and install-lib do one half. make viewer and install-viewer, which
+# make install does not, are in scripts/viewer.mk. CPU=x86-64-v3 builds for newer processors until
+# another CPU is given; x86-64-v2 is the default. CC compiles the memory hooks and links the shared
+# library.
 
 MAKEFLAGS += --no-builtin-rules
 
@@ -39,6 +40,8 @@ others = aarch64 x86-64-v3
 archives_for_others = $(others:%=$(crate)/out/libicysixel.%.a)
 
 all: program lib
+
+include scripts/viewer.mk
 
 program: $(program)
 
