@@ -1,6 +1,10 @@
-"""Tests the example recorder.c on test vectors, and on the SIXEL files of the folder SAMPLES."""
+"""Tests programs for a terminal's stream: the recorder, and what mutated samples do to each.
+
+SAMPLES names a folder of SIXEL files, which are recorded too. FUZZ_SEED chooses other mutants.
+"""
 import ctypes
 import os
+import random
 import re
 import subprocess
 import sys
@@ -9,11 +13,15 @@ import unittest
 from pathlib import Path
 
 from build import ARCHIVES, MEMORY, ROOT, run
-from c import test_c
+from c import test_c, test_view
 from library import SHARED, call
 from vectors import TERMINATOR, bytes_of, vectors
 
 SAMPLES = os.environ.get("SAMPLES")
+# Programs that read mutated samples, and their arguments.
+FILTERS = [("filter", "-w 800 -h 480"), ("recorder", "80x24 10x20"), ("terminal", "")]
+MUTANTS = 200
+TOKENS = [b"!", b'"', b"#", b"$", b"-", b";", b"9", b"99999", b"q", b"~", b"\x1b"]
 # An image and its end. Its introducer follows no byte of a character, and no ESC that tmux doubles.
 IMAGE = re.compile(rb"((?<!\x1b)\x1bP[\d;]*q[^\x1b\x9c]*(?:\x1b\\|\x9c)"
                    rb"|(?<![\x80-\xff])\x90[\d;]*q[^\x1b\x9c]*(?:\x1b\\|\x9c))")
@@ -82,6 +90,24 @@ def samples():
     return [it.read_bytes() for it in sorted(Path(SAMPLES).glob("*.six"))] if SAMPLES else []
 
 
+def mutant(chance, text):
+    """A text with up to eight mutations, of which half are in its header."""
+    text = bytearray(text)
+    for _ in range(chance.randint(1, 8)):
+        at = chance.randrange(chance.choice([8, len(text) + 1]))
+        count = chance.randint(1, 99)
+        match chance.randrange(4):
+            case 0:
+                text[at:at + 1] = bytes([chance.randrange(256)])
+            case 1:
+                text[at:at + count] = b""
+            case 2:
+                text[at:at] = chance.choice(TOKENS) * chance.choice([1, count])
+            case _:
+                text[at:at] = text[at:at + count]
+    return bytes(text)
+
+
 class TestStreams(unittest.TestCase):
     @classmethod
     def setUpClass(cls):
@@ -120,3 +146,31 @@ class TestStreams(unittest.TestCase):
                     self.assertEqual(found, shown)
                 texts = (b"".join(IMAGE.split(it)[::2]) for it in (stream, recording))
                 self.assertEqual(*texts)
+
+    def mutants(self):
+        """Mutated samples."""
+        chance = random.Random(int(os.environ.get("FUZZ_SEED", 1)))
+        texts = [it for it in payloads() if len(it) < 4096] + samples()
+        return [mutant(chance, chance.choice(texts)) for _ in range(MUTANTS)]
+
+    def survives(self, program, *arguments, stdin=b"", options=""):
+        """Runs a program with sanitizers, which report an error by a status of their own."""
+        options = {"UBSAN_OPTIONS": "exitcode=99", "ASAN_OPTIONS": f"exitcode=99{options}"}
+        status, _, errors = run(program, *arguments, stdin=stdin, env=os.environ | options)
+        self.assertIn(status, (0, 1), errors[-2000:].decode(errors="replace"))
+
+    def test_mutants(self):
+        """No mutated sample makes a program read or write outside of its memory, or leak."""
+        stdin = b"text".join(self.mutants())
+        for name, arguments in FILTERS:
+            with self.subTest(program=name):
+                program = self.compiled(ROOT / f"examples/{name}.c", *test_c.SANITIZERS)
+                self.survives(program, *arguments.split(), stdin=stdin)
+
+    def test_mutants_in_viewer(self):
+        """The same for the viewer, except for leaks: GLib keeps memory until the end."""
+        viewer = test_view.build(self.folder, *test_c.SANITIZERS)
+        files = [self.folder / f"{number}.six" for number in range(MUTANTS)]
+        for file, text in zip(files, self.mutants()):
+            file.write_bytes(text)
+        self.survives(viewer, "-w", "80", "-h", "80", *files, options=":detect_leaks=0")
