@@ -7,8 +7,8 @@
  * attributes, or below at the last row drawn. All other bytes are copied: text, OSC, APC, other DCS
  * sequences, and the content that tmux passes on (ESC P tmux; .. ESC \).
  *
- * Commands with a fault are ignored, as terminals do. An image without pixels is copied, and so is
- * one without an end. So the filter loses no byte.
+ * Commands with a fault are ignored, as terminals do. An image without pixels inside that size is
+ * left out. One without an end is copied, and so is one that memory does not suffice for.
  *
  * The output of each chunk is written before the next one is read. A chunk can end anywhere.
  * Exit status 1: a read or a write fails, or memory to store an image. Exit status 2: the arguments
@@ -55,7 +55,8 @@ static void copy_stored(struct filter *filter)
     filter->length = 0;
 }
 
-/* Writes an image of this shape, which was finished; returns whether it succeeds. */
+/* Writes an image of this shape, which was finished, unless it has no pixels; returns whether it
+ * succeeds. */
 static int write_image(icysixel *decoder, const icysixel_shape *shape)
 {
     icysixel_encoding encoding = {.width = shape->width, .height = shape->height};
@@ -65,6 +66,7 @@ static int write_image(icysixel *decoder, const icysixel_shape *shape)
     if (shape->p2 != 1) encoding.background = ICYSIXEL_BACKGROUND_OPAQUE;
     encoding.palette = ICYSIXEL_PALETTE_FARTHEST;
     encoding.form = ICYSIXEL_FORM_COMPACT;
+    if (shape->bytes == 0) return 1;
     if (icysixel_take_pixels(decoder, ICYSIXEL_ORDER_RGBA, &pixels) == ICYSIXEL_OK &&
         icysixel_encode_image(decoder, pixels.data, pixels.length, &encoding, &length) ==
             ICYSIXEL_OK)
