@@ -44,7 +44,7 @@ class Shape(ctypes.Structure):
     _fields_ += [(it, ctypes.c_uint8) for it in ("p1", "p2", "is_complete", "is_empty")]
 
 
-class Terminal:
+class Decoder:
     """A decoder whose images are those of terminals. They share its registers."""
 
     def __init__(self):
@@ -137,7 +137,7 @@ class TestStreams(unittest.TestCase):
                 status, recording, errors = run(recorder, *words, stdin=stream, env=env)
                 self.assertEqual(errors, b"")
                 clip = [count * size for count, size in zip(screen, cell)]
-                before, after = Terminal(), Terminal()
+                before, after = Decoder(), Decoder()
                 shown = [before.shows(it, *clip) for it in IMAGE.findall(stream)]
                 found = [after.shows(it) for it in IMAGE.findall(recording)]
                 shown = [it for it in shown if it[2]]
@@ -153,10 +153,10 @@ class TestStreams(unittest.TestCase):
         texts = [it for it in payloads() if len(it) < 4096] + samples()
         return [mutant(chance, chance.choice(texts)) for _ in range(MUTANTS)]
 
-    def survives(self, program, *arguments, stdin=b"", options=""):
+    def survives(self, program, *arguments, stdin=b""):
         """Runs a program with sanitizers, which report an error by a status of their own."""
-        options = {"UBSAN_OPTIONS": "exitcode=99", "ASAN_OPTIONS": f"exitcode=99{options}"}
-        status, _, errors = run(program, *arguments, stdin=stdin, env=os.environ | options)
+        env = os.environ | {"UBSAN_OPTIONS": "exitcode=99", "ASAN_OPTIONS": "exitcode=99"}
+        status, _, errors = run(program, *arguments, stdin=stdin, env=env)
         self.assertIn(status, (0, 1), errors[-2000:].decode(errors="replace"))
 
     def test_mutants(self):
@@ -168,9 +168,9 @@ class TestStreams(unittest.TestCase):
                 self.survives(program, *arguments.split(), stdin=stdin)
 
     def test_mutants_in_viewer(self):
-        """The same for the viewer, except for leaks: GLib keeps memory until the end."""
+        """The same for the viewer."""
         viewer = test_view.build(self.folder, *test_c.SANITIZERS)
         files = [self.folder / f"{number}.six" for number in range(MUTANTS)]
         for file, text in zip(files, self.mutants()):
             file.write_bytes(text)
-        self.survives(viewer, "-w", "80", "-h", "80", *files, options=":detect_leaks=0")
+        self.survives(viewer, "-w", "80", "-h", "80", *files)
