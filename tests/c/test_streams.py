@@ -3,6 +3,7 @@
 SAMPLES names a folder of SIXEL files, which are recorded too. FUZZ_SEED chooses other mutants.
 """
 import ctypes
+import itertools
 import os
 import random
 import re
@@ -146,6 +147,24 @@ class TestStreams(unittest.TestCase):
                     self.assertEqual(found, shown)
                 texts = (b"".join(IMAGE.split(it)[::2]) for it in (stream, recording))
                 self.assertEqual(*texts)
+
+    def test_recorder_failures(self):
+        """A read or a write that fails is an error, and so is memory that is missing."""
+        recorder = f"{self.compiled(ROOT / 'examples/recorder.c')} 80x24 10x20"
+        failures = ("</", "Is a directory"), (">/dev/full", "No space left on device")
+        for redirection, reason in failures:
+            ended = run("sh", "-c", f"{recorder} {redirection}", stdin=BEFORE)
+            self.assertEqual(ended, (1, b"", f"recorder: {reason}\n".encode()))
+        failed, found = self.folder / "failed", set()
+        for number in itertools.count(1):
+            env = {"LD_PRELOAD": self.shim, "FAILED": failed, "FAIL_ALLOC": str(number)}
+            status, _, errors = run(*recorder.split(), stdin=b"\x1bP9;1q~\x1b\\", env=env)
+            found.add((status, errors))
+            if not failed.exists():
+                break
+            failed.unlink()
+        # Standard output needs no buffer.
+        self.assertEqual(found, {(1, b"out of memory\n"), (0, b"")})
 
     def mutants(self):
         """Mutated samples."""
