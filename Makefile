@@ -18,10 +18,10 @@
 #   make uninstall    removes what `make install` has copied
 #   make clean        removes what is built
 #
-# make program, lib, install-program and install-lib do one half. make viewer and install-viewer, which
-# make install does not, are in scripts/viewer.mk. CPU=x86-64-v3 builds for newer processors until
-# another CPU is given; x86-64-v2 is the default. CC compiles the memory hooks and links the shared
-# library.
+# make program, lib, install-program and install-lib do one half. make viewer and install-viewer are
+# in scripts/viewer.mk; make install does not install the viewer. CPU=x86-64-v3 builds for newer
+# processors until another CPU is given; x86-64-v2 is the default. CC compiles the memory hooks and
+# links the shared library.
 
 MAKEFLAGS += --no-builtin-rules
 
@@ -41,11 +41,9 @@ archives_for_others = $(others:%=$(crate)/out/libicysixel.%.a)
 
 all: program lib
 
-include scripts/viewer.mk
-
 program: $(program)
 
-include scripts/library.mk
+include scripts/library.mk scripts/viewer.mk
 
 lib-aarch64: out/aarch64/libicysixel.a out/aarch64/shared/libicysixel.so
 

@@ -13,7 +13,7 @@ sys.dont_write_bytecode = True
 from translation import HOMES, ROOT, plain  # noqa: E402
 
 # What the Makefile of plain Rust installs and reads.
-COPIED = ("LICENSE-*", "examples/*.*", "examples/python/*", "man/*", "scripts/library.mk",
+COPIED = ("LICENSE-*", "examples/*.*", "examples/python/*", "man/*", "scripts/*.mk", "viewer/*",
           "scripts/manual", "crates/icysixel/*.*", "crates/icysixel/[im]*/*.[ch]")
 
 
