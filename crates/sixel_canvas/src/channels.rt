@@ -61,6 +61,9 @@ pub fn reorder(pixels: &mut [u8], order: ChannelOrder)
     ensures ordered { (i : ℕ) → i < length pixels.old → slice_index pixels.new i
         ≡ slice_index (in_order order (pixel_at pixels.old (i / 4))) (i % 4) }
 {
+    if order == ChannelOrder::Rgba {
+        return;
+    }
     'ordered: for column in 0..pixels.len() / 4 {
         let at = 4 * column;
         let bytes = order.of([pixels[at], pixels[at + 1], pixels[at + 2], pixels[at + 3]]);

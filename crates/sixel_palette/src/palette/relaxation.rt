@@ -170,14 +170,24 @@ fn distances_of_eight(codes: &[u32], at: usize, color: [u8; 3]) -> [u32; 8]
     ensures { (j : ℕ) → j < 8
         → slice_index result j ≡ distance color (color_of (slice_index codes.now (at + j))) }
 {
+    let near = eight_codes(codes, at);
     [
-        distance_to(codes[at], color),
-        distance_to(codes[at + 1], color),
-        distance_to(codes[at + 2], color),
-        distance_to(codes[at + 3], color),
-        distance_to(codes[at + 4], color),
-        distance_to(codes[at + 5], color),
-        distance_to(codes[at + 6], color),
-        distance_to(codes[at + 7], color),
+        distance_to(near[0], color),
+        distance_to(near[1], color),
+        distance_to(near[2], color),
+        distance_to(near[3], color),
+        distance_to(near[4], color),
+        distance_to(near[5], color),
+        distance_to(near[6], color),
+        distance_to(near[7], color),
     ]
+}
+
+/// Returns eight codes from this one on, read at once.
+#[inline(always)]
+fn eight_codes(codes: &[u32], at: usize) -> [u32; 8]
+    requires { at + 8 ≤ length codes.now }
+    ensures { (j : ℕ) → j < 8 → slice_index result j ≡ slice_index codes.now (at + j) }
+{
+    u32x8::from_slice(&codes[at..]).to_array()
 }
