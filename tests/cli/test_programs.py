@@ -201,7 +201,7 @@ class TestPrograms(ProgramTest):
 
     def test_largest_image(self):
         """67 million pixels of background are decoded, and encoded again, without an error."""
-        program = builds_of("sixel")[0]
+        program = self.builds()[0]
         pixels = '"$0" payload | tail -c +21 | head -c 268304400'
         bands = 1365 * b"#0!8190~$-"
         text = b'\x1bP9;1;0q"1;1;8190;8190#0;2;0;0;0%s\x1b\\' % bands
