@@ -122,7 +122,8 @@ def drop(source, at):
 def index(source, at):
     """An index that is no literal. The support code decides whether it is checked."""
     if source.word(at) == "[" and source.touches(at) \
-            and (source.kind(at - 1) in ("word", "number") or source.word(at - 1) in (")", "]", "?")):
+            and (source.kind(at - 1) in ("word", "number")
+                 or source.word(at - 1) in (")", "]", "?")):
         closed = source.close(at)
         if closed != at + 2 or source.kind(at + 1) != "number":
             source.append(at, "Proved(")

@@ -100,12 +100,12 @@ static void choose(const uint8_t *pixels, size_t image, int colors)
     uint8_t indices[PIXELS];
     icysixel_palette palette = {0};
     icysixel_refined refined = {0};
-    CHECK(icysixel_choose_palette(pixels, 4 * PIXELS, (uint16_t)colors, entries, 256, witnesses, 257,
-                                  indices, PIXELS, &palette) == ICYSIXEL_OK);
+    CHECK(icysixel_choose_palette(pixels, 4 * PIXELS, (uint16_t)colors, entries, 256, witnesses,
+                                  257, indices, PIXELS, &palette) == ICYSIXEL_OK);
     add_number(palette.colors), add_number(palette.witnesses), add_number(palette.error);
     add(entries, sizeof entries), add(witnesses, sizeof witnesses), add(indices, PIXELS);
-    CHECK(icysixel_refine_palette(pixels, 4 * PIXELS, (uint16_t)colors, entries, 256, witnesses, 257,
-                                  indices, PIXELS, &refined) == ICYSIXEL_OK);
+    CHECK(icysixel_refine_palette(pixels, 4 * PIXELS, (uint16_t)colors, entries, 256, witnesses,
+                                  257, indices, PIXELS, &refined) == ICYSIXEL_OK);
     add_number(refined.colors), add_number(refined.error), add_number(refined.apart);
     add(entries, sizeof entries), add(witnesses, sizeof witnesses), add(indices, PIXELS);
     write_line("palettes", image, (int[5]){colors});

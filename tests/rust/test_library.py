@@ -80,7 +80,7 @@ class TestLibrary(unittest.TestCase):
 
     @needs("nm", "readelf")
     def test_symbols(self):
-        """The archive defines the calls of the header alone, and the shared library exports them."""
+        """The archive defines and the shared library exports the calls of the header alone."""
         header = (HEADERS / "icysixel.h").read_text()
         declared = sorted(re.findall(r"^\w+ (icysixel_\w+)\(", header, re.M))
         self.assertGreater(len(declared), 40)

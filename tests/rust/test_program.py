@@ -59,7 +59,8 @@ class TestScript(unittest.TestCase):
         with tempfile.TemporaryDirectory() as room:
             room = Path(room)
             files = {"tools/make": MAKE, "crates/sixel/out/sixel": PROGRAM}
-            files |= {"out/rust/target/release/sixel": PROGRAM} | {f"tools/{it}": "" for it in tools}
+            files |= {"out/rust/target/release/sixel": PROGRAM}
+            files |= {f"tools/{it}": "" for it in tools}
             for name, text in files.items():
                 (room / name).parent.mkdir(parents=True, exist_ok=True)
                 (room / name).write_text(text)

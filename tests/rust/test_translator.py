@@ -60,7 +60,8 @@ class TestTranslator(unittest.TestCase):
         """The sizes and offsets that the structs of the header have are those of a C compiler."""
         header = (HEADERS / "icysixel.h").read_text()
         facts = []
-        for members, name in re.findall(r"^typedef struct \{\n(.*?)^\} (\w+);", header, re.M | re.S):
+        structs = re.compile(r"^typedef struct \{\n(.*?)^\} (\w+);", re.M | re.S)
+        for members, name in structs.findall(header):
             size, align, offsets = LAYOUTS[name]
             facts += [f"sizeof({name}) == {size}", f"_Alignof({name}) == {align}"]
             names = re.findall(r"^    \w+ \*?(\w+)(?:\[\d+\])?;", members, re.M)

@@ -1,5 +1,6 @@
 //! Allocations that can fail.
 
+use super::rust_alloc::alloc::dealloc;
 use core::alloc::Layout;
 use core::fmt;
 
@@ -41,6 +42,6 @@ impl Global {
     ///
     /// The block has this size and alignment, and nothing uses it any more.
     pub unsafe fn deallocate(&self, at: *mut u8, size: usize, align: usize) {
-        unsafe { super::rust_alloc::alloc::dealloc(at, Layout::from_size_align_unchecked(size, align)) }
+        unsafe { dealloc(at, Layout::from_size_align_unchecked(size, align)) }
     }
 }

@@ -11,7 +11,8 @@ use core::ops::{Add, BitAnd, BitOr, Mul, Rem, Shl, Shr, Sub};
 /// What `use std::simd::prelude::*` imports.
 pub mod prelude {
     pub use super::{
-        Lane, Mask, Simd, u8x4, u8x8, u8x16, u8x32, u8x64, u16x4, u16x8, u16x16, u32x4, u32x8, u32x16,
+        Lane, Mask, Simd, u8x4, u8x8, u8x16, u8x32, u8x64, u16x4, u16x8, u16x16, u32x4, u32x8,
+        u32x16,
     };
 }
 

@@ -86,7 +86,8 @@ where
         check("min", pair, x.simd_min(y).to_array(), |a, b| of(a.min(b)));
         check("max", pair, x.simd_max(y).to_array(), |a, b| of(a.max(b)));
         check("saturating_add", pair, x.saturating_add(y).to_array(), |a, b| of((a + b).min(most)));
-        check("saturating_sub", pair, x.saturating_sub(y).to_array(), |a, b| of(a.saturating_sub(b)));
+        let rest = x.saturating_sub(y).to_array();
+        check("saturating_sub", pair, rest, |a, b| of(a.saturating_sub(b)));
         check("eq", pair, chosen(x.simd_eq(y)), |a, b| u64::from(a == b));
         check("ne", pair, chosen(x.simd_ne(y)), |a, b| u64::from(a != b));
         check("lt", pair, chosen(x.simd_lt(y)), |a, b| u64::from(a < b));
