@@ -4,6 +4,7 @@
  * and each way the peak of the heap may be a fifth above what the table says. */
 #include "checks.h"
 #include "memory.h"
+#include <time.h>
 
 /* Slopes of color with grain: many colors, which change from pixel to pixel. */
 static uint32_t photograph(size_t x, size_t y)
@@ -107,10 +108,31 @@ static void check_late_width(void)
     free(text.at);
 }
 
+/* Rows that are released six at a time after one large feed: each moves about once. */
+static void check_release_in_steps(void)
+{
+    enum { COUNT = 20000 };
+    struct bytes text = {0};
+    for (int band = 0; band < COUNT; band++) append(&text, "!100~-", 6);
+    icysixel h = new_handle();
+    icysixel_fed fed = {0};
+    icysixel_begin_payload(&h, -1, -1);
+    CHECK(icysixel_feed(&h, text.at, text.length, &fed) == ICYSIXEL_OK);
+    clock_t start = clock();
+    for (size_t rows = 6; rows <= 6 * COUNT; rows += 6)
+        CHECK(icysixel_release_rows(&h, rows) == ICYSIXEL_OK);
+    double seconds = (double)(clock() - start) / CLOCKS_PER_SEC;
+    printf("release in steps: %.3f s\n", seconds);
+    CHECK(seconds < 2);
+    icysixel_free(&h);
+    free(text.at);
+}
+
 int main(int argc, char **argv)
 {
     CHECK(argc == 2);
     check_late_width();
+    check_release_in_steps();
     for (size_t i = 0; i < COUNT_OF(images); i++) {
         icysixel_size size = images[i].size;
         struct bytes pixels = make_pixels(size.width, size.height, images[i].color), text = {0};

@@ -1,20 +1,54 @@
 -- What a canvas shows once rows were released: the bytes of each released row have its pixels.
 use Rattle.std.proofs.Common.{◌≡◌, ℕ, ◌+◌, ◌-◌, ◌*◌, ◌≤◌, List, []}
-use Rattle.std.proofs.Common.{length, drop, get_or, inl, inr}
+use Rattle.std.proofs.Common.{ap, length, drop, get_or, inl, inr}
 use Rattle.std.proofs.Common.{length-take, length-drop, arith}
-use Rattle.std.specs.Prelude.{nat_lt, if◌then◌else◌}
+use Rattle.std.proofs.Math.Nat.{mul-le-mul_right}
+use Rattle.std.proofs.lemmas.Grind.{common_steps}
+use Rattle.std.specs.Prelude.{min, nat_lt, if◌then◌else◌}
 use Rattle.std.proofs.lemmas.Bool.{cases_lt, lt-ltb, le-ltb}
 use Rattle.std.proofs.lemmas.Nat.{row_fits}
+use Rattle.sixel_canvas.specs.Layout.{stored_pixel}
 use Rattle.sixel_canvas.specs.inside.FinalRows.{RowsState, AreRows, final}
 use Rattle.sixel_canvas.specs.inside.ReleasedRows.{row_bytes, row_pixel}
-use Rattle.sixel_canvas.proofs.RowBytes.{and_false, pixel_part}
+use Rattle.sixel_canvas.proofs.RowBytes.{and_false, pixel_part, products}
 use Rattle.std.proofs.lemmas.Bool.Decides.{nat_tests}
 
--- the rows without the first of them, and how many bytes these have
-pub removed_len : (bytes new : List ℕ) (width rows n : ℕ) → n ≤ rows →
-    length bytes ≡ 4 * (rows * width) → new ≡ drop (4 * (n * width)) bytes →
-    length new ≡ 4 * ((rows - n) * width)
-removed_len bytes new width rows n few len is = grind (arith, length-drop)
+-- the bytes from row `n` on, below `free` others
+pub dropped : (bytes : List ℕ) (width free n : ℕ) →
+    drop (4 * ((free + n) * width)) bytes ≡ drop (4 * (n * width)) (drop (4 * (free * width)) bytes)
+dropped bytes width free n = grind (arith, common_steps)
+
+-- the bytes of rows below `free` others, without the first `n` of them
+pub removed : (bytes : List ℕ) (width rows free n : ℕ) → n ≤ rows →
+    4 * (free * width) ≤ length bytes → length (drop (4 * (free * width)) bytes) ≡ 4 * (rows * width) →
+    (4 * ((free + n) * width) ≤ length bytes)
+    × (length (drop (4 * ((free + n) * width)) bytes) ≡ 4 * ((rows - n) * width))
+removed bytes width rows free n few above len =
+    let all : length bytes ≡ 4 * ((free + rows) * width) =
+    omega (arith, above, len, length-drop (4 * (free * width)) bytes) in
+    let more = mul-le-mul_right width few in
+    let left = products n rows width few in (
+      omega (arith, all, more),
+      omega (arith, all, left, length-drop (4 * ((free + n) * width)) bytes),
+    )
+
+-- the pixels of the rows without the first `count` of them
+pub final_removed : (bytes new background : List ℕ) (width rows n count column row : ℕ)
+    → n ≡ min count rows → new ≡ drop (4 * (n * width)) bytes
+    → stored_pixel new width (rows - n) background column row
+    ≡ stored_pixel bytes width rows background column (row + count)
+final_removed bytes new background width rows n count column row least is =
+    grind (arith, common_steps, nat_tests)
+
+-- the memory for the rows that are left, and for those of the band
+pub held_released : (top released count rows rows' width room room' : ℕ) → released + count ≤ top
+    → rows' ≡ rows - count → 4 * ((top - released + 6) * width) ≤ room
+    → room ≤ room' + 4 * ((rows - rows') * width)
+    → 4 * ((top - (released + count) + 6) * width) ≤ room'
+held_released top released count rows rows' width room room' above is held more =
+    let gone : rows - rows' ≤ count = omega (arith, is) in
+    let all : top - released + 6 ≡ top - (released + count) + 6 + count = omega (arith, above) in
+    omega (arith, held, more, mul-le-mul_right width gone, ap (λ n. n * width) all)
 
 -- the bytes of a row have its pixels
 pub released_row : (rows : RowsState) → AreRows rows → (column row : ℕ) →

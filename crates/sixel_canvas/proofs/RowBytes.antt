@@ -138,15 +138,15 @@ row_len bytes part new background width rows held few four len part_len is =
 
 pub row_appended :
     (bytes part new background : List ℕ) (pixels : List (List ℕ))
-    (width rows room room' moved : ℕ) → length pixels ≤ width → length background ≡ 4 →
+    (width rows room room' moved shifts : ℕ) → length pixels ≤ width → length background ≡ 4 →
     ((i : ℕ) → i < length pixels → length (get_or pixels i []) ≡ 4) →
     length bytes ≡ 4 * (rows * width) → part ≡ flat_map (λ x. x) pixels →
     new ≡ bytes ++ (part ++ joined (λ _. background) (width - length pixels)) → (column row : ℕ) →
-    final (rows_state background new width (rows + 1) room' moved) column row
+    final (rows_state background new width (rows + 1) room' moved shifts) column row
     ≡ (if row == rows then get_or pixels column background
-    else final (rows_state background bytes width rows room moved) column row)
-row_appended bytes part new background pixels width rows room room' moved few four all len flat is
-    column row =
+    else final (rows_state background bytes width rows room moved shifts) column row)
+row_appended bytes part new background pixels width rows room room' moved shifts few four all len
+    flat is column row =
     let f = λ (k : ℕ). get_or pixels k background in
     let next : new ≡ bytes ++ joined f width = grind (arith, row-is) in
     elim (cases_lt column width) [

@@ -314,6 +314,7 @@ fn hand_out(rows: &mut FinalRows, band: &mut TaggedBand, top: usize, expected_wi
     ensures rows { rows.new.rows ≡ top + 6 }
     ensures rows_background { rows.new.background ≡ rows.old.background }
     ensures moved { rows.new.moved ≡ rows.old.moved }
+    ensures shifts { rows.new.shifts ≡ rows.old.shifts }
     ensures width { rows.new.width ≤ rows.old.width }
     ensures area { stored_area rows.old ≤ stored_area rows.new }
     ensures cleared { (column k : ℕ) → tagged_cell band.new column k ≡ band.old.pixels.background }

@@ -24,22 +24,33 @@ pub struct FinalRows {
     bytes: Vec<u8>,
     width: usize,
     rows: usize,
+    /// How many removed rows still have memory, above the others.
+    free: usize,
     background: [u8; 4],
     /// How many pixels were written to give rows another width.
     moved: u64,
+    /// How many rows were moved to the memory of removed rows.
+    shifted: u64,
 }
 
 impl Model for FinalRows {
-    ghost use Rattle.std.specs.Prelude.{vec_capacity};
+    ghost use Rattle.std.specs.Prelude.{◌+◌, ◌-◌, ◌*◌, ◌≤◌, drop, length, vec_capacity};
     ghost use Rattle.sixel_canvas.specs.inside.FinalRows.{RowsState, AreRows, rows_state};
 
     ghost Value = { RowsState };
 
-    ghost view = { λ all. rows_state all.background all.bytes.items all.width all.rows
-        (vec_capacity all.bytes) all.moved };
+    ghost view = { λ all. rows_state all.background
+        (drop (4 * (all.free * all.width)) all.bytes.items) all.width all.rows
+        (vec_capacity all.bytes - 4 * (all.free * all.width)) all.moved
+        (all.shifted + all.free) };
 
-    ghost invariant = { λ all. AreRows (rows_state all.background all.bytes.items all.width all.rows
-        (vec_capacity all.bytes) all.moved) };
+    // At most half of the memory in use is that of removed rows.
+    ghost invariant = { λ all. AreRows (rows_state all.background
+        (drop (4 * (all.free * all.width)) all.bytes.items) all.width all.rows
+        (vec_capacity all.bytes - 4 * (all.free * all.width)) all.moved
+        (all.shifted + all.free))
+        × (4 * (all.free * all.width) ≤ length all.bytes.items)
+        × (all.free ≤ all.rows) };
 }
 
 impl FinalRows {
@@ -50,13 +61,16 @@ impl FinalRows {
         ensures width { result.width ≡ 0 }
         ensures rows { result.rows ≡ 0 }
         ensures moved { result.moved ≡ 0 }
+        ensures shifts { result.shifts ≡ 0 }
     {
         FinalRows {
             bytes: Vec::new(alloc),
             width: 0,
             rows: 0,
+            free: 0,
             background,
             moved: 0,
+            shifted: 0,
         }
     }
 
@@ -98,13 +112,14 @@ impl FinalRows {
         ensures moved { OnOk result (self.new.moved ≡ (if nat_lt self.old.width columns
             then counted self.old.moved (self.old.rows * self.new.width) else self.old.moved)) }
         ensures moved_within { OnOk result (AreMovedWithin self.old self.new) }
+        ensures shifts { OnOk result (self.new.shifts ≤ self.old.shifts) }
         ensures refused { OnErr result (self.new ≡ self.old) }
     {
         if columns > self.width {
             let width = columns.max(2 * self.width).min(MAX_WIDTH);
             return self.lay_out(width, rows);
         }
-        let len = 4 * (rows * self.width);
+        let len = 4 * ((self.free + rows) * self.width);
         self.bytes.reserve(len.saturating_sub(self.bytes.len()))
     }
 
@@ -119,6 +134,7 @@ impl FinalRows {
         ensures background { self.new.background ≡ self.old.background }
         ensures moved { self.new.moved ≡ self.old.moved }
         ensures area { stored_area self.new ≡ stored_area self.old }
+        ensures shifts { self.new.shifts ≡ self.old.shifts }
     {
         if self.rows == 0 {
             self.width = columns;
@@ -143,17 +159,19 @@ impl FinalRows {
             (self.new.moved ≡ counted self.old.moved (self.old.rows * width)) }
         ensures moved_within { OnOk result (2 * self.old.width ≤ width
             → AreMovedWithin self.old self.new) }
+        ensures shifts { OnOk result (self.new.shifts ≤ self.old.shifts) }
         ensures refused { OnErr result (self.new ≡ self.old) }
     {
         let alloc = *self.bytes.allocator();
         let mut bytes = Vec::with_capacity(alloc, 4 * (rows.max(self.rows) * width))?;
         let kept = width.min(self.width);
         'copied: for row in 0..self.rows {
-            let start = 4 * (row * self.width);
+            let start = 4 * ((self.free + row) * self.width);
             let old = &self.bytes[start..start + 4 * kept];
             let _added = add_row(&mut bytes, old, width - kept, self.background);
         }
         self.bytes = bytes;
+        self.free = 0;
         self.width = width;
         self.moved = self.moved.saturating_add((self.rows * width) as u64);
         Ok(())
@@ -173,6 +191,7 @@ impl FinalRows {
         ensures room { self.old.room ≤ self.new.room }
         ensures background { self.new.background ≡ self.old.background }
         ensures moved { self.new.moved ≡ self.old.moved }
+        ensures shifts { self.new.shifts ≡ self.old.shifts }
     {
         let rest = self.width - pixels.len();
         let _added = add_row(
@@ -185,19 +204,29 @@ impl FinalRows {
     }
 
     /// Removes `count` rows from the top, or all if there are fewer. Their memory is reused.
+    ///
+    /// The others move once they are not more than those removed before, so that each removed row
+    /// costs the move of at most one other.
     pub fn remove(&mut self, count: usize)
         ensures sound { AreRows self.old }
         ensures shown { (column row : ℕ) → final self.new column row
             ≡ final self.old column (row + count) }
         ensures rows { self.new.rows ≡ self.old.rows - count }
         ensures width { self.new.width ≡ self.old.width }
-        ensures room { self.new.room ≡ self.old.room }
+        ensures room { self.old.room
+            ≤ self.new.room + 4 * ((self.old.rows - self.new.rows) * self.old.width) }
         ensures background { self.new.background ≡ self.old.background }
         ensures moved { self.new.moved ≡ self.old.moved }
+        ensures shifts { self.new.shifts ≤ self.old.shifts + count }
     {
         let count = count.min(self.rows);
-        remove_front(&mut self.bytes, 4 * (count * self.width));
         self.rows -= count;
+        self.free += count;
+        if self.free >= self.rows {
+            remove_front(&mut self.bytes, 4 * (self.free * self.width));
+            self.shifted = self.shifted.saturating_add(self.rows as u64);
+            self.free = 0;
+        }
     }
 
     /// Frees the memory, if there is no row.
@@ -208,6 +237,7 @@ impl FinalRows {
         ensures room { self.old.rows ≡ 0 → self.new.room ≡ 0 }
         ensures background { self.new.background ≡ self.old.background }
         ensures moved { self.new.moved ≡ self.old.moved }
+        ensures shifts { self.new.shifts ≡ self.old.shifts }
     {
         if self.rows == 0 {
             self.bytes.shrink_to_fit();
@@ -221,7 +251,7 @@ impl FinalRows {
             result.background column row ≡ final self.now column row }
     {
         StoredRows {
-            bytes: &self.bytes,
+            bytes: &self.bytes[4 * (self.free * self.width)..],
             width: self.width,
             rows: self.rows,
             background: self.background,
@@ -237,11 +267,14 @@ impl FinalRows {
         ensures len { IfOk result (λ bytes. length bytes.items ≡ 4 * (width * height)) }
         ensures left { self.new.rows ≤ self.old.rows }
         ensures background { self.new.background ≡ self.old.background }
+        ensures shifts { self.new.shifts ≤ self.old.shifts }
     {
         self.match_width(width, height)?;
         let alloc = *self.bytes.allocator();
         let rows = mem::replace(&mut self.rows, 0);
+        let free = mem::replace(&mut self.free, 0);
         let mut bytes = mem::replace(&mut self.bytes, Vec::new(alloc));
+        remove_front(&mut bytes, 4 * (free * width));
         bytes.truncate(4 * (height * width));
         add_pixels(
             &mut bytes,
@@ -260,6 +293,7 @@ impl FinalRows {
         ensures width { OnOk result (self.new.width ≡ width) }
         ensures rows { OnOk result (self.new.rows ≡ self.old.rows) }
         ensures background { OnOk result (self.new.background ≡ self.old.background) }
+        ensures shifts { OnOk result (self.new.shifts ≤ self.old.shifts) }
         ensures refused { OnErr result (self.new ≡ self.old) }
     {
         if width == self.width {

@@ -59,10 +59,12 @@ pub record IsHeld (canvas : BandCanvasState) : Type 0 where
 abbrev pub band_canvas_held : BandCanvasState → ℕ
 band_canvas_held canvas = if nat_lt 0 canvas.band.tags.extent then 0 else canvas.held
 
--- what is true of every canvas of one band
+-- What is true of every canvas of one band. Stored rows were moved at most once for each released
+-- row, so that a release takes constant time in the mean.
 pub record IsBandCanvas (canvas : BandCanvasState) : Type 0 where
   pub logged : length canvas.gone ≡ canvas.released
   pub above : canvas.released + canvas.rows.rows ≤ canvas.top
+  pub shifts : canvas.rows.shifts ≤ canvas.released
   pub background : canvas.rows.background ≡ canvas.band.pixels.background
   pub reached : canvas.band.pixels.extent ≤ canvas.held
   pub narrow : canvas.held ≤ 1000000

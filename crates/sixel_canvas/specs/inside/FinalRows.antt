@@ -5,7 +5,8 @@ use Rattle.std.specs.Prelude.{◌≡◌, ℕ, ◌+◌, ◌*◌, ◌≤◌, List,
 use Rattle.sixel_canvas.specs.Layout.{stored_pixel}
 
 -- the background, the bytes of the rows, how many columns and rows they have, for how many bytes
--- there is memory, and how many pixels were written to give rows another width
+-- there is memory, how many pixels were written to give rows another width, and how many rows were
+-- moved to the memory of removed rows, with those removed since
 pub record RowsState : Type 0 where
   pub background : List ℕ
   pub bytes : List ℕ
@@ -13,16 +14,18 @@ pub record RowsState : Type 0 where
   pub rows : ℕ
   pub room : ℕ
   pub moved : ℕ
+  pub shifts : ℕ
 
 -- the rows with these parts
-abbrev pub rows_state : List ℕ → List ℕ → ℕ → ℕ → ℕ → ℕ → RowsState
-rows_state background bytes width rows room moved = record {
+abbrev pub rows_state : List ℕ → List ℕ → ℕ → ℕ → ℕ → ℕ → ℕ → RowsState
+rows_state background bytes width rows room moved shifts = record {
   background = background;
   bytes = bytes;
   width = width;
   rows = rows;
   room = room;
   moved = moved;
+  shifts = shifts;
 }
 
 -- how many pixels are stored

@@ -11,6 +11,7 @@ invariant-blank l =
     × (4 * ((l.top + 6) * l.rows.width) ≤ l.rows.room)
     × (l.rows.background ≡ l.fn.rows.background)
     × (l.rows.moved ≡ l.fn.rows.moved)
+    × (l.rows.shifts ≡ l.fn.rows.shifts)
     × ((column row : ℕ) → final l.rows column row ≡ final l.fn.rows column row)
 
 abbrev pub invariant-handed : goal.invariant-handed
@@ -20,6 +21,7 @@ invariant-handed l =
     × (4 * ((l.top + 6) * l.rows.width) ≤ l.rows.room)
     × (l.rows.background ≡ l.fn.rows.background)
     × (l.rows.moved ≡ l.fn.rows.moved)
+    × (l.rows.shifts ≡ l.fn.rows.shifts)
     × ((column row : ℕ)
     → final l.rows column row
     ≡ (if nat_lt row l.top then final l.fn.rows column row else if nat_lt row (l.top + l.k)

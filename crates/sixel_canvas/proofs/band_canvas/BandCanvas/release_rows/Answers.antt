@@ -3,9 +3,19 @@ use Rattle.std.specs.Prelude.{nat_lt, if◌then◌else◌}
 use Rattle.sixel_canvas.specs.inside.BandCanvas.{BandCanvasState, band_canvas_shown}
 use Rattle.sixel_canvas.specs.inside.TaggedBand.{tagged_cell}
 use Rattle.sixel_canvas.proofs.MovedRows.{moved_released}
-use Rattle.sixel_canvas.proofs.ReleasedRows.{above_released}
+use Rattle.sixel_canvas.proofs.ReleasedRows.{above_released, held_released}
 use Rattle.sixel_canvas.proofs.band_canvas.BandCanvas.release_rows.Goals as goal
 use Rattle.std.proofs.Common.{arith}
+
+pub invariant_of-self : goal.invariant_of-self
+invariant_of-self c =
+    let all = c.self.inside in
+    let count = c.saturating_sub-count.result in
+    let rows = c.remove.new.self in
+    let room =
+    held_released all.top all.released count all.rows.rows rows.rows all.rows.width all.rows.room
+    rows.room in
+    grind (arith, room)
 
 pub returns-clause-shown : goal.returns-clause-shown
 returns-clause-shown c = λ column row.

@@ -1,10 +1,11 @@
 use Rattle.std.proofs.Common.{◌≡◌, ℕ, ◌+◌, ◌-◌, ◌*◌, ◌≤◌, ◌<◌, ◌++◌, length, max, min, take, drop}
-use Rattle.std.proofs.Common.{ap, arith, length-take}
+use Rattle.std.proofs.Common.{ap, arith, length-drop, length-take}
 use Rattle.std.proofs.Math.Nat.{mul-le-mul, mul-le-mul_right}
 use Rattle.sixel_base.specs.Picture.{joined}
 use Rattle.std.proofs.lemmas.Grind.{common_steps}
 use Rattle.sixel_canvas.specs.inside.FinalRows.{RowsState}
 use Rattle.sixel_canvas.proofs.MovedRows.{moved_within}
+use Rattle.sixel_canvas.proofs.ReleasedRows.{dropped}
 use Rattle.sixel_canvas.proofs.RowBytes.{part_len_is, row_copied, row_len, when_ok}
 use Rattle.sixel_canvas.proofs.final_rows.FinalRows.lay_out.Goals as goal
 
@@ -19,15 +20,17 @@ copied-preserved c =
     let row = c.copied.row in
     let width = c.args.width in
     let kept = c.min-kept.result in
-    let start = 4 * (row * old.width) in
+    let stored = drop (4 * (old.free * old.width)) old.bytes.items in
+    let start = 4 * ((old.free + row) * old.width) in
     let least : kept ≡ min width old.width = omega (arith, c.min-kept.ensures) in
     let inside : row < old.rows = omega (arith, c.copied-test.true) in
     let part = take (start + 4 * kept - start) (drop start c.deref.result.now) in
-    let cut : part ≡ take (4 * kept) (drop start old.bytes.items) = grind (arith) in
+    let cut : part ≡ take (4 * kept) (drop (4 * (row * old.width)) stored) =
+    grind (arith, dropped old.bytes.items old.width old.free row) in
     let narrow : kept ≤ width = omega (arith, least) in
     let part_len =
-    part_len_is old.bytes.items part old.width width row old.rows kept least inside
-    c.self.invariant.fits cut in
+    part_len_is stored part old.width width row old.rows kept least inside
+    c.self.invariant.0.fits cut in
     let added = c.add_row-added in
     let new = added.new.bytes.items in
     let told = added.ensures in
@@ -43,8 +46,8 @@ copied-preserved c =
       row_len c.copied.bytes.items part new old.background width row kept narrow c.self.told
           before.0 part_len ok,
       omega (arith, before.1, told.capacity),
-      row_copied old.bytes.items c.copied.bytes.items part new old.background old.width width row
-          old.rows kept least c.self.told inside c.self.invariant.fits before.0 cut ok before.2,
+      row_copied stored c.copied.bytes.items part new old.background old.width width row
+          old.rows kept least c.self.told inside c.self.invariant.0.fits before.0 cut ok before.2,
     )
 
 pub returns-clause-moved_within : goal.returns-clause-moved_within
@@ -58,18 +61,20 @@ returns-clause-background c = ap (λ (r : RowsState). r.background) c.self.view_
 
 pub overflow_mul-max-2 : goal.overflow_mul-max-2
 overflow_mul-max-2 c =
-    let most : c.max.result ≤ 1000006 = omega (arith, c.max.ensures, c.self.invariant.few) in
+    let most : c.max.result ≤ 1000006 = omega (arith, c.max.ensures, c.self.invariant.0.few) in
     omega (arith, mul-le-mul most c.requires.narrow)
 
 pub overflow_mul-start-in-copied : goal.overflow_mul-start-in-copied
 overflow_mul-start-in-copied c =
-    let few : c.copied.row ≤ 1000006 = omega (arith, c.self.invariant.few) in
-    omega (arith, mul-le-mul few c.self.invariant.narrow)
+    let few : c.self.inside.free + c.copied.row ≤ 2000012 =
+    omega (arith, c.self.invariant.0.few, c.self.invariant.2) in
+    omega (arith, mul-le-mul few c.self.invariant.0.narrow)
 
 pub overflow_add-old : goal.overflow_add-old
 overflow_add-old c =
-    let few : c.copied.row ≤ 1000006 = omega (arith, c.self.invariant.few) in
-    omega (arith, c.min-kept.ensures, mul-le-mul few c.self.invariant.narrow)
+    let few : c.self.inside.free + c.copied.row ≤ 2000012 =
+    omega (arith, c.self.invariant.0.few, c.self.invariant.2) in
+    omega (arith, c.min-kept.ensures, mul-le-mul few c.self.invariant.0.narrow)
 
 pub add_row-added-requires : goal.add_row-added-requires
 add_row-added-requires c =
@@ -81,8 +86,11 @@ add_row-added-requires c =
       length-take {A = ℕ},
       c.copied.invariant,
       room,
-      mul-le-mul c.self.invariant.few c.requires.narrow,
+      mul-le-mul c.self.invariant.0.few c.requires.narrow,
     )
+
+pub invariant_of-self : goal.invariant_of-self
+invariant_of-self c = grind (arith, common_steps)
 
 pub returns-clause-shown : goal.returns-clause-shown
 returns-clause-shown c = grind (arith, common_steps)
@@ -100,4 +108,11 @@ slice_bounds-old-end c =
     let old = c.self.inside in
     let kept : c.min-kept.result ≤ old.width = omega (arith, c.min-kept.ensures) in
     let room = row_room c.copied.row old.rows old.width _ c.copied-test.true kept in
-    omega (arith, room, c.self.invariant.fits, ap length c.deref.ensures.value)
+    omega (
+      arith,
+      room,
+      c.self.invariant.0.fits,
+      c.self.invariant.1,
+      length-drop (4 * (old.free * old.width)) old.bytes.items,
+      ap length c.deref.ensures.value,
+    )
