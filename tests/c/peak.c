@@ -108,6 +108,24 @@ static void check_late_width(void)
     free(text.at);
 }
 
+/* The most memory beside the band for 19 kB within the default limit: rows that are laid out in
+ * nearly twice the width of the image take three times its memory. */
+static void check_wide_rows(void)
+{
+    enum { WIDTH = 4096, NARROW = 340, ROWS = 16380, BAND = 4 * 6 * (2 * WIDTH + 16) };
+    struct bytes text = {0};
+    append(&text, "\033Pq", 3);
+    for (int band = 0; band < ROWS / 6; band++)
+        append(&text, band < NARROW ? "!4095~-" : "!4096~-", 7);
+    append(&text, "\033\\", 2);
+    for (int way = DECODE; way <= SESSION; way++) {
+        size_t peak = peak_of(way, (struct bytes){0}, (icysixel_size){WIDTH, ROWS}, &text);
+        printf("wide rows, %s: %zu bytes\n", ways[way], peak);
+        CHECK(peak <= 3 * (size_t)(4 * WIDTH * ROWS) + BAND + 16384);
+    }
+    free(text.at);
+}
+
 /* Rows that are released six at a time after one large feed: each moves about once. */
 static void check_release_in_steps(void)
 {
@@ -132,6 +150,7 @@ int main(int argc, char **argv)
 {
     CHECK(argc == 2);
     check_late_width();
+    check_wide_rows();
     check_release_in_steps();
     for (size_t i = 0; i < COUNT_OF(images); i++) {
         icysixel_size size = images[i].size;

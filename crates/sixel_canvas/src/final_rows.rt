@@ -4,7 +4,8 @@ ghost use Rattle.std.specs.Prelude.{max, nat_lt, ◌&&◌, drop, slice_index_or,
 ghost use Rattle.std.specs.Prelude.{OnOk, if◌then◌else◌, vec_len, vec_capacity};
 ghost use Rattle.sixel_base.specs.Picture.{joined, picture};
 ghost use Rattle.sixel_canvas.specs.Layout.{stored_pixel};
-ghost use Rattle.sixel_canvas.specs.inside.FinalRows.{AreMovedWithin, AreRows, final, stored_area};
+ghost use Rattle.sixel_canvas.specs.inside.FinalRows.{AreMovedWithin, AreRows, AreShrunk, final};
+ghost use Rattle.sixel_canvas.specs.inside.FinalRows.{stored_area};
 ghost use Rattle.sixel_canvas.specs.inside.Paints.{counted};
 
 use crate::span::add_pixels;
@@ -97,7 +98,9 @@ impl FinalRows {
 
     /// Allocates memory for `rows` rows of at least `columns` columns.
     ///
-    /// Rows that are too narrow become at least twice as wide, so that they seldom move.
+    /// Rows that are too narrow become at least twice as wide, so that they seldom move. Memory that
+    /// is too small grows by half of what the rows need: so they never take more than three times
+    /// the memory of a picture as wide as the columns that were allocated.
     pub fn reserve(&mut self, columns: usize, rows: usize) -> Result<(), AllocError>
         requires narrow { columns ≤ 1000000 }
         requires few { rows ≤ 1000006 }
@@ -107,20 +110,26 @@ impl FinalRows {
         ensures narrow { OnOk result (self.new.width
             ≤ (if nat_lt self.old.width columns then 2 * columns else self.old.width)) }
         ensures room { OnOk result (4 * (rows * self.new.width) ≤ self.new.room) }
+        ensures spare { OnOk result (columns ≤ self.old.width
+            → self.new.room ≤ max self.old.room (6 * (rows * self.new.width))) }
         ensures rows { OnOk result (self.new.rows ≡ self.old.rows) }
         ensures background { OnOk result (self.new.background ≡ self.old.background) }
         ensures moved { OnOk result (self.new.moved ≡ (if nat_lt self.old.width columns
             then counted self.old.moved (self.old.rows * self.new.width) else self.old.moved)) }
         ensures moved_within { OnOk result (AreMovedWithin self.old self.new) }
         ensures shifts { OnOk result (self.new.shifts ≤ self.old.shifts) }
-        ensures refused { OnErr result (self.new ≡ self.old) }
+        ensures refused { OnErr result (AreShrunk self.old self.new rows) }
     {
         if columns > self.width {
             let width = columns.max(2 * self.width).min(MAX_WIDTH);
             return self.lay_out(width, rows);
         }
         let len = 4 * ((self.free + rows) * self.width);
-        self.bytes.reserve(len.saturating_sub(self.bytes.len()))
+        if len <= self.bytes.capacity() {
+            return Ok(());
+        }
+        let spare = 2 * (rows * self.width);
+        self.bytes.reserve_exact(len + spare - self.bytes.len())
     }
 
     /// Makes the rows no wider than `columns` if no row is stored yet.
@@ -143,7 +152,7 @@ impl FinalRows {
 
     /// Lays the rows out in this width, and allocates memory for `rows` of them.
     ///
-    /// It counts the pixels that it writes.
+    /// It counts the pixels that it writes. Before that it frees the memory that no row needs.
     fn lay_out(&mut self, width: usize, rows: usize) -> Result<(), AllocError>
         requires narrow { width ≤ 2000000 }
         requires few { rows ≤ 1000006 }
@@ -160,8 +169,9 @@ impl FinalRows {
         ensures moved_within { OnOk result (2 * self.old.width ≤ width
             → AreMovedWithin self.old self.new) }
         ensures shifts { OnOk result (self.new.shifts ≤ self.old.shifts) }
-        ensures refused { OnErr result (self.new ≡ self.old) }
+        ensures refused { OnErr result (AreShrunk self.old self.new rows) }
     {
+        self.bytes.shrink_to(4 * ((self.free + rows) * self.width));
         let alloc = *self.bytes.allocator();
         let mut bytes = Vec::with_capacity(alloc, 4 * (rows.max(self.rows) * width))?;
         let kept = width.min(self.width);
@@ -294,7 +304,7 @@ impl FinalRows {
         ensures rows { OnOk result (self.new.rows ≡ self.old.rows) }
         ensures background { OnOk result (self.new.background ≡ self.old.background) }
         ensures shifts { OnOk result (self.new.shifts ≤ self.old.shifts) }
-        ensures refused { OnErr result (self.new ≡ self.old) }
+        ensures refused { OnErr result (AreShrunk self.old self.new rows) }
     {
         if width == self.width {
             return Ok(());

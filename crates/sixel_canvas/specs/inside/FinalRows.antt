@@ -46,3 +46,8 @@ pub record AreRows (rows : RowsState) : Type 0 where
 -- twice as often as pixels were added: each new width is at least twice the one before.
 abbrev pub AreMovedWithin : RowsState → RowsState → Type 0
 AreMovedWithin old new = new.moved + 2 * stored_area old ≤ old.moved + 2 * stored_area new
+
+-- The rows are the same. There is memory for `rows` of them if there was before.
+pub record AreShrunk (old new : RowsState) (rows : ℕ) : Type 0 where
+  pub same : new ≡ record old { room = new.room }
+  pub room : 4 * (rows * old.width) ≤ old.room → 4 * (rows * old.width) ≤ new.room

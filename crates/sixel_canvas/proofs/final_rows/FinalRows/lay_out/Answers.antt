@@ -20,17 +20,19 @@ copied-preserved c =
     let row = c.copied.row in
     let width = c.args.width in
     let kept = c.min-kept.result in
-    let stored = drop (4 * (old.free * old.width)) old.bytes.items in
+    let bytes = c.shrink_to.new.self.items in
+    let stored = drop (4 * (old.free * old.width)) bytes in
+    let fits : length stored ≡ 4 * (old.rows * old.width) = grind (arith) in
     let start = 4 * ((old.free + row) * old.width) in
     let least : kept ≡ min width old.width = omega (arith, c.min-kept.ensures) in
     let inside : row < old.rows = omega (arith, c.copied-test.true) in
     let part = take (start + 4 * kept - start) (drop start c.deref.result.now) in
     let cut : part ≡ take (4 * kept) (drop (4 * (row * old.width)) stored) =
-    grind (arith, dropped old.bytes.items old.width old.free row) in
+    grind (arith, dropped bytes old.width old.free row) in
     let narrow : kept ≤ width = omega (arith, least) in
     let part_len =
     part_len_is stored part old.width width row old.rows kept least inside
-    c.self.invariant.0.fits cut in
+    fits cut in
     let added = c.add_row-added in
     let new = added.new.bytes.items in
     let told = added.ensures in
@@ -47,7 +49,7 @@ copied-preserved c =
           before.0 part_len ok,
       omega (arith, before.1, told.capacity),
       row_copied stored c.copied.bytes.items part new old.background old.width width row
-          old.rows kept least c.self.told inside c.self.invariant.0.fits before.0 cut ok before.2,
+          old.rows kept least c.self.told inside fits before.0 cut ok before.2,
     )
 
 pub returns-clause-moved_within : goal.returns-clause-moved_within
