@@ -59,7 +59,7 @@ impl<T> Vec<T> {
 
     /// Returns Rust's vector of the items, without spare capacity.
     pub fn into_exact(mut self) -> Result<vec::Vec<T>, AllocError> {
-        self.shrink()?;
+        self.try_shrink_to(0)?;
         Ok(self.0)
     }
 
@@ -204,27 +204,33 @@ impl<T> Vec<T> {
 
     /// Frees spare capacity, unless the allocator fails.
     pub fn shrink_to_fit(&mut self) {
-        let _ = self.shrink();
+        self.shrink_to(0);
     }
 
-    /// Frees spare capacity. After an error the items and the capacity are as before.
-    fn shrink(&mut self) -> Result<(), AllocError> {
+    /// Frees the capacity for more items than it contains, and than these.
+    pub fn shrink_to(&mut self, least: usize) {
+        let _ = self.try_shrink_to(least);
+    }
+
+    /// Does so, or fails. After an error the items and the capacity are as before.
+    fn try_shrink_to(&mut self, least: usize) -> Result<(), AllocError> {
         const { assert!(size_of::<T>() > 0) };
         let (len, capacity) = (self.0.len(), self.0.capacity());
-        if len == 0 {
+        let kept = len.max(least);
+        if kept == 0 {
             self.0 = vec::Vec::new();
-        } else if len < capacity {
+        } else if kept < capacity {
             let layout = Layout::array::<T>(capacity).map_err(|_| AllocError)?;
             let mut items = ManuallyDrop::new(mem::take(&mut self.0));
             let block = items.as_mut_ptr();
             // The block has this layout. After an error it is still that of the items.
             self.0 = unsafe {
-                let new = realloc(block.cast(), layout, len * size_of::<T>()).cast::<T>();
+                let new = realloc(block.cast(), layout, kept * size_of::<T>()).cast::<T>();
                 if new.is_null() {
                     self.0 = ManuallyDrop::into_inner(items);
                     return Err(AllocError);
                 }
-                vec::Vec::from_raw_parts(new, len, len)
+                vec::Vec::from_raw_parts(new, len, kept)
             };
         }
         Ok(())
