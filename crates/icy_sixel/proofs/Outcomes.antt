@@ -6,7 +6,7 @@ use Rattle.std.specs.Prelude.{nat_lt, ◌||◌, if◌then◌else◌, is_none, Re
 use Rattle.std.specs.Prelude.{MatchResult, IfOk, IfErr, OnOk, OnErr}
 use Rattle.sixel_base.specs.declared.error.SixelError.{SixelError}
 use Rattle.sixel_base.specs.Fault.{Faults}
-use Rattle.sixel_base.specs.Decoder.{IsSetAs, origin_of}
+use Rattle.sixel_base.specs.Decoder.{IsSetAs}
 use Rattle.sixel_base.specs.declared.state.DecoderState.{DecoderState}
 use Rattle.sixel_base.specs.Payload.{Image}
 use Rattle.sixel_base.specs.Dcs.{dcs_status, has_ended}

@@ -1,7 +1,6 @@
 -- A transparent background changes the pixels that no sixel covers, and nothing else.
 use Rattle.std.proofs.Common.{◌≡◌, ℕ, Bool, true, List, [], ◌∷◌, refl, arith}
 use Rattle.sixel_base.specs.Decoder.{origin_of, with_transparent}
-use Rattle.sixel_base.specs.History.{Sixel, Repeat, Raster, Color, Return, Newline, Skip}
 use Rattle.sixel_base.specs.History.{History}
 use Rattle.sixel_base.specs.Lenient.{fault}
 use Rattle.sixel_base.specs.Limits.{Limit}

@@ -10,5 +10,6 @@ pub mod Receiver
 pub mod ReceiverCalls
 pub mod Registers
 pub mod Sessions
+pub mod StrictDecoders
 pub mod TransparentImages
 pub mod inside

@@ -56,6 +56,10 @@ impl Model for SixelDecoder {
     ghost view = { λ decoder. decoder.state };
 
     ghost inverse = { λ state. record { state = state } };
+
+    ghost use Rattle.icy_sixel.specs.StrictDecoders.{IsStrict};
+
+    ghost invariant = { λ decoder. IsStrict decoder.state };
 }
 
 impl Default for SixelDecoder {
@@ -154,24 +158,6 @@ impl SixelDecoder {
         ensures { self.new ≡ record self.old { raster_crop = on } }
     {
         self.state.raster_crop = on;
-    }
-
-    /// Whether images are lenient: off in a new decoder.
-    ///
-    /// [`SixelReceiver::set_lenient`](crate::SixelReceiver::set_lenient) describes such images.
-    pub fn is_lenient(&self) -> bool
-        ensures { result ≡ self.now.pixel_limit.lenient }
-    {
-        self.state.pixel_limit.lenient()
-    }
-
-    /// Whether images have a transparent background whatever P2 says: off in a new decoder.
-    ///
-    /// [`SixelReceiver::set_transparent`](crate::SixelReceiver::set_transparent) describes them.
-    pub fn is_transparent(&self) -> bool
-        ensures { result ≡ self.now.pixel_limit.transparent }
-    {
-        self.state.pixel_limit.transparent()
     }
 
     /// Returns how many pixels an image can have.

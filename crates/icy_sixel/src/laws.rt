@@ -2,18 +2,25 @@
 
 ghost use Rattle.std.specs.Prelude.{◌≡◌, ℕ, List, None, Bool, true, false};
 ghost use Rattle.sixel_base.specs.Clip.{clipped_height, clipped_width};
-ghost use Rattle.sixel_base.specs.Decoder.{with_clip, with_transparent};
+ghost use Rattle.sixel_base.specs.Dcs.{can_finish, dcs_status, has_ended};
+ghost use Rattle.sixel_base.specs.Decoder.{origin_of, with_clip, with_transparent};
 ghost use Rattle.sixel_base.specs.History.{History};
+ghost use Rattle.sixel_base.specs.Lenient.{effective, fault};
 ghost use Rattle.sixel_base.specs.OneShot.{Found, AreFoundRegisters, IsFoundImage, found_fault};
 ghost use Rattle.sixel_base.specs.Payload.{Image, first_fault};
 ghost use Rattle.sixel_base.specs.Place.{height, width};
 ghost use Rattle.sixel_base.specs.PaintedArea.{painted_area};
+ghost use Rattle.sixel_base.specs.Settings.{Settings, mode_of};
+ghost use Rattle.sixel_base.specs.Stroke.{background, background_of};
 ghost use Rattle.sixel_base.specs.declared.state.DecoderState.{DecoderState};
 ghost use Rattle.icy_sixel.specs.ClippedImages.{HasNoClip, IsInsideClip, IsPartInside};
 ghost use Rattle.icy_sixel.specs.ClippedImages.{IsWholeImage, whole_first_fault, whole_pixel};
 ghost use Rattle.icy_sixel.specs.ClippedImages.{whole_painted_area};
 ghost use Rattle.icy_sixel.specs.Headline.{Headline};
+ghost use Rattle.icy_sixel.specs.StrictDecoders.{IsStrict};
 ghost use Rattle.icy_sixel.specs.TransparentImages.{IsCleared, drawn_pixel_of};
+
+use crate::decoder::SixelDecoder;
 
 /// States the theorem of this library, for every decoder, every image and every chunk boundary.
 ///
@@ -27,6 +34,25 @@ ghost use Rattle.icy_sixel.specs.TransparentImages.{IsCleared, drawn_pixel_of};
 pub fn headline()
     ensures { Headline }
 {}
+
+/// States what bytes mean to a decoder: leniency and transparency have no part in it.
+///
+/// - `fault`, `tokens`: every token takes effect, and the error is that of the first faulty one.
+/// - `background`: a pixel that is not drawn is as P2 says.
+/// - `end`: a DCS sequence can be finished exactly if it has ended.
+pub fn strict_decoders(decoder: &SixelDecoder)
+    ensures strict { IsStrict decoder.now }
+    ensures fault { (tokens : History)
+        → fault decoder.now.pixel_limit tokens ≡ first_fault decoder.now.pixel_limit tokens }
+    ensures tokens { (tokens : History) → effective decoder.now.pixel_limit tokens ≡ tokens }
+    ensures background { (settings : Settings) → background (origin_of decoder.now settings)
+        ≡ background_of decoder.now.registers (mode_of settings) }
+    ensures end { (bytes : List ℕ)
+        → can_finish decoder.now.pixel_limit bytes ≡ has_ended (dcs_status bytes) }
+{
+    // What is read of a decoder has its invariant.
+    let _state = decoder.state;
+}
 
 /// States that a transparent background changes only pixels that no sixel covers.
 ///

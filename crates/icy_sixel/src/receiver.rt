@@ -9,10 +9,12 @@ ghost use Rattle.sixel_base.specs.Decoder.{new_decoder};
 ghost use Rattle.sixel_decoder.specs.Report.{found_report};
 ghost use Rattle.icy_sixel.specs.ImageView.{image_value};
 ghost use Rattle.icy_sixel.specs.ReceivedImages.{received_report};
-ghost use Rattle.icy_sixel.specs.Receiver.{OfPayload, OfString, found, idle, is_open};
+ghost use Rattle.icy_sixel.specs.Receiver.{AreSettingsKept, OfPayload, OfString, found, idle};
+ghost use Rattle.icy_sixel.specs.Receiver.{is_open, start_of};
 ghost use Rattle.icy_sixel.specs.ReceiverCalls.{IsAborted, IsBegun, IsFed, IsFinished, whole_of};
 ghost use Rattle.icy_sixel.specs.inside.Receiving.{reception_of};
 
+mod drawn;
 mod failure;
 mod progress;
 mod received_image;
@@ -25,6 +27,7 @@ use crate::sixel_image::SixelImage;
 use failure::{Failure, first_error, stored_error};
 pub use received_image::{Height, ReceivedImage};
 pub use rows::{BandStatus, ReceivedBand, band_len, stable_rows};
+use sixel_base::state::DecoderState;
 use sixel_base::{Result, SixelError};
 use sixel_canvas::band_canvas::BandCanvas;
 pub use sixel_decoder::Received;
@@ -81,6 +84,8 @@ enum Open {
 #[derive(Drop)]
 pub struct SixelReceiver {
     decoder: SixelDecoder,
+    lenient: bool,
+    transparent: bool,
     open: Open,
     failure: Option<Failure>,
 }
@@ -104,11 +109,15 @@ impl SixelReceiver {
     }
 
     /// Creates a receiver with this decoder and no open image.
+    ///
+    /// Its images are neither lenient, nor have they a transparent background whatever P2 says.
     pub fn with_decoder(decoder: SixelDecoder) -> Self
         ensures { result ≡ idle decoder }
     {
         Self {
             decoder,
+            lenient: false,
+            transparent: false,
             open: Open::Nothing,
             failure: None,
         }
@@ -136,23 +145,23 @@ impl SixelReceiver {
         !matches!(self.open, Open::Nothing)
     }
 
-    /// Begins a payload with the decoder's current registers and settings.
+    /// Begins a payload with the current registers and settings.
     ///
     /// An open image is aborted. The call does not allocate.
     pub fn begin_frame(&mut self, alloc: Global, settings: DcsSettings)
         ensures { IsBegun self.old self.new (OfPayload settings) }
     {
-        let reader = PayloadReader::new(alloc, self.decoder.state, settings);
+        let reader = PayloadReader::new(alloc, self.start(), settings);
         self.replace_open(Open::Payload(reader));
     }
 
-    /// Begins a DCS sequence with the decoder's current registers and settings.
+    /// Begins a DCS sequence with the current registers and settings.
     ///
     /// An open image is aborted. The call does not allocate.
     pub fn begin_dcs(&mut self, alloc: Global)
         ensures { IsBegun self.old self.new OfString }
     {
-        let reader = DcsReader::new(alloc, self.decoder.state);
+        let reader = DcsReader::new(alloc, self.start());
         self.replace_open(Open::ControlString(reader));
     }
 
@@ -304,9 +313,22 @@ impl SixelReceiver {
         self.replace_open(Open::Nothing);
     }
 
+    /// The state that an image begins from: the decoder's, with the receiver's settings.
+    fn start(&self) -> DecoderState
+        ensures { result ≡ start_of self.now }
+    {
+        let state = self.decoder.state;
+        let limit = state.pixel_limit.with_lenient(self.lenient);
+        DecoderState {
+            pixel_limit: limit.with_transparent(self.transparent),
+            ..state
+        }
+    }
+
     /// Replaces the open image, and aborts the one before.
     fn replace_open(&mut self, image: Open)
         ensures decoder { self.new.decoder ≡ self.old.decoder }
+        ensures settings { AreSettingsKept self.old self.new }
         ensures image { self.new.image ≡ reception_of image }
     {
         self.open = image;

@@ -449,11 +449,12 @@ uint8_t icysixel_get_height(icysixel *handle);
  * image, and a clip ends it first. icysixel_get_size_so_far does not depend on this setting. */
 void icysixel_set_height(icysixel *handle, uint8_t height);
 
-/* Returns 1 if images are lenient. */
+/* Returns 1 if images of this handle are lenient. */
 uint8_t icysixel_get_lenient(icysixel *handle);
 
-/* Sets whether images that are begun afterwards are lenient: 0 is off, any other number is on. A
- * command with a fault is then ignored, in place of an error. So a terminal shows what it can.
+/* Sets whether images that are begun or decoded afterwards are lenient: 0 is off, any other number
+ * is on. A command with a fault is then ignored, in place of an error. So a terminal shows what it
+ * can.
  *
  * - A repeat count, raster attributes or a graphics new line past a limit changes nothing.
  * - A sixel outside of the limits is not drawn and does not move the position. Its repeat count is
@@ -467,10 +468,10 @@ void icysixel_set_lenient(icysixel *handle, uint8_t on);
 /* Returns 1 if images have a transparent background whatever P2 says. */
 uint8_t icysixel_get_transparent(icysixel *handle);
 
-/* Sets whether pixels that are not drawn are transparent in images that are begun afterwards,
- * whatever P2 says: 0 is off, any other number is on. `p2` of the shape stays that of the sequence.
- * So a multiplexer can encode an image again with its P2, and the user's background is not painted
- * in the color of register 0. */
+/* Sets whether pixels that are not drawn are transparent in images that are begun or decoded
+ * afterwards, whatever P2 says: 0 is off, any other number is on. `p2` of the shape stays that of
+ * the sequence. So a multiplexer can encode an image again with its P2, and the user's background
+ * is not painted in the color of register 0. */
 void icysixel_set_transparent(icysixel *handle, uint8_t on);
 
 /* Returns how many pixels an image can have, or 0 if the handle is empty. */

@@ -11,14 +11,15 @@ Acts Does before after =
     (is_some after ≡ is_some before)
     × ((old new : State) → before ≡ Some old → after ≡ Some new → Does old new)
 
+-- it changes the receiver in this way, and nothing else
+abbrev pub IsReceiverSet : (Receiver → Receiver) → Option State → Option State → Type 0
+IsReceiverSet change = Acts (λ old new.
+    (new.receiver ≡ change old.receiver) × AreKept old new)
+
 -- it changes the decoder in this way, and nothing else
 abbrev pub IsSet : (DecoderState → DecoderState) → Option State → Option State → Type 0
-IsSet change = Acts (λ old new.
-    (new.receiver.decoder ≡ change old.receiver.decoder)
-    × ((new.receiver.image ≡ old.receiver.image) × AreKept old new))
+IsSet change = IsReceiverSet (λ receiver. record receiver { decoder = change receiver.decoder })
 
 -- it replaces the open image by this one, and changes nothing else
 abbrev pub IsOpened : (Receiver → Reception) → Option State → Option State → Type 0
-IsOpened image = Acts (λ old new.
-    (new.receiver.image ≡ image old.receiver)
-    × ((new.receiver.decoder ≡ old.receiver.decoder) × AreKept old new))
+IsOpened image = IsReceiverSet (λ receiver. record receiver { image = image receiver })

@@ -1,12 +1,10 @@
 -- What finishing an image and decoding in one call do, as C sees them: the state before and after,
--- what is reported, and the code. The facts are those of the receiver and of the decoder.
-use Rattle.std.specs.Prelude.{ℕ, ◌≡◌, true, false, None, Result, OnOk, OnErr, IfOk, min}
+-- what is reported, and the code. The facts are those of the receiver.
+use Rattle.std.specs.Prelude.{ℕ, ◌≡◌, true, false, None, Result, IfOk, min}
 use Rattle.sixel_base.specs.declared.error.SixelError.{SixelError}
-use Rattle.sixel_base.specs.Decoder.{IsSetAs}
-use Rattle.sixel_base.specs.OneShot.{Found, AreFoundRegisters}
-use Rattle.sixel_decoder.specs.OneShotCalls as one_shot
-use Rattle.icy_sixel.specs.ReceivedImages.{found_report, left_value, received_report}
-use Rattle.icy_sixel.specs.Receiver.{found, is_open, is_over, no_image}
+use Rattle.sixel_base.specs.OneShot.{Found}
+use Rattle.icy_sixel.specs.ReceivedImages.{found_report, received_report}
+use Rattle.icy_sixel.specs.Receiver.{AreSettingsKept, found, is_open, is_over, no_image}
 use Rattle.icy_sixel.specs.ReceiverCalls.{whole_of}
 use Rattle.icy_sixel.specs.ReceiverCalls as receivers
 use Rattle.icy_sixel.specs.declared.receiver.received_image.ReceivedImage.{ReceivedImage}
@@ -34,25 +32,17 @@ pub record IsFinished (before after : State) (now : Shape) (code : ℕ) : Type 0
   pub dropped : is_open before.receiver.image.form ≡ false → after.image ≡ None
   pub unchanged : is_open before.receiver.image.form ≡ false
       → after.receiver.decoder ≡ before.receiver.decoder
+  pub settings : AreSettingsKept before.receiver after.receiver
   pub closed : after.receiver.image ≡ no_image
   pub text : after.text ≡ before.text
   pub height : after.height ≡ before.height
   pub opened : is_open before.receiver.image.form ≡ true → IsClosed before after now code
 
--- This payload was decoded: what the decoder returned, which is stored and reported.
+-- This payload was decoded: what the receiver returned, which is stored and reported.
 pub record IsDecoded (before after : State) (payload : Found) (now : Shape) (code : ℕ)
     : Type 0 where
   pub result : Result ReceivedImage SixelError
-  pub decoded : one_shot.IsDecoded left_value before.receiver.decoder payload result
-  pub first : IfOk result (λ whole. whole.first_row ≡ 0)
-  pub report : IfOk result (λ whole.
-      received_report whole ≡ found_report before.receiver.decoder payload)
-  pub registers : OnOk result
-      (AreFoundRegisters before.receiver.decoder payload after.receiver.decoder.registers)
-  pub set : IsSetAs before.receiver.decoder after.receiver.decoder
-  pub kept : OnErr result (after.receiver.decoder ≡ before.receiver.decoder)
-  -- an open image was aborted
-  pub closed : after.receiver.image ≡ no_image
+  pub decoded : receivers.IsDecoded before.receiver after.receiver payload result
   pub text : after.text ≡ before.text
   pub height : after.height ≡ before.height
   pub stored : IsStored before.height true result after.image now code

@@ -1,9 +1,8 @@
 //! The calls that read and set where images end, lenience, transparency, limit and clip.
 
 ghost use Rattle.std.specs.Prelude.{◌≡◌, ◌≢◌, ◌==◌, Some, None, is_some, true, not, cond};
-ghost use Rattle.sixel_base.specs.Decoder.{with_clip, with_lenient, with_pixel_limit};
-ghost use Rattle.sixel_base.specs.Decoder.{with_transparent};
-ghost use Rattle.icysixel.specs.Changes.{Acts, IsSet};
+ghost use Rattle.sixel_base.specs.Decoder.{with_clip, with_pixel_limit};
+ghost use Rattle.icysixel.specs.Changes.{Acts, IsReceiverSet, IsSet};
 ghost use Rattle.icysixel.specs.Heights.{height_of, number_of};
 ghost use Rattle.icysixel.specs.declared.state.State.{State};
 
@@ -58,18 +57,18 @@ pub extern "C" fn icysixel_get_lenient(slot: &mut Slot) -> u8
     ensures same { slot.new.handle.state ≡ slot.old.handle.state }
     ensures none { slot.old.handle.state ≡ None → result ≡ 0 }
     ensures value { (state : State) → slot.old.handle.state ≡ Some state
-        → result ≡ cond state.receiver.decoder.pixel_limit.lenient 1 0 }
+        → result ≡ cond state.receiver.lenient 1 0 }
 {
     if !slot.is_held() {
         return 0;
     }
-    u8::from(slot.state().receiver.decoder().is_lenient())
+    u8::from(slot.state().receiver.is_lenient())
 }
 
 /// Sets whether images are lenient: 0 is off, any other number is on.
 #[unsafe(no_mangle)]
 pub extern "C" fn icysixel_set_lenient(slot: &mut Slot, on: u8)
-    ensures { IsSet (λ decoder. with_lenient decoder (not (on == 0)))
+    ensures { IsReceiverSet (λ receiver. record receiver { lenient = not (on == 0) })
         slot.old.handle.state slot.new.handle.state }
 {
     if slot.is_held() {
@@ -83,18 +82,18 @@ pub extern "C" fn icysixel_get_transparent(slot: &mut Slot) -> u8
     ensures same { slot.new.handle.state ≡ slot.old.handle.state }
     ensures none { slot.old.handle.state ≡ None → result ≡ 0 }
     ensures value { (state : State) → slot.old.handle.state ≡ Some state
-        → result ≡ cond state.receiver.decoder.pixel_limit.transparent 1 0 }
+        → result ≡ cond state.receiver.transparent 1 0 }
 {
     if !slot.is_held() {
         return 0;
     }
-    u8::from(slot.state().receiver.decoder().is_transparent())
+    u8::from(slot.state().receiver.is_transparent())
 }
 
 /// Sets whether images have a transparent background: 0 is off, any other number is on.
 #[unsafe(no_mangle)]
 pub extern "C" fn icysixel_set_transparent(slot: &mut Slot, on: u8)
-    ensures { IsSet (λ decoder. with_transparent decoder (not (on == 0)))
+    ensures { IsReceiverSet (λ receiver. record receiver { transparent = not (on == 0) })
         slot.old.handle.state slot.new.handle.state }
 {
     if slot.is_held() {

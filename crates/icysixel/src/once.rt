@@ -11,7 +11,7 @@ use crate::parameters::settings;
 use crate::shape::Shape;
 use crate::slot::Slot;
 use crate::state::State;
-use icy_sixel::{DcsSettings, SixelDecoder};
+use icy_sixel::DcsSettings;
 use std::alloc::Global;
 
 /// Decodes the first DCS sequence in the bytes, or all of them as a payload.
@@ -37,15 +37,13 @@ pub extern "C" fn icysixel_decode(
     decode(alloc, slot.state(), bytes, shape)
 }
 
-/// Decodes on the decoder of the state.
+/// Decodes on the receiver of the state.
 #[tactic(auto, using(std::proofs::lemmas::Bool::Decides::nat_tests))]
 fn decode(alloc: Global, state: &mut State, bytes: &[u8], shape: &mut Shape) -> u32
     ensures decoded { IsDecoded state.old state.new (found bytes.now) shape.new result }
     ensures told { result ≢ 0 → shape.new ≡ shape.old }
 {
-    let mut decoder = state.replace_decoder(SixelDecoder::new());
-    let answer = decoder.decode_drawn(alloc, bytes);
-    state.replace_decoder(decoder);
+    let answer = state.receiver.decode_drawn(alloc, bytes);
     state.store(answer, true, shape)
 }
 
@@ -72,7 +70,7 @@ pub extern "C" fn icysixel_decode_payload(
     decode_payload(alloc, slot.state(), bytes, settings(p1, p2), shape)
 }
 
-/// Decodes a payload on the decoder of the state.
+/// Decodes a payload on the receiver of the state.
 #[tactic(auto, using(std::proofs::lemmas::Bool::Decides::nat_tests))]
 fn decode_payload(
     alloc: Global,
@@ -84,8 +82,6 @@ fn decode_payload(
     ensures decoded { IsDecoded state.old state.new (Payload settings bytes.now) shape.new result }
     ensures told { result ≢ 0 → shape.new ≡ shape.old }
 {
-    let mut decoder = state.replace_decoder(SixelDecoder::new());
-    let answer = decoder.decode_from_dcs_drawn(alloc, bytes, settings);
-    state.replace_decoder(decoder);
+    let answer = state.receiver.decode_from_dcs_drawn(alloc, bytes, settings);
     state.store(answer, true, shape)
 }

@@ -3,6 +3,7 @@
 ghost use Rattle.std.specs.Prelude.{◌≡◌, ◌≢◌, Some, None, is_some, true, false, cond};
 ghost use Rattle.sixel_base.specs.Decoder.{new_decoder};
 ghost use Rattle.icy_sixel.specs.Receiver.{OfPayload, OfString, begun, idle, is_open, no_image};
+ghost use Rattle.icy_sixel.specs.Receiver.{start_of};
 ghost use Rattle.icy_sixel.specs.declared.receiver.received_image.Height.TheVariants.{Bands};
 ghost use Rattle.icysixel.specs.Changes.{IsOpened};
 ghost use Rattle.icysixel.specs.Code.{settings_of};
@@ -84,7 +85,7 @@ pub extern "C" fn icysixel_is_empty(slot: &mut Slot) -> u8
 /// Opens a DCS sequence. An open image is aborted.
 #[unsafe(no_mangle)]
 pub extern "C" fn icysixel_begin_dcs(alloc: Global, slot: &mut Slot)
-    ensures { IsOpened (λ receiver. begun OfString receiver.decoder)
+    ensures { IsOpened (λ receiver. begun OfString (start_of receiver))
         slot.old.handle.state slot.new.handle.state }
 {
     if slot.is_held() {
@@ -96,7 +97,7 @@ pub extern "C" fn icysixel_begin_dcs(alloc: Global, slot: &mut Slot)
 /// Opens a payload with these parameters. An open image is aborted.
 #[unsafe(no_mangle)]
 pub extern "C" fn icysixel_begin_payload(alloc: Global, slot: &mut Slot, p1: i32, p2: i32)
-    ensures { IsOpened (λ receiver. begun (OfPayload (settings_of p1 p2)) receiver.decoder)
+    ensures { IsOpened (λ receiver. begun (OfPayload (settings_of p1 p2)) (start_of receiver))
         slot.old.handle.state slot.new.handle.state }
 {
     if slot.is_held() {

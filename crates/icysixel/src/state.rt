@@ -10,8 +10,7 @@ ghost use Rattle.icysixel.specs.Heights.{IsStored};
 use crate::code::{Code, code_of};
 use crate::shape::Shape;
 use icy_sixel::receiver::SixelReceiver;
-use icy_sixel::{Height, ReceivedImage, SixelDecoder, SixelError};
-use std::mem;
+use icy_sixel::{Height, ReceivedImage, SixelError};
 
 /// A receiver, and the last image and the last text until the caller takes them.
 #[derive(Drop)]
@@ -37,14 +36,6 @@ impl State {
             image: None,
             text: None,
         }
-    }
-
-    /// Replaces the decoder and returns the one before. An open image is aborted.
-    pub fn replace_decoder(&mut self, decoder: SixelDecoder) -> SixelDecoder
-        ensures former { result ≡ self.old.receiver.decoder }
-        ensures state { self.new ≡ record self.old { receiver = idle decoder } }
-    {
-        mem::replace(&mut self.receiver, SixelReceiver::with_decoder(decoder)).into_decoder()
     }
 
     /// Stores the image that an answer has, ended at the height that is set.

@@ -9,7 +9,7 @@ ghost use Rattle.sixel_base.specs.Dcs.{dcs_status, dcs_count, dcs_fault, has_end
 ghost use Rattle.sixel_base.specs.Payload.{Image};
 ghost use Rattle.sixel_base.specs.declared.status.SixelDcsFeedStatus.{SixelDcsFeedStatus};
 ghost use Rattle.icy_sixel.specs.ImageView.{image_value};
-ghost use Rattle.icy_sixel.specs.Receiver.{OfString};
+ghost use Rattle.icy_sixel.specs.Receiver.{AreSettingsKept, OfString, start_of};
 ghost use Rattle.sixel_decoder.specs.declared.received.Status.TheVariants.{Dcs};
 ghost use Rattle.sixel_base.specs.OneShot.{found, IsFoundImage, AreFoundRegisters};
 ghost use Rattle.sixel.specs.Sequences.{HasEnded, IsFedInChunks, IsSequencesOutput, rest_by};
@@ -60,10 +60,11 @@ fn write_sequence<'a, O: Write>(
     requires chunks { 0 < chunk_len }
     requires some { 0 < length bytes.now }
     ensures written { OnOk result ((image : Image)
-        × HasEnded receiver.old.decoder bytes.now image receiver.new.decoder
+        × HasEnded (start_of receiver.old) bytes.now image (start_of receiver.new)
         × Appends (O.contents output.old) (O.contents output.new) (image_form image)) }
     ensures rest { IfOk result (λ rest. rest.now ≡ rest_of bytes.now) }
-    ensures stopped { OnErr result (Serves result (IsSequencesOutput receiver.old.decoder bytes.now)
+    ensures stopped { OnErr result (Serves result
+        (IsSequencesOutput (start_of receiver.old) bytes.now)
         (O.contents output.old) (O.contents output.new)) }
 {
     let (image, rest) = read_sequence(alloc, receiver, chunk_len, bytes)?;
@@ -83,15 +84,15 @@ fn read_sequence<'a>(
     requires chunks { 0 < chunk_len }
     requires some { 0 < length bytes.now }
     ensures image { IfOk result (λ read.
-        IsFoundImage receiver.old.decoder (found bytes.now) (image_value read.0)) }
+        IsFoundImage (start_of receiver.old) (found bytes.now) (image_value read.0)) }
     ensures registers { OnOk result
-        (AreFoundRegisters receiver.old.decoder (found bytes.now) receiver.new.decoder.registers) }
-    ensures set { OnOk result (IsSetAs receiver.old.decoder receiver.new.decoder) }
+        (AreFoundRegisters (start_of receiver.old) (found bytes.now) receiver.new.decoder.registers) }
+    ensures set { OnOk result (IsSetAs (start_of receiver.old) (start_of receiver.new)) }
     ensures rest { IfOk result (λ read. read.1.now ≡ rest_of bytes.now) }
     ensures faultless { OnOk result
-        (sequence_fault receiver.old.decoder.pixel_limit bytes.now ≡ None) }
+        (sequence_fault (start_of receiver.old).pixel_limit bytes.now ≡ None) }
     ensures refused { IfErr result (λ error. Faults error true
-        (sequence_fault receiver.old.decoder.pixel_limit bytes.now)) }
+        (sequence_fault (start_of receiver.old).pixel_limit bytes.now)) }
 {
     receiver.begin_dcs(alloc);
     let fed = feed_chunks(receiver, chunk_len, bytes)?;
@@ -125,6 +126,7 @@ fn feed_chunks(
     requires fresh { receiver.old.image.bytes ≡ [] }
     requires accepted { receiver.old.image.is_refused ≡ false }
     ensures decoder { receiver.new.decoder ≡ receiver.old.decoder }
+    ensures settings { AreSettingsKept receiver.old receiver.new }
     ensures form { receiver.new.image.form ≡ OfString }
     ensures start { receiver.new.image.start ≡ receiver.old.image.start }
     ensures released { OnOk result

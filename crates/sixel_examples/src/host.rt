@@ -8,6 +8,7 @@ ghost use Rattle.sixel_base.specs.Fault.{Faults};
 ghost use Rattle.sixel_base.specs.Payload.{payload_fault, payload_wants};
 ghost use Rattle.sixel_base.specs.Payload.{payload_image, payload_registers};
 ghost use Rattle.icy_sixel.specs.ImageView.{image_value};
+ghost use Rattle.icy_sixel.specs.Receiver.{start_of};
 ghost use Rattle.sixel_base.specs.OneShot.{found, found_fault, IsFoundImage, AreFoundRegisters};
 
 use icy_sixel::{DcsSettings, Result, SixelImage, SixelReceiver};
@@ -23,7 +24,7 @@ impl Terminal {
     /// Decodes a payload in chunks of `chunk_len` bytes.
     ///
     /// Image, registers and errors are those of
-    /// [`decode_from_dcs`](icy_sixel::SixelDecoder::decode_from_dcs) for the whole.
+    /// [`decode_from_dcs_drawn`](SixelReceiver::decode_from_dcs_drawn) for the whole.
     pub fn payload(
         &mut self,
         alloc: Global,
@@ -33,14 +34,14 @@ impl Terminal {
     ) -> Result<SixelImage>
         requires { 0 < chunk_len }
         ensures image { IfOk result (λ image. image_value image ≡ payload_image
-            (origin_of self.old.receiver.decoder settings) bytes.now) }
+            (origin_of (start_of self.old.receiver) settings) bytes.now) }
         ensures registers { OnOk result (self.new.receiver.decoder.registers ≡ payload_registers
-            (origin_of self.old.receiver.decoder settings) bytes.now) }
+            (origin_of (start_of self.old.receiver) settings) bytes.now) }
         ensures faultless { OnOk result
-            (payload_fault self.old.receiver.decoder.pixel_limit bytes.now ≡ None) }
+            (payload_fault (start_of self.old.receiver).pixel_limit bytes.now ≡ None) }
         ensures refused { IfErr result (λ error. Faults error
-            (payload_wants self.old.receiver.decoder.pixel_limit bytes.now)
-            (payload_fault self.old.receiver.decoder.pixel_limit bytes.now)) }
+            (payload_wants (start_of self.old.receiver).pixel_limit bytes.now)
+            (payload_fault (start_of self.old.receiver).pixel_limit bytes.now)) }
         ensures kept { OnErr result (self.new.receiver.decoder ≡ self.old.receiver.decoder) }
     {
         self.receiver.begin_frame(alloc, settings);
@@ -55,7 +56,7 @@ impl Terminal {
 
     /// Decodes a DCS sequence in chunks of `chunk_len` bytes.
     ///
-    /// Image and registers are those of [`decode`](icy_sixel::SixelDecoder::decode) for the whole.
+    /// Image and registers are those of [`decode_drawn`](SixelReceiver::decode_drawn) for the whole.
     pub fn dcs_sequence(
         &mut self,
         alloc: Global,
@@ -63,11 +64,11 @@ impl Terminal {
         chunk_len: usize,
     ) -> Result<SixelImage>
         requires { 0 < chunk_len }
-        ensures image { IfOk result (λ image. IsFoundImage self.old.receiver.decoder
+        ensures image { IfOk result (λ image. IsFoundImage (start_of self.old.receiver)
             (found bytes.now) (image_value image)) }
-        ensures registers { OnOk result (AreFoundRegisters self.old.receiver.decoder
+        ensures registers { OnOk result (AreFoundRegisters (start_of self.old.receiver)
             (found bytes.now) self.new.receiver.decoder.registers) }
-        ensures faultless { OnOk result (found_fault self.old.receiver.decoder.pixel_limit
+        ensures faultless { OnOk result (found_fault (start_of self.old.receiver).pixel_limit
             (found bytes.now) ≡ None) }
         ensures kept { OnErr result (self.new.receiver.decoder ≡ self.old.receiver.decoder) }
     {

@@ -33,5 +33,7 @@ fault_of failures.OutOfMemory = None
 abbrev pub receiver_of : Inside → Receiver
 receiver_of receiver = record {
   decoder = receiver.decoder;
+  lenient = receiver.lenient;
+  transparent = receiver.transparent;
   image = record (reception_of receiver.open) { failure = option_map fault_of receiver.failure };
 }

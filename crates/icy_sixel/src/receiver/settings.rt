@@ -2,7 +2,6 @@
 
 ghost use Rattle.std.specs.Prelude.{◌≡◌};
 ghost use Rattle.std.specs.Borrow.{sem};
-ghost use Rattle.sixel_base.specs.Decoder.{with_lenient, with_transparent};
 ghost use Rattle.icy_sixel.specs.Lending.{LendsDecoder};
 
 use crate::decoder::SixelDecoder;
@@ -21,9 +20,9 @@ impl SixelReceiver {
 
     /// Sets whether a command with a fault is ignored, in place of rejecting the image.
     ///
-    /// It is off in a new decoder. The setting applies to each payload and each DCS sequence that
-    /// is begun afterwards. It is part of the decoder, so
-    /// [`into_decoder`](Self::into_decoder) returns a decoder that is lenient, too.
+    /// It is off in a new receiver. The setting applies to each image that is begun or decoded by
+    /// the receiver afterwards. It is no part of the decoder, so
+    /// [`into_decoder`](Self::into_decoder) returns a decoder that rejects such images.
     ///
     /// - A repeat count, raster attributes or a graphics new line past a limit changes nothing.
     /// - A sixel outside the limits is not drawn and does not move the position. Its repeat count
@@ -36,23 +35,34 @@ impl SixelReceiver {
     /// The finished image reports how many commands were ignored, and
     /// [`has_ended`](Self::has_ended) before the end whether it is complete.
     pub fn set_lenient(&mut self, on: bool)
-        ensures decoder { self.new.decoder ≡ with_lenient self.old.decoder on }
-        ensures image { self.new.image ≡ self.old.image }
+        ensures { self.new ≡ record self.old { lenient = on } }
     {
-        self.decoder.state.pixel_limit = self.decoder.state.pixel_limit.with_lenient(on);
+        self.lenient = on;
+    }
+
+    /// Whether images are lenient: off in a new receiver.
+    pub fn is_lenient(&self) -> bool
+        ensures { result ≡ self.now.lenient }
+    {
+        self.lenient
     }
 
     /// Sets whether pixels that are not drawn are transparent, whatever P2 of an image says.
     ///
-    /// It is off in a new decoder. The setting applies to each payload and each DCS sequence that
-    /// is begun afterwards, and is part of the decoder, as that of
-    /// [`set_lenient`](Self::set_lenient) is. The `background_mode` of the image stays the one that
-    /// P2 selects. So a multiplexer can encode the image again with its P2, and the background
-    /// shows through where nothing was drawn.
+    /// It is off in a new receiver, and applies to the same images as
+    /// [`set_lenient`](Self::set_lenient). The `background_mode` of the image stays the one that P2
+    /// selects. So a multiplexer can encode the image again with its P2, and the background shows
+    /// through where nothing was drawn.
     pub fn set_transparent(&mut self, on: bool)
-        ensures decoder { self.new.decoder ≡ with_transparent self.old.decoder on }
-        ensures image { self.new.image ≡ self.old.image }
+        ensures { self.new ≡ record self.old { transparent = on } }
     {
-        self.decoder.state.pixel_limit = self.decoder.state.pixel_limit.with_transparent(on);
+        self.transparent = on;
+    }
+
+    /// Whether images have a transparent background whatever P2 says: off in a new receiver.
+    pub fn is_transparent(&self) -> bool
+        ensures { result ≡ self.now.transparent }
+    {
+        self.transparent
     }
 }

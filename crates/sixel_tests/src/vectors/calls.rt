@@ -6,8 +6,11 @@ use crate::vectors::notation::{
 };
 use crate::vectors::session::{Owner, Session, begin, check_decoder, clip, settings};
 use icy_sixel::receiver::{FailedFeed, Received, SixelReceiver};
-use icy_sixel::{ChannelOrder, ReceivedImage, RowLayout, SixelDecoder, SixelError, SixelImage};
+use icy_sixel::{
+    ChannelOrder, DcsSettings, ReceivedImage, RowLayout, SixelDecoder, SixelError, SixelImage,
+};
 use std::alloc::Global;
+use std::mem;
 
 /// Checks a vector of `sessions.tsv`, by a session that borrows its decoder and by a receiver.
 ///
@@ -115,11 +118,25 @@ fn make(alloc: Global, found: &mut String, receiver: &mut SixelReceiver, call: &
         "try" => return push_tried(found, receiver, &bytes(alloc, argument)?),
         "writes" => return Ok(write!(found, "\t{}", receiver.canvas_writes())?),
         "finish" => return push_finished(alloc, found, receiver.finish()),
+        "decode" => {
+            let image = receiver.decode_drawn(alloc, &bytes(alloc, argument)?);
+            return push_finished(alloc, found, image);
+        }
+        "payload" => {
+            let payload = bytes(alloc, argument)?;
+            let settings = DcsSettings::default();
+            let image = receiver.decode_from_dcs_drawn(alloc, &payload, settings);
+            return push_finished(alloc, found, image);
+        }
         "state" => return push_state(found, receiver),
         "register" => return push_register(found, receiver, argument),
         "end" => return push_end(found, receiver),
         "begin" => begin(alloc, receiver, settings(argument)?.0),
         "abort" => receiver.abort(),
+        "take" => {
+            let decoder = mem::replace(receiver, SixelReceiver::new()).into_decoder();
+            *receiver = SixelReceiver::with_decoder(decoder);
+        }
         "release" => receiver.release_rows(argument.parse::<usize>()?)?,
         _ => set(receiver, word, argument)?,
     }
@@ -131,8 +148,16 @@ fn set(receiver: &mut SixelReceiver, word: &str, argument: &str) -> Result<()> {
     match word {
         "reset" => receiver.decoder_mut().reset_palette(),
         "crop" => receiver.decoder_mut().set_raster_crop(argument == "on"),
-        "lenient" => receiver.set_lenient(argument == "on"),
-        "transparent" => receiver.set_transparent(argument == "on"),
+        "lenient" => {
+            let on = argument == "on";
+            receiver.set_lenient(on);
+            ensure(receiver.is_lenient() == on, "is_lenient")?;
+        }
+        "transparent" => {
+            let on = argument == "on";
+            receiver.set_transparent(on);
+            ensure(receiver.is_transparent() == on, "is_transparent")?;
+        }
         "limit" => receiver
             .decoder_mut()
             .set_pixel_limit(argument.parse::<usize>()?),

@@ -2,7 +2,7 @@
 -- bytes are the sequence's own.
 use Rattle.std.proofs.Common.{◌≡◌, ◌≤◌, length, true, false, None}
 use Rattle.sixel_base.specs.Dcs.{dcs_status, dcs_count, dcs_fault, has_ended, IsSameString}
-use Rattle.icy_sixel.specs.Receiver.{OfString}
+use Rattle.icy_sixel.specs.Receiver.{AreSettingsKept, OfString}
 use Rattle.sixel_decoder.specs.declared.received.Status.TheVariants.{Dcs}
 use Rattle.sixel.proofs.Chunks.{Cut}
 use Rattle.sixel.proofs.sequences.feed_chunks.Given as goal
@@ -10,6 +10,7 @@ use Rattle.sixel.proofs.sequences.feed_chunks.Given as goal
 abbrev pub invariant-chunks : goal.invariant-chunks
 invariant-chunks l = record {
   decoder : l.receiver.decoder ≡ l.fn.receiver.decoder;
+  settings : AreSettingsKept l.fn.receiver l.receiver;
   form : l.receiver.image.form ≡ OfString;
   start : l.receiver.image.start ≡ l.fn.receiver.image.start;
   released : l.receiver.image.released ≡ l.fn.receiver.image.released;

@@ -3,6 +3,7 @@ use Rattle.std.specs.Prelude.{if◌then◌else◌}
 use Rattle.std.proofs.lemmas.Result.{err_from_is_err_and}
 use Rattle.sixel_base.specs.Dcs.{IsSameString, can_finish, dcs_status, has_ended}
 use Rattle.sixel_decoder.specs.declared.received.Status.TheVariants.{Dcs}
+use Rattle.icy_sixel.specs.Receiver.{start_of}
 use Rattle.sixel.specs.Sequences.{rest_by}
 use Rattle.sixel.proofs.Chunks.{chunks_begin}
 use Rattle.sixel.proofs.DcsSequences.{Begins, begins_fits, finished_faultless, finishes_faultless}
@@ -16,7 +17,7 @@ returns-in_err-image-clause-refused c =
     c.from_residual-in_err-image.ensures.1 in
     let stored = s.released ∙ ap (λ i. i.released) c.begin_dcs.ensures.image in
     let wrong = (c.in_err-image.ensures.finished stored).finished.error in
-    rw (p.1, p.2) (refused_at_end _ c.args.receiver.now.decoder.pixel_limit
+    rw (p.1, p.2) (refused_at_end _ (start_of c.args.receiver.now).pixel_limit
     c.feed_chunks.new.receiver.image.bytes c.args.bytes.now c.requires.some
     (rw c.begin_dcs.ensures.image at s.faultless) s.chunks.enough
     (rw (s.accepts, s.start, c.begin_dcs.ensures.image, s.form) at wrong))
@@ -27,18 +28,18 @@ stored c = c.in_ok-fed.ensures.released ∙ ap (λ i. i.released) c.begin_dcs.en
 
 -- what was fed can be finished
 finishes : (c : goal.After-bytes_after)
-    → can_finish c.args.receiver.now.decoder.pixel_limit c.feed_chunks.new.receiver.image.bytes
+    → can_finish (start_of c.args.receiver.now).pixel_limit c.feed_chunks.new.receiver.image.bytes
     ≡ true
 finishes c =
     let s = c.in_ok-fed.ensures in
-    finishes_faultless c.args.receiver.now.decoder.pixel_limit
+    finishes_faultless (start_of c.args.receiver.now).pixel_limit
     c.feed_chunks.new.receiver.image.bytes
     (rw (s.form, s.start, c.begin_dcs.ensures.image) at
     (c.in_ok-image.ensures.finished (stored c)).finished.ended)
 
 -- the bytes of the sequence that was fed are those of the sequence that all begin with
 same : (c : goal.After-bytes_after)
-    → IsSameString c.args.receiver.now.decoder.pixel_limit c.feed_chunks.new.receiver.image.bytes
+    → IsSameString (start_of c.args.receiver.now).pixel_limit c.feed_chunks.new.receiver.image.bytes
     c.args.bytes.now
 same c =
     let s = c.in_ok-fed.ensures in
@@ -80,7 +81,7 @@ returns-clause-rest c =
 
 pub returns-clause-faultless : goal.returns-clause-faultless
 returns-clause-faultless c =
-    finished_faultless c.args.receiver.now.decoder.pixel_limit c.args.bytes.now c.requires.some
-    (finishes_fed c.args.receiver.now.decoder.pixel_limit _ _ (same c).status
+    finished_faultless (start_of c.args.receiver.now).pixel_limit c.args.bytes.now c.requires.some
+    (finishes_fed (start_of c.args.receiver.now).pixel_limit _ _ (same c).status
     c.in_ok-fed.ensures.chunks.enough (finishes c))
     ((same c).fault ∙ (rw c.begin_dcs.ensures.image at c.in_ok-fed.ensures.faultless))

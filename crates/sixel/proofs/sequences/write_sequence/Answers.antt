@@ -2,6 +2,7 @@ use Rattle.std.proofs.Common.{[], Bor, List, ℕ}
 use Rattle.std.proofs.KnownBytes.{Appends-nil}
 use Rattle.std.proofs.lemmas.Result.{err_from_is_err_and}
 use Rattle.icy_sixel.specs.ImageView.{image_value}
+use Rattle.icy_sixel.specs.Receiver.{start_of}
 use Rattle.sixel.specs.Sequences.{Broken, HasEnded}
 use Rattle.sixel.proofs.ImageSequences.{Serves-broken}
 use Rattle.sixel.proofs.sequences.write_sequence.Goals as goal
@@ -11,7 +12,7 @@ returns-in_err-image-clause-stopped g c =
     let p = err_from_is_err_and c.from_residual.result c.from_residual.ensures.1 in
     rw (p.1, p.2) (
       [],
-      Broken c.args.receiver.now.decoder c.args.bytes.now _ c.in_err-image.ensures.refused,
+      Broken (start_of c.args.receiver.now) c.args.bytes.now _ c.in_err-image.ensures.refused,
       Appends-nil _,
     )
 
@@ -19,8 +20,8 @@ pub returns-clause-stopped : goal.returns-clause-stopped
 returns-clause-stopped g c =
     let s = c.in_ok-image.ensures in
     let image = image_value c.in_ok-image.image in
-    let sequence : HasEnded c.args.receiver.now.decoder c.args.bytes.now image
-    c.read_sequence.new.receiver.decoder =
+    let sequence : HasEnded (start_of c.args.receiver.now) c.args.bytes.now image
+    (start_of c.read_sequence.new.receiver) =
     record {
       some = c.requires.some;
       faultless = s.faultless;

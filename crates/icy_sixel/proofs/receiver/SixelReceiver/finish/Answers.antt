@@ -33,5 +33,6 @@ returns-in-Ok-clause-finished c =
           (sym (c.from_picture.ensures.image
           (pixel_so_far image.start image.form image.bytes))) refl (is_taken c).finished);
       set = search rules;
+      settings = search rules;
       kept = tt;
     }

@@ -5,5 +5,11 @@ use Rattle.icy_sixel.proofs.receiver.SixelReceiver.replace_open.Goals as goal
 pub returns-clause-decoder : goal.returns-clause-decoder
 returns-clause-decoder c = ap (λ (r : SixelReceiver). r.decoder) c.self.view_is
 
+pub returns-clause-settings : goal.returns-clause-settings
+returns-clause-settings c = (
+  ap (λ (r : SixelReceiver). r.lenient) c.self.view_is,
+  ap (λ (r : SixelReceiver). r.transparent) c.self.view_is,
+)
+
 pub returns-clause-image : goal.returns-clause-image
 returns-clause-image c = grind arith

@@ -7,7 +7,7 @@ use Rattle.std.proofs.lemmas.Result.{err_from_is_err_and}
 use Rattle.sixel_base.specs.declared.error.SixelError.{SixelError}
 use Rattle.sixel_base.specs.Fault.{Faults}
 use Rattle.sixel_base.specs.Payload.{payload_fault, payload_wants}
-use Rattle.icy_sixel.specs.Receiver.{is_open}
+use Rattle.icy_sixel.specs.Receiver.{is_open, start_of}
 use Rattle.icy_sixel.specs.declared.receiver.FailedFeed.{FailedFeed}
 use Rattle.sixel_examples.proofs.host.Terminal.payload.Goals as goal
 
@@ -25,7 +25,7 @@ returns-in_err-feed-clause-refused c =
     rw (s.fed.bytes (ap is_open now.form), c.split_at.ensures.front, c.split_at.ensures.back)
     (append_assoc before _ _
     ∙ (ap (λ w. before ++ w) (take-append-drop _ c.chunks.rest.now) ∙ now.bytes)) in
-    let limit = c.args.self.now.receiver.decoder.pixel_limit in
+    let limit = (start_of c.args.self.now.receiver).pixel_limit in
     rw (p.1, p.2)
     (subst (λ (w : List ℕ). Faults told (payload_wants limit w) (payload_fault limit w)) whole
     (rw now.start at
