@@ -122,22 +122,6 @@ impl SixelDecoder {
         self.height = if on { Height::Raster } else { Height::Bands };
     }
 
-    /// Whether images are lenient; off in a new decoder.
-    ///
-    /// [`SixelReceiver::set_lenient`](crate::SixelReceiver::set_lenient) describes such images.
-    #[must_use]
-    pub fn is_lenient(&self) -> bool {
-        self.core.decoder().is_lenient()
-    }
-
-    /// Whether images have a transparent background whatever P2 says; off in a new decoder.
-    ///
-    /// [`SixelReceiver::set_transparent`](crate::SixelReceiver::set_transparent) describes them.
-    #[must_use]
-    pub fn is_transparent(&self) -> bool {
-        self.core.decoder().is_transparent()
-    }
-
     /// Returns how many pixels an image can have.
     ///
     /// The limit is 67,108,864 in a new decoder, and never more.

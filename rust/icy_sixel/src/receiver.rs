@@ -105,9 +105,14 @@ impl SixelReceiver {
     }
 
     /// Returns the decoder, and aborts an open image.
+    ///
+    /// Its images are neither lenient nor transparent where nothing is drawn: these settings are
+    /// the receiver's.
     #[must_use]
     pub fn into_decoder(mut self) -> SixelDecoder {
         self.abort();
+        self.set_lenient(false);
+        self.set_transparent(false);
         self.decoder
     }
 
@@ -269,8 +274,7 @@ impl SixelReceiver {
 
     /// Sets whether a command with a fault is ignored, in place of rejecting the image.
     ///
-    /// It is off in a new decoder. The setting applies to images that are begun afterwards, and
-    /// [`into_decoder`](Self::into_decoder) returns a decoder that is lenient, too.
+    /// It is off in a new receiver. The setting applies to images that are begun afterwards.
     ///
     /// - A repeat count, raster attributes or a graphics new line past a limit changes nothing.
     /// - A sixel outside of the limits is not drawn and does not move the position. Its repeat
@@ -283,14 +287,26 @@ impl SixelReceiver {
         self.decoder.core.set_lenient(on);
     }
 
+    /// Whether images are lenient, by [`set_lenient`](Self::set_lenient).
+    #[must_use]
+    pub fn is_lenient(&self) -> bool {
+        self.decoder.core.is_lenient()
+    }
+
     /// Sets whether pixels that are not drawn are transparent, whatever P2 of an image says.
     ///
-    /// It is off in a new decoder. The setting applies to images that are begun afterwards, and
-    /// [`into_decoder`](Self::into_decoder) returns a decoder with it. The `background_mode` of the
-    /// image stays the one that P2 selects. So a multiplexer can encode the image again with its
-    /// P2, and the background shows through where nothing was drawn.
+    /// It is off in a new receiver. The setting applies to images that are begun afterwards. The
+    /// `background_mode` of the image stays the one that P2 selects. So a multiplexer can encode
+    /// the image again with its P2, and the background shows through where nothing was drawn.
     pub fn set_transparent(&mut self, on: bool) {
         self.decoder.core.set_transparent(on);
+    }
+
+    /// Whether images have a transparent background whatever P2 says, by
+    /// [`set_transparent`](Self::set_transparent).
+    #[must_use]
+    pub fn is_transparent(&self) -> bool {
+        self.decoder.core.is_transparent()
     }
 
     /// Sets how many pixels an image can have.

@@ -244,8 +244,9 @@ fn what_is_not_drawn_is_transparent() {
     let image = receiver.finish().unwrap();
     assert_eq!(image.background_mode, BackgroundMode::Opaque);
     assert_eq!((&image.pixels[..4], &image.pixels[4..]), (&RED[..], &[0; 20][..]));
-    assert!(receiver.decoder().is_transparent() && receiver.decoder().clone().is_transparent());
-    assert!(!SixelDecoder::new().is_transparent());
+    assert!(receiver.is_transparent() && !SixelReceiver::new().is_transparent());
+    let image = receiver.into_decoder().decode(b"\x1bPq@\x1b\\").unwrap();
+    assert_eq!(image.pixels[4..8], RED);
 }
 
 #[test]
@@ -260,10 +261,10 @@ fn lenient_images_ignore_commands() {
         assert_eq!((image.width, image.ignored_commands), (3, 1));
         assert_eq!(image.is_complete, is_complete);
     }
-    assert!(receiver.decoder().is_lenient() && receiver.decoder().clone().is_lenient());
+    assert!(receiver.is_lenient() && !SixelReceiver::new().is_lenient());
     let mut decoder = receiver.into_decoder();
-    assert_eq!(decoder.decode(b"~!65536~~").unwrap().dimensions(), (3, 6));
-    let mut strict = SixelReceiver::new();
+    assert_eq!(decoder.decode(b"~!65536~~"), Err(invalid(MALFORMED)));
+    let mut strict = SixelReceiver::with_decoder(decoder);
     strict.begin_dcs();
     assert_eq!(strict.feed(b"\x1bPq~!65536~~"), Err(failed(invalid(MALFORMED), 12, DCS_MORE)));
 }

@@ -151,9 +151,9 @@ fn names_of_our_own() {
     let _: fn(&mut Receiver, usize) -> Answer<()> = Receiver::release_rows;
     let _: fn(&mut Receiver, bool) = Receiver::set_lenient;
     let _: fn(&mut Receiver, icy_sixel::Height) = Receiver::set_height;
-    let _: fn(&Decoder) -> bool = Decoder::is_lenient;
+    let _: fn(&Receiver) -> bool = Receiver::is_lenient;
     let _: fn(&mut Receiver, bool) = Receiver::set_transparent;
-    let _: fn(&Decoder) -> bool = Decoder::is_transparent;
+    let _: fn(&Receiver) -> bool = Receiver::is_transparent;
     type Received = receiver::ReceivedImage;
     let _: fn(&mut Receiver) -> Answer<Received> = Receiver::finish;
     let _: fn(&Received, usize, usize, Layout, &mut [u8]) -> Answer<()> = Received::copy_rows;
