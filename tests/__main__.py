@@ -1,6 +1,6 @@
 """Runs the tests of the folders beside this file, in what is built.
 
-A pattern selects tests, as for `python3 -m unittest -k`. The last line is `N passed, N failed`, then
+A pattern selects tests, as for `python3 -m unittest -k`. The last line is `N passed, N failed`, and
 `, N skipped` if any were.
 """
 import argparse

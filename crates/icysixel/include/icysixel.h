@@ -1,4 +1,4 @@
-/* icysixel: a SIXEL encoder and a streaming decoder for C and C++, on Linux (x86-64, aarch64).
+/* icysixel: a SIXEL encoder and a streaming decoder for C and C++, for 64-bit processors.
  *
  *     icysixel handle = {0};
  *     icysixel_new(&handle);
