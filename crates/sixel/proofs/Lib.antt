@@ -3,6 +3,7 @@ pub mod ByteCounts
 mod Chunks
 pub mod DcsSequences
 pub mod Drawings
+pub mod FileOutputs
 pub mod ImageSequences
 pub mod Outputs
 pub mod SpreadTexts

@@ -8,3 +8,4 @@ pub mod Sequences
 pub mod Spread
 pub mod Drawing
 pub mod WorkOutput
+pub mod Files

@@ -75,11 +75,14 @@ abbrev pub words_of : List (String Global) → List (List ℕ)
 words_of words = map string_bytes words
 
 -- what the code read of the arguments after `draw`, by its bytes
+abbrev pub stated_of : Drawing → Stated
+stated_of it = record {
+  options = it.options;
+  path = option_map (λ path. path.now) it.path;
+  files = words_of it.files.now;
+}
+
+-- the same, or what is wrong with them
 abbrev pub drawing_told : Result Drawing OptionFault → Result Stated Wrong
-drawing_told (Ok it) =
-    Ok (record {
-      options = it.options;
-      path = option_map (λ path. path.now) it.path;
-      files = words_of it.files.now;
-    })
+drawing_told (Ok it) = Ok (stated_of it)
 drawing_told (Err fault) = Err (wrong_of fault)

@@ -1,10 +1,13 @@
 //! The program `sixel`: decodes and encodes images of standard input and of files.
 #![tactic(auto)]
 
+ghost use Rattle.std.specs.Prelude.{None};
+
 mod draw_options;
 mod drawing;
 mod engine;
 mod fault;
+mod files;
 mod images;
 mod netpbm;
 mod notice;
@@ -25,13 +28,13 @@ mod words;
 mod work;
 mod write;
 
-use draw_options::{DrawOptions, Drawing, read_drawing};
+use draw_options::{Drawing, read_drawing};
 use fault::Fault;
+use files::{Host, draw_named};
 use notice::Notice;
 use option_fault::OptionFault;
-use picture::write_picture;
 use picture_fault::PictureFault;
-use picture_words::{PictureWord, after_draw};
+use picture_words::after_draw;
 use response::{Response, respond, response_of};
 use std::fmt::Display;
 use std::process::ExitCode;
@@ -74,21 +77,17 @@ fn run(rt: &HostRuntime, words: &[String]) -> io::Result<u8> {
     let Some(Ok(drawing)) = read_drawing_of(words) else {
         return report_work(rt, words, &[]);
     };
-    let palette = match drawing.path {
-        Some(path) => match fs::read(rt, path) {
-            Ok(palette) => palette,
-            Err(error) => return report_file(rt, path, &error),
-        },
-        None => Vec::new(rt.alloc()),
+    let host = Terminal { rt };
+    if !drawing.files.is_empty() {
+        return draw_named(rt.alloc(), &host, &drawing, &mut rt.stdout());
+    }
+    let Some(path) = drawing.path else {
+        return report_work(rt, words, &[]);
     };
-    if drawing.files.is_empty() {
-        return report_work(rt, words, &palette);
+    match host.read(path)? {
+        Some(palette) => report_work(rt, words, &palette),
+        None => Ok(1),
     }
-    let mut status = 0;
-    for name in drawing.files {
-        status = status.max(draw_file(rt, drawing.options, &palette, name)?);
-    }
-    Ok(status)
 }
 
 /// What the arguments after `draw` state, if it is the first one.
@@ -103,22 +102,28 @@ fn report_work(rt: &HostRuntime, words: &[String], palette: &[u8]) -> io::Result
     report(rt, words, &response)
 }
 
-/// Draws the image of a file. Returns the exit status.
-fn draw_file(rt: &HostRuntime, options: DrawOptions, palette: &[u8], name: &str) -> io::Result<u8> {
-    let word = PictureWord::Draw(options);
-    match fs::read(rt, name) {
-        Ok(file) => match write_picture(rt.alloc(), word, palette, &file, &mut rt.stdout()) {
-            Ok(()) => Ok(0),
-            Err(fault) => report_file(rt, name, &fault),
-        },
-        Err(error) => report_file(rt, name, &error),
-    }
+/// The files of the file system, whose content is not known to proofs, and standard error.
+#[derive(Clone, Copy)]
+struct Terminal<'a> {
+    rt: &'a HostRuntime,
 }
 
-/// Writes a line to standard error about a file that fails. Returns the exit status.
-fn report_file(rt: &impl Eprint, name: &str, error: &impl Display) -> io::Result<u8> {
-    eprintln!(rt; "{name}: {error}")?;
-    Ok(1)
+impl<'a> Host for Terminal<'a> {
+    ghost content = { λ _ _. None };
+
+    fn read(&self, name: &str) -> io::Result<Option<Vec<u8>>> {
+        match fs::read(self.rt, name) {
+            Ok(file) => Ok(Some(file)),
+            Err(error) => {
+                self.report(name, &error)?;
+                Ok(None)
+            }
+        }
+    }
+
+    fn report<E: Display>(&self, name: &str, error: &E) -> io::Result<()> {
+        eprintln!(self.rt; "{name}: {error}")
+    }
 }
 
 /// Writes a line to standard error if something is wrong. Returns the exit status.
