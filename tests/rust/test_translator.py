@@ -1,7 +1,8 @@
 """Tests the translator to plain Rust: each rule, forms without a rule, and the layout of structs.
 
-A rule has an example in rules/CRATE: NAME.rt, a source of that crate, becomes NAME.rs. The first
-line of a source in rules/rejected is the error of the translator, or else of rustc.
+A rule has an example in rules/CRATE: NAME.rattle, a source of that crate, becomes NAME.rs. The first
+line of a source in rules/rejected is the error of the translator, or else of rustc. `rt` would take
+files named .rt for sources.
 """
 import re
 import sys
@@ -30,7 +31,7 @@ class TestTranslator(unittest.TestCase):
 
     def test_rules(self):
         """Each rule makes of its example what is beside it."""
-        examples = [it for it in sorted(HERE.glob("*/*.rt")) if it.parent.name != "rejected"]
+        examples = [it for it in sorted(HERE.glob("*/*.rattle")) if it.parent.name != "rejected"]
         self.assertEqual({it.stem for it in examples}, {it.__name__ for it in RULES})
         for example in examples:
             with self.subTest(rule=example.stem):
@@ -40,7 +41,7 @@ class TestTranslator(unittest.TestCase):
     @needs("rustc")
     def test_rejected(self):
         """A form that no rule names is an error of the translator or of rustc."""
-        for form in sorted((HERE / "rejected").glob("*.rt")):
+        for form in sorted((HERE / "rejected").glob("*.rattle")):
             with self.subTest(form=form.stem), tempfile.TemporaryDirectory() as room:
                 text = form.read_text()
                 error = text.splitlines()[0].removeprefix("// ")
