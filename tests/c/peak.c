@@ -140,7 +140,6 @@ static void check_release_in_steps(void)
     for (size_t rows = 6; rows <= 6 * COUNT; rows += 6)
         CHECK(icysixel_release_rows(&h, rows) == ICYSIXEL_OK);
     double seconds = (double)(clock() - start) / CLOCKS_PER_SEC;
-    printf("release in steps: %.3f s\n", seconds);
     CHECK(seconds < 2);
     icysixel_free(&h);
     free(text.at);
