@@ -32,7 +32,7 @@ static int colors = 256, dither = -1, max_width, max_height, is_looping, is_untu
 static int is_terminal, is_tmux, cell_height; /* of the screen */
 static icysixel codec;
 
-/* What each way out undoes, also a signal. */
+/* What each exit path undoes, also that of a signal. */
 static struct termios usual;
 static char below[32]; /* moves the cursor below the image */
 static volatile sig_atomic_t is_asking, is_drawing, is_placed, is_hidden;

@@ -59,7 +59,7 @@ impl Read for Stdin {
     }
 }
 
-/// Standard output without a buffer, whose errors are told. It is not closed.
+/// Standard output without a buffer, which reports each error. It is not closed.
 pub struct Stdout(ManuallyDrop<File>);
 
 impl Stdout {
