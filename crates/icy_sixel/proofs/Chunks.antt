@@ -18,14 +18,14 @@ use Rattle.sixel_base.specs.Limits.{Limit}
 use Rattle.icy_sixel.specs.Receiver.{Form, Nothing, OfPayload, OfString, count, status, fault}
 use Rattle.icy_sixel.specs.Receiver.{growths, is_over, end_fault, end_wants, has_ended}
 use Rattle.icy_sixel.specs.inside.Session.{IsWhole}
-use Rattle.sixel_decoder.proofs.ParserSteps.{Faults-along}
-use Rattle.sixel_decoder.proofs.PayloadFaults.{or_right}
-use Rattle.sixel_decoder.proofs.FedImages as fed_images
-use Rattle.sixel_decoder.proofs.FedImages.{terminator_of}
-use Rattle.sixel_decoder.proofs.ImageEnds.{accepted_same}
-use Rattle.sixel_decoder.proofs.Finality.{front_ended, status_ended}
-use Rattle.sixel_decoder.proofs.DcsEnds.{count-fits}
-use Rattle.sixel_decoder.proofs.Sessions.{dcs_count-fits, frame_refused, string_refused}
+use Rattle.sixel_decoder.proofs.chunks.ParserSteps.{Faults-along}
+use Rattle.sixel_decoder.proofs.chunks.PayloadFaults.{or_right}
+use Rattle.sixel_decoder.proofs.chunks.FedImages as fed_images
+use Rattle.sixel_decoder.proofs.chunks.FedImages.{terminator_of}
+use Rattle.sixel_decoder.proofs.images.ImageEnds.{accepted_same}
+use Rattle.sixel_decoder.proofs.images.Finality.{front_ended, status_ended}
+use Rattle.sixel_decoder.proofs.dcs_sequences.Ends.{count-fits}
+use Rattle.sixel_decoder.proofs.chunks.Sessions.{dcs_count-fits, frame_refused, string_refused}
 
 -- what was fed and what is left make up all bytes, also after one chunk more
 pub rejoined : (before chunk after left rest bytes : List ℕ) → after ≡ before ++ chunk

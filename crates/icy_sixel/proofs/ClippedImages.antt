@@ -20,7 +20,7 @@ use Rattle.sixel_base.specs.Stroke.{Origin, pixel}
 use Rattle.sixel_base.specs.declared.state.DecoderState.{DecoderState}
 use Rattle.sixel_base.proofs.ToleratedTokens.{effective-fault, effective-off, registers-effective}
 use Rattle.sixel_canvas.proofs.Pictures.{picture_same}
-use Rattle.sixel_decoder.proofs.RowExtents.{both_none, cropped_height-most, sides-fit}
+use Rattle.sixel_decoder.proofs.drawing.RowExtents.{both_none, cropped_height-most, sides-fit}
 use Rattle.icy_sixel.specs.ClippedImages.{HasNoClip, IsInsideClip, IsPartInside, IsWholeImage}
 use Rattle.icy_sixel.specs.ClippedImages.{whole_image, whole_pixel}
 

@@ -8,15 +8,15 @@ use Rattle.sixel_base.specs.Bytes.{front}
 use Rattle.sixel_base.specs.Decoder.{new_decoder}
 use Rattle.sixel_base.specs.Limits.{whole_limit}
 use Rattle.sixel_base.specs.Payload.{Image}
-use Rattle.sixel_palette.proofs.PaletteOrder.{bound_from_order}
+use Rattle.sixel_palette.proofs.traversal.Order.{bound_from_order}
 use Rattle.sixel_palette.specs.Palette.{IsNearest, IsShown}
-use Rattle.sixel_palette.proofs.PaletteLaw.{palette_same}
-use Rattle.sixel_encoder.proofs.SameDrawing.{IsShown-other, drawing_same}
+use Rattle.sixel_palette.proofs.traversal.Law.{palette_same}
+use Rattle.sixel_encoder.proofs.drawings.SameDrawing.{IsShown-other, drawing_same}
 use Rattle.sixel_encoder.specs.Encoding.{IsDrawing, IsText, image_fault, shown_image}
 use Rattle.sixel_encoder.specs.Text.{Drawing, row_of, text_of}
-use Rattle.sixel_encoder.proofs.PlainText.{IsOneString-text, text-trip}
-use Rattle.sixel_encoder.proofs.ShortestRows.{shortest, spells}
-use Rattle.sixel_encoder.proofs.TripLimits.{CanRead-drawn, CanRead-new, IsWritable-drawn}
+use Rattle.sixel_encoder.proofs.plain_text.Text.{IsOneString-text, text-trip}
+use Rattle.sixel_encoder.proofs.band_rows.ShortestRows.{shortest, spells}
+use Rattle.sixel_encoder.proofs.round_trip.TripLimits.{CanRead-drawn, CanRead-new, IsWritable-drawn}
 use Rattle.std.proofs.Common.{subst}
 use Rattle.std.specs.Prelude.{IfErr, IfOk, MatchOption, OnOk, Result, Ok, Err}
 use Rattle.std.specs.Prelude.{Some}

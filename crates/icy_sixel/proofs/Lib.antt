@@ -1,7 +1,7 @@
 pub mod Bands
 pub mod Chunks
 pub mod ClippedImages
-pub mod FinalRows
+pub mod ReceivedRows
 pub mod Headline
 pub mod Outcomes
 pub mod RegisterRange

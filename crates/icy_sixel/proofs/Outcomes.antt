@@ -25,8 +25,8 @@ use Rattle.icy_sixel.specs.Receiver as images
 use Rattle.icy_sixel.specs.Script.{IsDecoding, IsSessionOutcome}
 use Rattle.icy_sixel.specs.inside.Session.{IsWhole, meaning, whole_fault}
 use Rattle.sixel_decoder.specs.OneShotCalls.{IsDecoded}
-use Rattle.sixel_decoder.proofs.ParserSteps.{Faults-along}
-use Rattle.sixel_decoder.proofs.PayloadFaults.{or_right, payload_refused}
+use Rattle.sixel_decoder.proofs.chunks.ParserSteps.{Faults-along}
+use Rattle.sixel_decoder.proofs.chunks.PayloadFaults.{or_right, payload_refused}
 use Rattle.icy_sixel.proofs.Chunks.{same, front_whole}
 use Rattle.std.proofs.lemmas.Bool.Decides.{nat_tests}
 

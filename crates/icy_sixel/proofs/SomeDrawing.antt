@@ -1,5 +1,6 @@
 -- Each image of bytes has a palette and a drawing in it.
-use Rattle.std.proofs.Common.{◌≡◌, ℕ, zero, suc, ◌+◌, ◌-◌, ◌*◌, ◌/◌, ◌<◌, ◌≤◌, ◌⊎◌, inl, inr, ⊎_elim}
+use Rattle.std.proofs.Common.{◌≡◌, ℕ, zero, suc, ◌+◌, ◌-◌, ◌*◌, ◌/◌, ◌<◌, ◌≤◌, ◌⊎◌, inl, inr}
+use Rattle.std.proofs.Common.{⊎_elim}
 use Rattle.std.proofs.Common.{List, [], ◌∷◌, ◌++◌, length, get_or, map, refl, ◌∙◌, subst}
 use Rattle.std.proofs.Common.{arith}
 use Rattle.std.specs.Prelude.{All, Contains, None, Option, Some, if◌then◌else◌, min, nat_le}
@@ -18,13 +19,13 @@ use Rattle.sixel_palette.specs.Palette.{IsPalette, IsShown, color_at, distance, 
 use Rattle.sixel_palette.specs.Palette.{palette_room, rank}
 use Rattle.sixel_palette.specs.inside.PaletteCodes.{AreShownCodes, HasPixel, IsListed, code_count}
 use Rattle.sixel_palette.specs.inside.PaletteCodes.{color_of}
-use Rattle.sixel_palette.proofs.PaletteBestBox.{first_greatest-le}
-use Rattle.sixel_palette.proofs.PaletteChoices.{size_from_codes}
-use Rattle.sixel_palette.proofs.PaletteColors.{rank-color_of, rank-lt}
-use Rattle.sixel_palette.proofs.PaletteLaw.{byte-get_or}
-use Rattle.sixel_palette.proofs.PaletteLists.{increasing-le, increasing-push}
-use Rattle.sixel_palette.proofs.PaletteOrder.{order_alike, order_more}
-use Rattle.sixel_palette.proofs.PaletteShown.{IsColor-color_at, shown_from_codes}
+use Rattle.sixel_palette.proofs.refinement.BestBox.{first_greatest-le}
+use Rattle.sixel_palette.proofs.traversal.Choices.{size_from_codes}
+use Rattle.sixel_palette.proofs.colors.Colors.{rank-color_of, rank-lt}
+use Rattle.sixel_palette.proofs.traversal.Law.{byte-get_or}
+use Rattle.sixel_palette.proofs.colors.Lists.{increasing-le, increasing-push}
+use Rattle.sixel_palette.proofs.traversal.Order.{order_alike, order_more}
+use Rattle.sixel_palette.proofs.colors.Shown.{IsColor-color_at, shown_from_codes}
 use Rattle.sixel_encoder.specs.Encoding.{IsDrawing}
 use Rattle.sixel_encoder.specs.Text.{Drawing}
 

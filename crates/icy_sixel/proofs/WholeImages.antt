@@ -15,7 +15,7 @@ use Rattle.sixel_base.specs.Place.{across, down, height, span, width}
 use Rattle.sixel_base.specs.PaintedArea.{painted_area, row_extent}
 use Rattle.sixel_base.specs.declared.state.DecoderState.{DecoderState}
 use Rattle.sixel_canvas.proofs.Totals.{total-same}
-use Rattle.sixel_decoder.proofs.RowExtents.{both_none, sides-fit}
+use Rattle.sixel_decoder.proofs.drawing.RowExtents.{both_none, sides-fit}
 use Rattle.icy_sixel.specs.ClippedImages.{HasNoClip, whole_extent_fault}
 use Rattle.icy_sixel.specs.ClippedImages.{whole_first_fault, whole_painted_area, whole_row_extent}
 

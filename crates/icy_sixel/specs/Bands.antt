@@ -2,7 +2,7 @@
 -- read, and what is reported. Which rows are final is in FinalRows.
 use Rattle.std.specs.Prelude.{ℕ, ◌≡◌, ◌==◌, ◌&&◌, not, nat_lt, if◌then◌else◌, List, [], ◌∷◌, Result}
 use Rattle.std.specs.Result.{result_map_both}
-use Rattle.icy_sixel.specs.FinalRows.{rows_so_far}
+use Rattle.icy_sixel.specs.ReceivedRows.{rows_so_far}
 use Rattle.icy_sixel.specs.Receiver.{Receiver, has_ended}
 use Rattle.icy_sixel.specs.ReceiverCalls.{IsFed}
 use Rattle.icy_sixel.specs.declared.receiver.FailedFeed.{FailedFeed}

@@ -1,6 +1,6 @@
 pub mod Bands
 pub mod ClippedImages
-pub mod FinalRows
+pub mod ReceivedRows
 pub mod Headline
 pub mod ImageView
 pub mod Lending

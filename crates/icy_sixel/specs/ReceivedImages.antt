@@ -8,7 +8,7 @@ use Rattle.sixel_base.specs.Picture.{picture}
 use Rattle.sixel_canvas.specs.Layout.{stored_pixel}
 use Rattle.sixel_canvas.specs.declared.channels.RowLayout.{RowLayout}
 pub use Rattle.sixel_decoder.specs.Report.{Report, found_report}
-use Rattle.icy_sixel.specs.FinalRows.{layout_fault}
+use Rattle.icy_sixel.specs.ReceivedRows.{layout_fault}
 use Rattle.icy_sixel.specs.ImageView.{image_value}
 use Rattle.icy_sixel.specs.declared.receiver.received_image.Height.{Height}
 use Rattle.icy_sixel.specs.declared.receiver.received_image.Height.TheVariants.{Bands, Raster}

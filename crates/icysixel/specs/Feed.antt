@@ -3,7 +3,7 @@
 use Rattle.std.specs.Prelude.{ℕ, ◌≡◌, ◌≢◌, List, true, false, nat_lt, ◌==◌, ◌&&◌, if◌then◌else◌}
 use Rattle.std.specs.Prelude.{Result, MatchResult}
 use Rattle.icy_sixel.specs.Bands.{band_of}
-use Rattle.icy_sixel.specs.FinalRows.{rows_so_far}
+use Rattle.icy_sixel.specs.ReceivedRows.{rows_so_far}
 use Rattle.icy_sixel.specs.Receiver.{is_open}
 use Rattle.icy_sixel.specs.ReceiverCalls.{received}
 use Rattle.icy_sixel.specs.ReceiverCalls as receivers

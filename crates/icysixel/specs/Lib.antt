@@ -4,7 +4,7 @@ pub mod Code
 pub mod Colors
 pub mod Encodings
 pub mod Feed
-pub mod FinalRows
+pub mod RowMemory
 pub mod Finish
 pub mod Formats
 pub mod Heights

@@ -3,7 +3,7 @@
 use Rattle.std.specs.Prelude.{ℕ, ◌+◌, ◌-◌, ◌*◌, ◌==◌, nat_lt, ◌||◌, if◌then◌else◌, List, Option}
 use Rattle.std.specs.Prelude.{Some, None, slice_range, Bool, true, false}
 use Rattle.sixel_base.specs.Picture.{joined}
-use Rattle.icy_sixel.specs.FinalRows.{usize_max}
+use Rattle.icy_sixel.specs.ReceivedRows.{usize_max}
 
 -- the stride that C passes: 0 means rows without gaps
 abbrev pub stride_of : ℕ → ℕ → ℕ

@@ -1,7 +1,7 @@
 //! How rows lie in a buffer of the caller, and the codes of what is wrong with it.
 
 ghost use Rattle.std.specs.Prelude.{◌≡◌};
-ghost use Rattle.icysixel.specs.FinalRows.{IsRowsCode, layout_of, order_of};
+ghost use Rattle.icysixel.specs.RowMemory.{IsRowsCode, layout_of, order_of};
 
 use crate::code::Code;
 use crate::rows::stride_of;

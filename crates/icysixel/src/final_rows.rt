@@ -1,8 +1,8 @@
 //! The calls on final rows of the open image.
 
 ghost use Rattle.std.specs.Prelude.{◌≡◌, ◌≢◌, Some, None, is_some, length};
-ghost use Rattle.icy_sixel.specs.FinalRows.{rows_so_far};
-ghost use Rattle.icysixel.specs.FinalRows.{AreRowsCopied, AreRowsReleased, layout_of};
+ghost use Rattle.icy_sixel.specs.ReceivedRows.{rows_so_far};
+ghost use Rattle.icysixel.specs.RowMemory.{AreRowsCopied, AreRowsReleased, layout_of};
 ghost use Rattle.icysixel.specs.declared.state.State.{State};
 
 use crate::buffer_layout::{BufferLayout, rows_code};

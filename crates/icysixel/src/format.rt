@@ -1,7 +1,7 @@
 //! The formats of pixels in the caller's memory, and their conversion to RGBA.
 
 ghost use Rattle.std.specs.Prelude.{◌≡◌, ◌+◌, ◌*◌, ◌≤◌, IfOk, length, slice_range};
-ghost use Rattle.icy_sixel.specs.FinalRows.{usize_max};
+ghost use Rattle.icy_sixel.specs.ReceivedRows.{usize_max};
 ghost use Rattle.icysixel.specs.Formats.{is_rgba, pixel_len, rgba, rgba_pixels};
 
 use std::alloc::{AllocError, Global};

@@ -4,7 +4,7 @@ ghost use Rattle.std.specs.Prelude.{◌≡◌, ◌≢◌, ◌≤◌, Some, None,
 ghost use Rattle.icy_sixel.specs.declared.receiver.received_image.ReceivedImage.{ReceivedImage};
 ghost use Rattle.icysixel.specs.Blocks.{IsNoBlock};
 ghost use Rattle.icysixel.specs.Changes.{Acts};
-ghost use Rattle.icysixel.specs.FinalRows.{AreInOrder, ArePixelsCopied};
+ghost use Rattle.icysixel.specs.RowMemory.{AreInOrder, ArePixelsCopied};
 ghost use Rattle.icysixel.specs.Finish.{IsFinished};
 ghost use Rattle.icysixel.specs.declared.state.State.{State};
 

@@ -7,7 +7,7 @@ use Rattle.sixel_base.specs.Payload.{Image}
 use Rattle.sixel_base.specs.declared.error.SixelError.{SixelError}
 use Rattle.sixel_palette.specs.Refined.{IsRefined}
 use Rattle.sixel_palette.specs.declared.palette.refined.RefinedPalette.{RefinedPalette}
-use Rattle.sixel_palette.proofs.PaletteOne.{refined_same}
+use Rattle.sixel_palette.proofs.refinement.One.{refined_same}
 use Rattle.sixel_encoder.specs.IndexedDrawing.{IsPaletteText}
 use Rattle.sixel_encoder.specs.RefinedText.{IsRefinedText}
 use Rattle.sixel_palette.specs.declared.mapping.Mapping.{Mapping}

@@ -8,7 +8,7 @@ use Rattle.std.specs.Prelude.{min, nat_lt, if◌then◌else◌}
 use Rattle.std.proofs.lemmas.Bool.{cases_lt, lt-ltb, le-ltb}
 use Rattle.std.proofs.lemmas.Nat.{row_fits}
 use Rattle.sixel_canvas.specs.Layout.{stored_pixel}
-use Rattle.sixel_canvas.specs.inside.FinalRows.{RowsState, AreRows, final}
+use Rattle.sixel_canvas.specs.inside.RowsState.{RowsState, AreRows, final}
 use Rattle.sixel_canvas.specs.inside.ReleasedRows.{row_bytes, row_pixel}
 use Rattle.sixel_canvas.proofs.RowBytes.{and_false, pixel_part, products}
 use Rattle.std.proofs.lemmas.Bool.Decides.{nat_tests}

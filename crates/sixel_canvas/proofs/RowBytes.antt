@@ -12,7 +12,7 @@ use Rattle.std.proofs.lemmas.Nat.{mul-le, row_fits}
 use Rattle.sixel_base.specs.Picture.{joined, picture}
 use Rattle.sixel_base.proofs.PictureBytes.{joined-add, joined-front, length-joined}
 use Rattle.sixel_canvas.specs.Layout.{pixel_at}
-use Rattle.sixel_canvas.specs.inside.FinalRows.{final, rows_state}
+use Rattle.sixel_canvas.specs.inside.RowsState.{final, rows_state}
 use Rattle.sixel_canvas.proofs.Pixels.{joined-row}
 use Rattle.std.proofs.lemmas.Bool.Decides.{nat_tests}
 use Rattle.std.proofs.lemmas.Grind.{common_steps}

@@ -2,7 +2,7 @@
 pub mod Band
 pub mod BandCanvas
 pub mod Drawn
-pub mod FinalRows
+pub mod RowsState
 pub mod Paints
 pub mod Pixels
 pub mod ReleasedRows

@@ -7,7 +7,7 @@ ghost use Rattle.sixel_canvas.specs.inside.BandCanvas.{above_band, band_canvas_h
 ghost use Rattle.sixel_canvas.specs.inside.BandCanvas.{band_canvas_shown};
 ghost use Rattle.sixel_canvas.specs.inside.BandCanvas.{AreMoved, IsLaidOut, IsPaid};
 ghost use Rattle.sixel_canvas.specs.inside.Drawn.{Run};
-ghost use Rattle.sixel_canvas.specs.inside.FinalRows.{final, stored_area};
+ghost use Rattle.sixel_canvas.specs.inside.RowsState.{final, stored_area};
 ghost use Rattle.sixel_canvas.specs.inside.Paints.{counted};
 ghost use Rattle.sixel_canvas.specs.inside.TaggedBand.{capacity, tagged_cell};
 

@@ -4,8 +4,8 @@ ghost use Rattle.std.specs.Prelude.{max, nat_lt, ◌&&◌, drop, slice_index_or,
 ghost use Rattle.std.specs.Prelude.{OnOk, if◌then◌else◌, vec_len, vec_capacity};
 ghost use Rattle.sixel_base.specs.Picture.{joined, picture};
 ghost use Rattle.sixel_canvas.specs.Layout.{stored_pixel};
-ghost use Rattle.sixel_canvas.specs.inside.FinalRows.{AreMovedWithin, AreRows, AreShrunk, final};
-ghost use Rattle.sixel_canvas.specs.inside.FinalRows.{stored_area};
+ghost use Rattle.sixel_canvas.specs.inside.RowsState.{AreMovedWithin, AreRows, AreShrunk, final};
+ghost use Rattle.sixel_canvas.specs.inside.RowsState.{stored_area};
 ghost use Rattle.sixel_canvas.specs.inside.Paints.{counted};
 
 use crate::span::add_pixels;
@@ -36,7 +36,7 @@ pub struct FinalRows {
 
 impl Model for FinalRows {
     ghost use Rattle.std.specs.Prelude.{◌+◌, ◌-◌, ◌*◌, ◌≤◌, drop, length, vec_capacity};
-    ghost use Rattle.sixel_canvas.specs.inside.FinalRows.{RowsState, AreRows, rows_state};
+    ghost use Rattle.sixel_canvas.specs.inside.RowsState.{RowsState, AreRows, rows_state};
 
     ghost Value = { RowsState };
 

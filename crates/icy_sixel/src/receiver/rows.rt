@@ -14,9 +14,9 @@ ghost use Rattle.sixel_base.specs.declared.state.DecoderState.{DecoderState};
 ghost use Rattle.sixel_canvas.specs.Layout.{AreRowsIn};
 ghost use Rattle.sixel_decoder.specs.Reception.{HasNoPayload, IsPayloadOf};
 ghost use Rattle.icy_sixel.specs.Bands.{IsBandFed, band_of, received_band};
-ghost use Rattle.icy_sixel.specs.FinalRows.{AreRowsCopied, AreRowsReleased, buffer_len};
-ghost use Rattle.icy_sixel.specs.FinalRows.{final_rows, layout_fault, pixel_so_far, rows_so_far};
-ghost use Rattle.icy_sixel.specs.FinalRows.{usize_max, with_released};
+ghost use Rattle.icy_sixel.specs.ReceivedRows.{AreRowsCopied, AreRowsReleased, buffer_len};
+ghost use Rattle.icy_sixel.specs.ReceivedRows.{final_rows, layout_fault, pixel_so_far, rows_so_far};
+ghost use Rattle.icy_sixel.specs.ReceivedRows.{usize_max, with_released};
 ghost use Rattle.icy_sixel.specs.Receiver.{Form, found};
 ghost use Rattle.icy_sixel.specs.inside.Receiving.{reception_of};
 

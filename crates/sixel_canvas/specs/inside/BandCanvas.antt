@@ -7,7 +7,7 @@ use Rattle.sixel_canvas.specs.inside.Drawn.{Run, band_edge, drawn_columns, lowes
 use Rattle.sixel_canvas.specs.inside.Drawn.{runs_cost, runs_paint}
 use Rattle.sixel_canvas.specs.inside.Paints.{counted}
 use Rattle.sixel_canvas.specs.inside.TaggedBand.{TaggedState, tagged_cell}
-use Rattle.sixel_canvas.specs.inside.FinalRows.{RowsState, final, stored_area}
+use Rattle.sixel_canvas.specs.inside.RowsState.{RowsState, final, stored_area}
 use Rattle.sixel_canvas.specs.inside.ReleasedRows.{released_pixel}
 
 -- the bytes of the released rows, how many these are, the final rows that are stored, the band, its

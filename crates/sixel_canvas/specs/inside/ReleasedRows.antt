@@ -3,7 +3,7 @@
 use Rattle.std.specs.Prelude.{ℕ, ◌*◌, List, [], length, take, drop, slice_index_or, nat_lt}
 use Rattle.std.specs.Prelude.{if◌then◌else◌}
 use Rattle.sixel_canvas.specs.Layout.{pixel_at}
-use Rattle.sixel_canvas.specs.inside.FinalRows.{RowsState}
+use Rattle.sixel_canvas.specs.inside.RowsState.{RowsState}
 
 -- the bytes of a row, and none where there is no such row
 abbrev pub row_bytes : RowsState → ℕ → List ℕ

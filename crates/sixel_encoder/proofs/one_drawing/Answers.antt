@@ -1,5 +1,5 @@
 use Rattle.std.proofs.Common.{sym}
-use Rattle.sixel_encoder.proofs.SameDrawing.{IsShown-other, drawing_same}
+use Rattle.sixel_encoder.proofs.drawings.SameDrawing.{IsShown-other, drawing_same}
 use Rattle.sixel_encoder.proofs.one_drawing.Goals as goal
 
 pub returns : goal.returns

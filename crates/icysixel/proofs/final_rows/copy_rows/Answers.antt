@@ -1,10 +1,10 @@
 use Rattle.std.proofs.Common.{◌≡◌, ℕ, List, Option, refl}
 use Rattle.std.proofs.Common.{Ok, Err, Result, arith, unwrap_or}
 use Rattle.sixel_base.specs.declared.error.SixelError.{SixelError}
-use Rattle.icy_sixel.specs.FinalRows.{AreRowsCopied, RowLayout}
+use Rattle.icy_sixel.specs.ReceivedRows.{AreRowsCopied, RowLayout}
 use Rattle.icy_sixel.specs.Receiver.{Reception}
 use Rattle.icy_sixel.specs.ReceiverCalls.{IsSizeSoFar}
-use Rattle.icysixel.specs.FinalRows.{columns_so_far, layout_of}
+use Rattle.icysixel.specs.RowMemory.{columns_so_far, layout_of}
 use Rattle.icysixel.specs.declared.buffer_layout.BufferLayout.{BufferLayout}
 use Rattle.icysixel.proofs.final_rows.copy_rows.Goals as goal
 use Rattle.std.proofs.lemmas.Bool.Decides.{nat_tests}

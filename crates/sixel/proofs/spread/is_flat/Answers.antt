@@ -2,7 +2,7 @@ use Rattle.std.proofs.Common.{◌≡◌, ◌≤◌, ◌∙◌, ◌*◌, ◌+◌,
 use Rattle.std.proofs.lemmas.Bool.{cond_above, cond_below, cond_both}
 use Rattle.sixel_palette.specs.ColorSums.{share}
 use Rattle.sixel_palette.specs.Refined.{opaque_number, sum_to}
-use Rattle.sixel_palette.proofs.PaletteSums.{sum_to-more}
+use Rattle.sixel_palette.proofs.refinement.Sums.{sum_to-more}
 use Rattle.sixel.specs.Spread.{exact_pixel}
 use Rattle.sixel.proofs.spread.is_flat.Goals.{then-pixels-at-ge128, else-pixels-at-ge128}
 use Rattle.sixel.proofs.spread.is_flat.Goals as goal

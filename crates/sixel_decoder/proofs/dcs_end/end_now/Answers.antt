@@ -1,5 +1,5 @@
 use Rattle.std.proofs.Common.{sym, ◌∙◌, arith}
-use Rattle.sixel_decoder.proofs.DcsEnds.{goes_to_end, goes_later}
+use Rattle.sixel_decoder.proofs.dcs_sequences.Ends.{goes_to_end, goes_later}
 use Rattle.sixel_decoder.proofs.dcs_end.end_now.Goals as goal
 use Rattle.sixel_decoder.proofs.dcs_end.end_now.Goals.{in-None, in-Some}
 

@@ -1,5 +1,5 @@
 use Rattle.std.proofs.Common.{arith}
-use Rattle.sixel_decoder.proofs.Lanes.{all_sixels, first_few, first_front, mask_is}
+use Rattle.sixel_decoder.proofs.chunks.Lanes.{all_sixels, first_few, first_front, mask_is}
 use Rattle.sixel_decoder.proofs.front_sixels.sixels_in_lanes.Goals as goal
 
 pub returns-then-others-eq0-clause-sixels : goal.returns-then-others-eq0-clause-sixels

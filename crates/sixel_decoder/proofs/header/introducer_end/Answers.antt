@@ -1,8 +1,9 @@
 use Rattle.std.proofs.Common.{length-drop, arith}
 use Rattle.std.proofs.lemmas.Bool.Decides.{nat_tests}
 use Rattle.std.proofs.lemmas.List.{drop_all}
-use Rattle.sixel_decoder.proofs.FoundPayloads.{tail_whole, introduced_at_once, introduced_by_escape}
-use Rattle.sixel_decoder.proofs.FoundPayloads.{introduced_at, not_introduced_at}
+use Rattle.sixel_decoder.proofs.images.FoundPayloads.{tail_whole, introduced_at_once}
+use Rattle.sixel_decoder.proofs.images.FoundPayloads.{introduced_by_escape}
+use Rattle.sixel_decoder.proofs.images.FoundPayloads.{introduced_at, not_introduced_at}
 use Rattle.sixel_decoder.proofs.header.introducer_end.Goals as goal
 use Rattle.sixel_decoder.proofs.header.introducer_end.Goals.{then-bytes-index-lt1}
 use Rattle.sixel_decoder.proofs.header.introducer_end.Goals.{

@@ -2,7 +2,8 @@ use Rattle.std.proofs.Common.{◌≡◌, ◌++◌, ◌∷◌, [], true, false, g
 use Rattle.sixel_base.specs.Bytes.{carrying}
 use Rattle.sixel_base.specs.Header.{is_header, settings_of}
 use Rattle.sixel_base.specs.inside.Parameters.{Keeps}
-use Rattle.sixel_decoder.proofs.HeaderReads.{reads_on, begins_at, text_at, refused_at, open_at}
+use Rattle.sixel_decoder.proofs.dcs_sequences.HeaderReads.{reads_on, begins_at, text_at, refused_at}
+use Rattle.sixel_decoder.proofs.dcs_sequences.HeaderReads.{open_at}
 use Rattle.sixel_decoder.proofs.header.read_header.Goals as goal
 use Rattle.std.proofs.lemmas.Bool.Decides.{nat_tests}
 

@@ -1,4 +1,4 @@
-use Rattle.sixel_decoder.proofs.HeaderReads.{ReadsHeader}
+use Rattle.sixel_decoder.proofs.dcs_sequences.HeaderReads.{ReadsHeader}
 use Rattle.sixel_decoder.proofs.header.read_header.Given as goal
 
 abbrev pub invariant-header : goal.invariant-header

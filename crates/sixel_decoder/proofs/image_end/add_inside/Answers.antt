@@ -1,8 +1,8 @@
 use Rattle.std.proofs.Common.{◌≡◌, ◌++◌, None, Some, sym, ap, ◌∙◌, arith}
 use Rattle.sixel_base.specs.Bytes.{first_terminator}
 use Rattle.sixel_base.specs.Status.{status_of}
-use Rattle.sixel_decoder.proofs.DcsEnds.{ended_at, goes_open, terminator_same}
-use Rattle.sixel_decoder.proofs.ImageEnds.{first_in, goes_past}
+use Rattle.sixel_decoder.proofs.dcs_sequences.Ends.{ended_at, goes_open, terminator_same}
+use Rattle.sixel_decoder.proofs.images.ImageEnds.{first_in, goes_past}
 use Rattle.sixel_decoder.proofs.image_end.add_inside.Goals as goal
 
 pub returns-in-Some-clause-goes : goal.returns-in-Some-clause-goes

@@ -11,7 +11,7 @@ use Rattle.sixel_decoder.specs.OneShotCalls.{IsDecoded}
 use Rattle.sixel_decoder.specs.PictureView.{picture_value}
 use Rattle.sixel_decoder.specs.declared.decoded_payload.DecodedPayload.{DecodedPayload}
 use Rattle.sixel_decoder.specs.inside.PayloadParser.{Decodes}
-use Rattle.sixel_decoder.proofs.WholePictures.{whole_picture}
+use Rattle.sixel_decoder.proofs.images.WholePictures.{whole_picture}
 use Rattle.sixel_decoder.proofs.one_shot.decode_payload.Goals as goal
 
 -- decoding in one call, by what the parser read

@@ -1,4 +1,4 @@
-use Rattle.sixel_decoder.proofs.PayloadFaults.{payload_refused, payload_ends}
+use Rattle.sixel_decoder.proofs.chunks.PayloadFaults.{payload_refused, payload_ends}
 use Rattle.sixel_decoder.proofs.one_shot.read_whole.Goals as goal
 use Rattle.std.proofs.Common.{arith}
 use Rattle.std.proofs.lemmas.Bool.Decides.{nat_tests}

@@ -1,9 +1,10 @@
 use Rattle.std.proofs.Common.{◌≡◌, ℕ, ◌+◌, ◌-◌, ◌*◌, ◌<◌, length, ap, ◌∙◌, arith}
 use Rattle.sixel_encoder.specs.inside.Indexed.{entry_of}
 use Rattle.sixel_encoder.specs.inside.Grid.{cell, pixel_bit}
-use Rattle.sixel_encoder.proofs.Cells.{AreMarks-dot, AreMarks-same, place_inside}
-use Rattle.sixel_encoder.proofs.Lines.{pixel_bit-other, pixel_bit-transparent, pixel_bit-dot}
-use Rattle.sixel_encoder.proofs.Lines.{column-dot, column-more}
+use Rattle.sixel_encoder.proofs.band_rows.Cells.{AreMarks-dot, AreMarks-same, place_inside}
+use Rattle.sixel_encoder.proofs.band_rows.Lines.{pixel_bit-other, pixel_bit-transparent}
+use Rattle.sixel_encoder.proofs.band_rows.Lines.{pixel_bit-dot}
+use Rattle.sixel_encoder.proofs.band_rows.Lines.{column-dot, column-more}
 use Rattle.sixel_encoder.proofs.band.add_part_of_line.Goals as goal
 use Rattle.sixel_encoder.proofs.band.add_part_of_line.Goals.{then-has_row+then-is_opaque}
 use Rattle.sixel_encoder.proofs.band.add_part_of_line.Goals.{else-has_row}

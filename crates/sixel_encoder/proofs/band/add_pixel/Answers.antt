@@ -1,5 +1,5 @@
 use Rattle.std.proofs.Common.{arith}
-use Rattle.sixel_encoder.proofs.Cells.{AreMarks-dot, cell-dot, sixel_inside}
+use Rattle.sixel_encoder.proofs.band_rows.Cells.{AreMarks-dot, cell-dot, sixel_inside}
 use Rattle.sixel_encoder.proofs.band.add_pixel.Goals as goal
 use Rattle.std.proofs.lemmas.Bool.Decides.{nat_tests}
 

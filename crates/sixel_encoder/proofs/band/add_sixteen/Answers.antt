@@ -1,6 +1,7 @@
 use Rattle.std.proofs.Common.{◌≡◌, ◌+◌, ◌-◌, ◌*◌, arith}
-use Rattle.sixel_encoder.proofs.Lines.{pixel_bit-row}
-use Rattle.sixel_encoder.proofs.LineRuns.{between-none, between-same, cell-run, AreMarks-run}
+use Rattle.sixel_encoder.proofs.band_rows.Lines.{pixel_bit-row}
+use Rattle.sixel_encoder.proofs.band_rows.LineRuns.{between-none, between-same, cell-run}
+use Rattle.sixel_encoder.proofs.band_rows.LineRuns.{AreMarks-run}
 use Rattle.sixel_encoder.proofs.band.add_sixteen.Goals as goal
 use Rattle.std.proofs.lemmas.Bool.Decides.{nat_tests}
 

@@ -1,7 +1,8 @@
 use Rattle.std.proofs.Common.{◌<◌, arith, refl, sym}
 use Rattle.sixel_encoder.specs.inside.Indexed.{drawing_of}
-use Rattle.sixel_encoder.proofs.LaneChanges.{change-left, change-right, lane-most}
-use Rattle.sixel_encoder.proofs.PlainBound.{bound-start, bound-step, bound-whole, zero-replicated}
+use Rattle.sixel_encoder.proofs.band_rows.LaneChanges.{change-left, change-right, lane-most}
+use Rattle.sixel_encoder.proofs.plain_text.Bound.{bound-start, bound-step, bound-whole}
+use Rattle.sixel_encoder.proofs.plain_text.Bound.{zero-replicated}
 use Rattle.sixel_encoder.proofs.bound.least_bytes.Goals as goal
 use Rattle.sixel_encoder.proofs.bound.least_bytes.Goals.{else-left-right, else-not-is_repeated}
 use Rattle.sixel_encoder.proofs.bound.least_bytes.Goals.{then-left-right}

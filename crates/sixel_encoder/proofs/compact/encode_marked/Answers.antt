@@ -1,5 +1,5 @@
 use Rattle.sixel_encoder.specs.inside.Indexed.{drawing_of}
-use Rattle.sixel_encoder.proofs.CompactSteps.{AreNumbersOf-ranks, marked-joined}
+use Rattle.sixel_encoder.proofs.compact_form.Steps.{AreNumbersOf-ranks, marked-joined}
 use Rattle.sixel_encoder.proofs.compact.encode_marked.Goals as goal
 
 pub new-requires-clause-numbers : goal.new-requires-clause-numbers

@@ -1,5 +1,6 @@
 use Rattle.std.proofs.Common.{arith}
-use Rattle.sixel_encoder.proofs.EntryLanes.{mask_is, none_of_all, none_before, at_most_all}
+use Rattle.sixel_encoder.proofs.band_rows.EntryLanes.{mask_is, none_of_all, none_before}
+use Rattle.sixel_encoder.proofs.band_rows.EntryLanes.{at_most_all}
 use Rattle.sixel_encoder.proofs.entries.others_from.Goals as goal
 
 pub returns-then-some-eq0-clause-others : goal.returns-then-some-eq0-clause-others

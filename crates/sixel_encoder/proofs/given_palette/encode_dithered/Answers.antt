@@ -1,13 +1,13 @@
 use Rattle.std.proofs.Common.{length, ap, arith}
 use Rattle.sixel_palette.specs.Dithering.{AreDithered}
 use Rattle.sixel_encoder.specs.Encoding.{source_value}
-use Rattle.sixel_palette.proofs.GraySource.{dithered-count, dithered-entry}
-use Rattle.sixel_encoder.proofs.PaletteText.{rows-sound}
-use Rattle.sixel_encoder.proofs.Sizes.{within-sound}
+use Rattle.sixel_palette.proofs.mapped_images.GraySource.{dithered-count, dithered-entry}
+use Rattle.sixel_encoder.proofs.drawings.PaletteText.{rows-sound}
+use Rattle.sixel_encoder.proofs.drawings.Sizes.{within-sound}
 use Rattle.sixel_encoder.proofs.given_palette.encode_dithered.Goals as goal
 use Rattle.sixel_encoder.proofs.given_palette.encode_dithered.Goals.{After-deref}
 use Rattle.std.proofs.lemmas.Bool.Decides.{nat_tests}
-use Rattle.sixel_encoder.proofs.Sizes.{rows-image}
+use Rattle.sixel_encoder.proofs.drawings.Sizes.{rows-image}
 
 -- the indices
 told : (c : After-deref)

@@ -1,7 +1,7 @@
 use Rattle.std.proofs.Common.{arith}
 use Rattle.std.proofs.lemmas.List.Folds.{list_any_none}
 use Rattle.std.proofs.lemmas.List.FromFn.{get_or-range_with_len, length-range_with_len}
-use Rattle.sixel_encoder.proofs.IndexedText.{list_any-past}
+use Rattle.sixel_encoder.proofs.drawings.IndexedText.{list_any-past}
 use Rattle.sixel_encoder.proofs.given_palette.validate_indices.Goals as goal
 use Rattle.std.proofs.lemmas.Bool.Decides.{nat_tests}
 

@@ -1,6 +1,6 @@
 use Rattle.sixel_encoder.specs.Compact.{compact_text}
-use Rattle.sixel_encoder.proofs.CompactText.{IsDrawnText-compact, length-compact}
-use Rattle.sixel_encoder.proofs.DcsText.{IsOneString-drawn, IsReadAs-drawn}
+use Rattle.sixel_encoder.proofs.compact_form.Text.{IsDrawnText-compact, length-compact}
+use Rattle.sixel_encoder.proofs.round_trip.DcsText.{IsOneString-drawn, IsReadAs-drawn}
 use Rattle.sixel_encoder.proofs.laws.compact_text.Goals as goal
 
 pub returns-clause-drawn : goal.returns-clause-drawn

@@ -1,5 +1,5 @@
-use Rattle.sixel_encoder.proofs.DcsText.{IsOneString-drawn, IsReadAs-drawn}
-use Rattle.sixel_encoder.proofs.PlainText.{IsDrawnText-plain}
+use Rattle.sixel_encoder.proofs.round_trip.DcsText.{IsOneString-drawn, IsReadAs-drawn}
+use Rattle.sixel_encoder.proofs.plain_text.Text.{IsDrawnText-plain}
 use Rattle.sixel_encoder.proofs.laws.drawn_text.Goals as goal
 
 pub returns-clause-whole : goal.returns-clause-whole

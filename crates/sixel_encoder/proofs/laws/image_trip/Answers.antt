@@ -1,6 +1,7 @@
-use Rattle.sixel_encoder.proofs.TripLimits.{IsWritable-drawn, CanRead-new, image_fault-trip}
-use Rattle.sixel_encoder.proofs.TripLimits.{bytes-trip}
-use Rattle.sixel_encoder.proofs.SecondTrip.{image-read_back, image-one_string}
+use Rattle.sixel_encoder.proofs.round_trip.TripLimits.{IsWritable-drawn, CanRead-new}
+use Rattle.sixel_encoder.proofs.round_trip.TripLimits.{image_fault-trip}
+use Rattle.sixel_encoder.proofs.round_trip.TripLimits.{bytes-trip}
+use Rattle.sixel_encoder.proofs.round_trip.SecondTrip.{image-read_back, image-one_string}
 use Rattle.sixel_encoder.proofs.laws.image_trip.Goals as goal
 use Rattle.std.proofs.Common.{arith}
 use Rattle.std.proofs.lemmas.Bool.Decides.{nat_tests}

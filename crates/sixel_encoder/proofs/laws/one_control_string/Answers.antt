@@ -1,4 +1,5 @@
-use Rattle.sixel_encoder.proofs.PlainText.{found-text, text-trip, stage-text, IsOneString-text}
+use Rattle.sixel_encoder.proofs.plain_text.Text.{found-text, text-trip, stage-text}
+use Rattle.sixel_encoder.proofs.plain_text.Text.{IsOneString-text}
 use Rattle.sixel_encoder.proofs.laws.one_control_string.Goals as goal
 
 pub returns-clause-found : goal.returns-clause-found

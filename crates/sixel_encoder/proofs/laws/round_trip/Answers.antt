@@ -1,4 +1,4 @@
-use Rattle.sixel_encoder.proofs.PlainText.{plain-trip, plain-sound}
+use Rattle.sixel_encoder.proofs.plain_text.Text.{plain-trip, plain-sound}
 use Rattle.sixel_encoder.proofs.laws.round_trip.Goals as goal
 
 pub returns-clause-sound : goal.returns-clause-sound

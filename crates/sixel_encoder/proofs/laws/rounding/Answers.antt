@@ -1,4 +1,4 @@
-use Rattle.sixel_encoder.proofs.Percentages.{percentage-byte_of, rounded-rounded}
+use Rattle.sixel_encoder.proofs.round_trip.Percentages.{percentage-byte_of, rounded-rounded}
 use Rattle.sixel_encoder.proofs.laws.rounding.Goals as goal
 
 pub returns-clause-percentages : goal.returns-clause-percentages

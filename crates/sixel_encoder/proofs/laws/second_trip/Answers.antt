@@ -1,4 +1,4 @@
-use Rattle.sixel_encoder.proofs.SecondTrip.{trip-again, text-again}
+use Rattle.sixel_encoder.proofs.round_trip.SecondTrip.{trip-again, text-again}
 use Rattle.sixel_encoder.proofs.laws.second_trip.Goals as goal
 
 pub returns-clause-trip : goal.returns-clause-trip

@@ -1,5 +1,6 @@
 use Rattle.std.proofs.Common.{length, ap}
-use Rattle.sixel_encoder.proofs.PlainText.{text_of-parts, payload-own, payload-front, payload-ended}
+use Rattle.sixel_encoder.proofs.plain_text.Text.{text_of-parts, payload-own, payload-front}
+use Rattle.sixel_encoder.proofs.plain_text.Text.{payload-ended}
 use Rattle.sixel_encoder.proofs.laws.whole_payload.Goals as goal
 
 pub returns-clause-text : goal.returns-clause-text

@@ -1,7 +1,7 @@
 use Rattle.std.proofs.Common.{◌≡◌, ◌+◌, ◌-◌, ◌*◌, ◌<◌, length, arith}
-use Rattle.sixel_encoder.proofs.IndexedDrawing.{get_or-entries}
-use Rattle.sixel_encoder.proofs.Masks.{length-entries}
-use Rattle.sixel_encoder.proofs.UsedBands.{window-any, window-blank}
+use Rattle.sixel_encoder.proofs.drawings.IndexedDrawing.{get_or-entries}
+use Rattle.sixel_encoder.proofs.band_rows.Masks.{length-entries}
+use Rattle.sixel_encoder.proofs.round_trip.UsedBands.{window-any, window-blank}
 use Rattle.sixel_encoder.proofs.pixels.is_used.Goals as goal
 use Rattle.std.proofs.lemmas.Bool.Decides.{nat_tests}
 

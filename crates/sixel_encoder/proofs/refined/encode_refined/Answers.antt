@@ -1,11 +1,11 @@
 use Rattle.std.proofs.Common.{◌≡◌, ◌/◌, length, ap, arith}
 use Rattle.std.specs.Prelude.{None, string_bytes}
 use Rattle.sixel_encoder.specs.Encoding.{image_fault, source_value}
-use Rattle.sixel_palette.proofs.GraySource.{dithered-count, dithered-entry}
-use Rattle.sixel_encoder.proofs.PaletteText.{rows-sound}
-use Rattle.sixel_encoder.proofs.RefinedText.{IsRefinedText-returned}
-use Rattle.sixel_encoder.proofs.Sizes.{rows-image, within-sound}
-use Rattle.sixel_encoder.proofs.Verdicts.{none-found}
+use Rattle.sixel_palette.proofs.mapped_images.GraySource.{dithered-count, dithered-entry}
+use Rattle.sixel_encoder.proofs.drawings.PaletteText.{rows-sound}
+use Rattle.sixel_encoder.proofs.drawings.RefinedText.{IsRefinedText-returned}
+use Rattle.sixel_encoder.proofs.drawings.Sizes.{rows-image, within-sound}
+use Rattle.sixel_encoder.proofs.drawings.Verdicts.{none-found}
 use Rattle.sixel_encoder.proofs.refined.encode_refined.Goals as goal
 use Rattle.sixel_encoder.proofs.refined.encode_refined.Goals.{After-deref-2}
 use Rattle.std.proofs.lemmas.Result.{IfOk-at_ok, IfOk-weaker}

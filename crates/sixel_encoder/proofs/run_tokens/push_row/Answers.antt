@@ -1,6 +1,6 @@
 use Rattle.std.proofs.Common.{arith}
-use Rattle.sixel_encoder.proofs.EqualRuns.{tokens_skip}
-use Rattle.sixel_encoder.proofs.ShortestRows.{spells, shortest}
+use Rattle.sixel_encoder.proofs.band_rows.EqualRuns.{tokens_skip}
+use Rattle.sixel_encoder.proofs.band_rows.ShortestRows.{spells, shortest}
 use Rattle.sixel_encoder.proofs.run_tokens.push_row.Goals as goal
 use Rattle.std.proofs.lemmas.Bool.Decides.{nat_tests}
 

@@ -1,5 +1,5 @@
 use Rattle.std.proofs.Common.{arith}
-use Rattle.sixel_encoder.proofs.Lanes.{mask_is, all_equal, first_equal, first_other}
+use Rattle.sixel_encoder.proofs.band_rows.Lanes.{mask_is, all_equal, first_equal, first_other}
 use Rattle.sixel_encoder.proofs.runs.equal_lanes.Goals as goal
 
 pub returns-then-others-eq0-clause-run : goal.returns-then-others-eq0-clause-run

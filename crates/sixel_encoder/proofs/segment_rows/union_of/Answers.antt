@@ -1,5 +1,5 @@
 use Rattle.std.proofs.Common.{◌≡◌, ◌+◌, ◌-◌, arith, ℕ}
-use Rattle.sixel_encoder.proofs.FillSteps.{union-more, union-none}
+use Rattle.sixel_encoder.proofs.compact_form.FillSteps.{union-more, union-none}
 use Rattle.sixel_encoder.proofs.segment_rows.union_of.Goals as goal
 use Rattle.std.proofs.lemmas.Bool.Decides.{nat_tests}
 

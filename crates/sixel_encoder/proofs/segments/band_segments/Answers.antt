@@ -2,11 +2,13 @@ use Rattle.std.proofs.Common.{◌≡◌, ◌+◌, ◌<◌, ◌≤◌, length, ap
 use Rattle.sixel_encoder.specs.Segments.{gap_of, with_pixel}
 use Rattle.sixel_encoder.specs.Text.{Drawing}
 use Rattle.sixel_encoder.specs.inside.Indexed.{drawing_of}
-use Rattle.sixel_encoder.proofs.EntryLaneMasks.{opaque-lane, transparent-lane}
-use Rattle.sixel_encoder.proofs.PassSteps.{none-replicated, segment-pixel, segment-skip}
-use Rattle.sixel_encoder.proofs.PassSteps.{segments_up_to-none, with_pixel-twice}
-use Rattle.sixel_encoder.proofs.RunSegments.{columns-blank, columns-whole, run-made, run-pixel}
-use Rattle.sixel_encoder.proofs.SegmentSteps.{AreLast-later, AreLast-none}
+use Rattle.sixel_encoder.proofs.band_rows.EntryLaneMasks.{opaque-lane, transparent-lane}
+use Rattle.sixel_encoder.proofs.compact_form.PassSteps.{none-replicated, segment-pixel}
+use Rattle.sixel_encoder.proofs.compact_form.PassSteps.{segment-skip}
+use Rattle.sixel_encoder.proofs.compact_form.PassSteps.{segments_up_to-none, with_pixel-twice}
+use Rattle.sixel_encoder.proofs.compact_form.RunSegments.{columns-blank, columns-whole, run-made}
+use Rattle.sixel_encoder.proofs.compact_form.RunSegments.{run-pixel}
+use Rattle.sixel_encoder.proofs.compact_form.SegmentSteps.{AreLast-later, AreLast-none}
 use Rattle.sixel_encoder.proofs.segments.band_segments.Goals as goal
 use Rattle.sixel_encoder.proofs.segments.band_segments.Goals.{then-is_new+in_ok-push_run-2}
 use Rattle.sixel_encoder.proofs.segments.band_segments.Goals.{else-is_new}

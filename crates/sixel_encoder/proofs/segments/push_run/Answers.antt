@@ -2,8 +2,10 @@ use Rattle.std.proofs.Common.{◌≡◌, ℕ, ◌<◌, length, false, arith}
 use Rattle.std.proofs.lemmas.List.{get_or_default}
 use Rattle.sixel_encoder.specs.declared.segments.Segment.{Segment}
 use Rattle.sixel_encoder.specs.inside.Compact.{nth}
-use Rattle.sixel_encoder.proofs.RunSegments.{AreLast-longer, AreLast-run, run-near, run-new}
-use Rattle.sixel_encoder.proofs.SegmentSteps.{is_near, last-far, near-own, none-near, others-far}
+use Rattle.sixel_encoder.proofs.compact_form.RunSegments.{AreLast-longer, AreLast-run, run-near}
+use Rattle.sixel_encoder.proofs.compact_form.RunSegments.{run-new}
+use Rattle.sixel_encoder.proofs.compact_form.SegmentSteps.{is_near, last-far, near-own, none-near}
+use Rattle.sixel_encoder.proofs.compact_form.SegmentSteps.{others-far}
 use Rattle.sixel_encoder.proofs.segments.push_run.Goals as goal
 use Rattle.sixel_encoder.proofs.segments.push_run.Goals.{in-Some+else-run-near, in-None}
 use Rattle.std.proofs.lemmas.Bool.Decides.{nat_tests}

@@ -2,7 +2,7 @@ use Rattle.std.proofs.Common.{arith}
 use Rattle.sixel_palette.specs.Palette.{IsPalette, AreIndices}
 use Rattle.sixel_encoder.specs.declared.text.IndexedImage.{IndexedImage}
 use Rattle.sixel_encoder.specs.inside.Indexed.{drawing_of}
-use Rattle.sixel_encoder.proofs.IndexedDrawing.{IsDrawing-chosen}
+use Rattle.sixel_encoder.proofs.drawings.IndexedDrawing.{IsDrawing-chosen}
 use Rattle.sixel_encoder.proofs.source.encode_source.Goals as goal
 use Rattle.std.proofs.lemmas.Bool.Decides.{nat_tests}
 

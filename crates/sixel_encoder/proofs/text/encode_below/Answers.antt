@@ -1,8 +1,8 @@
 use Rattle.std.proofs.Common.{length, ap, arith, refl}
 use Rattle.std.specs.Prelude.{string_bytes}
 use Rattle.sixel_encoder.specs.inside.Indexed.{drawing_of}
-use Rattle.sixel_encoder.proofs.Dots.{appended-start, appended-more}
-use Rattle.sixel_encoder.proofs.TextLength.{length-stopped, text-joined}
+use Rattle.sixel_encoder.proofs.band_rows.Dots.{appended-start, appended-more}
+use Rattle.sixel_encoder.proofs.plain_text.Length.{length-stopped, text-joined}
 use Rattle.sixel_encoder.proofs.text.encode_below.Goals as goal
 use Rattle.std.proofs.lemmas.Bool.Decides.{nat_tests}
 

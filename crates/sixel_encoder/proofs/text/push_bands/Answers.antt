@@ -1,5 +1,5 @@
 use Rattle.std.proofs.Common.{string_bytes, refl, arith}
-use Rattle.sixel_encoder.proofs.Dots.{appended-start, appended-more}
+use Rattle.sixel_encoder.proofs.band_rows.Dots.{appended-start, appended-more}
 use Rattle.sixel_encoder.proofs.text.push_bands.Goals as goal
 use Rattle.std.proofs.lemmas.Bool.Decides.{nat_tests}
 

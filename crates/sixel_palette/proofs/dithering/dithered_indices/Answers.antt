@@ -1,5 +1,5 @@
 use Rattle.std.proofs.Common.{arith}
-use Rattle.sixel_palette.proofs.GraySource.{gray-length}
+use Rattle.sixel_palette.proofs.mapped_images.GraySource.{gray-length}
 use Rattle.sixel_palette.proofs.dithering.dithered_indices.Goals as goal
 
 pub searched_indices-requires-2-clause-image : goal.searched_indices-requires-2-clause-image

@@ -1,8 +1,8 @@
 use Rattle.std.proofs.Common.{◌≡◌, length, arith}
 use Rattle.sixel_palette.specs.Dithering.{mapped_of, target_of}
 use Rattle.sixel_palette.specs.Gray.{source_pixels}
-use Rattle.sixel_palette.proofs.DitheredIndices.{AreMapped-none}
-use Rattle.sixel_palette.proofs.GraySource.{AreRowsOf-source, IsSource-pixels}
+use Rattle.sixel_palette.proofs.mapped_images.DitheredIndices.{AreMapped-none}
+use Rattle.sixel_palette.proofs.mapped_images.GraySource.{AreRowsOf-source, IsSource-pixels}
 use Rattle.std.proofs.lemmas.Bool.Decides.{nat_tests}
 use Rattle.sixel_palette.proofs.dithering.indices_from.Goals as goal
 

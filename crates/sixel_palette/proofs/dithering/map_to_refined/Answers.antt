@@ -1,7 +1,7 @@
 use Rattle.std.proofs.Common.{arith}
 use Rattle.std.proofs.lemmas.List.{get_or_default}
-use Rattle.sixel_palette.proofs.GraySource.{dithered-count}
-use Rattle.sixel_palette.proofs.PaletteRefinement.{refinement-some}
+use Rattle.sixel_palette.proofs.mapped_images.GraySource.{dithered-count}
+use Rattle.sixel_palette.proofs.refinement.Refinement.{refinement-some}
 use Rattle.sixel_palette.proofs.dithering.map_to_refined.Goals as goal
 
 pub returns-clause-bytes : goal.returns-clause-bytes

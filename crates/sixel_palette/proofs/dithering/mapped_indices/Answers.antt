@@ -2,9 +2,9 @@ use Rattle.std.proofs.Common.{◌≡◌, arith, subst, sym, ◌∙◌}
 use Rattle.sixel_palette.specs.declared.dither.Dither.{Dither}
 use Rattle.sixel_palette.specs.declared.mapping.Tolerance.TheVariants.{Auto}
 use Rattle.sixel_palette.specs.Dithering.{AreMapped, mapped_of, target_of}
-use Rattle.sixel_palette.proofs.DiffusionLaws.{AreMapped-diffused}
-use Rattle.sixel_palette.proofs.DitheredIndices.{AreRows}
-use Rattle.sixel_palette.proofs.PaletteError.{error-none, held-none}
+use Rattle.sixel_palette.proofs.mapped_images.DiffusionLaws.{AreMapped-diffused}
+use Rattle.sixel_palette.proofs.mapped_images.DitheredIndices.{AreRows}
+use Rattle.sixel_palette.proofs.mapped_images.PaletteError.{error-none, held-none}
 use Rattle.std.proofs.lemmas.Bool.Decides.{nat_tests}
 use Rattle.std.proofs.lemmas.Result.{IfOk-weaker}
 use Rattle.sixel_palette.proofs.dithering.mapped_indices.Goals as goal

@@ -2,16 +2,17 @@ use Rattle.std.proofs.Common.{◌≡◌, ◌<◌, ℕ, length, ap, subst, arith,
 use Rattle.std.specs.Prelude.{◌/◌, All}
 use Rattle.std.proofs.lemmas.Bool.Decides.{nat_tests}
 use Rattle.std.proofs.lemmas.List.{get_or_default}
-use Rattle.sixel_palette.proofs.PaletteColors.{IsColor}
+use Rattle.sixel_palette.proofs.colors.Colors.{IsColor}
 use Rattle.sixel_palette.specs.Palette.{IsOpaque, color_at}
 use Rattle.sixel_palette.specs.declared.dither.Dither.{Dither}
 use Rattle.sixel_palette.specs.Dithering.{AreMapped, Mapped, mapped_of, target_of, tolerance_of}
 use Rattle.sixel_palette.specs.Gray.{source_pixels}
-use Rattle.sixel_palette.proofs.DiffusionLaws.{AreHeld, AreIndices-exact}
-use Rattle.sixel_palette.proofs.DitheredIndices.{AreIndices-mapped, AreRows}
-use Rattle.sixel_palette.proofs.GraySource.{AreIndices-source, AreRowsOf-source, IsSource-pixels}
-use Rattle.sixel_palette.proofs.GraySource.{bytes-source, dithered-count, chosen-own}
-use Rattle.sixel_palette.proofs.PaletteError.{error-bound, tolerance-held}
+use Rattle.sixel_palette.proofs.mapped_images.DiffusionLaws.{AreHeld, AreIndices-exact}
+use Rattle.sixel_palette.proofs.mapped_images.DitheredIndices.{AreIndices-mapped, AreRows}
+use Rattle.sixel_palette.proofs.mapped_images.GraySource.{AreIndices-source, AreRowsOf-source}
+use Rattle.sixel_palette.proofs.mapped_images.GraySource.{IsSource-pixels}
+use Rattle.sixel_palette.proofs.mapped_images.GraySource.{bytes-source, dithered-count, chosen-own}
+use Rattle.sixel_palette.proofs.mapped_images.PaletteError.{error-bound, tolerance-held}
 use Rattle.sixel_palette.proofs.dithering.palette_indices.Goals as goal
 
 -- the rows of an image without a fault, mapped in any way to the colors

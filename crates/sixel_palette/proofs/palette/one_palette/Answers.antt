@@ -1,4 +1,4 @@
-use Rattle.sixel_palette.proofs.PaletteLaw.{palette_same, size_same}
+use Rattle.sixel_palette.proofs.traversal.Law.{palette_same, size_same}
 use Rattle.sixel_palette.proofs.palette.one_palette.Goals as goal
 
 pub returns-clause-palette : goal.returns-clause-palette

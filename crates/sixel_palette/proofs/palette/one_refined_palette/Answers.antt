@@ -1,4 +1,4 @@
-use Rattle.sixel_palette.proofs.PaletteOne.{refined_same}
+use Rattle.sixel_palette.proofs.refinement.One.{refined_same}
 use Rattle.sixel_palette.proofs.palette.one_refined_palette.Goals as goal
 
 pub returns-clause-initial : goal.returns-clause-initial

@@ -1,5 +1,5 @@
 use Rattle.std.proofs.Common.{arith}
-use Rattle.sixel_palette.proofs.PaletteChoices.{chosen_near}
+use Rattle.sixel_palette.proofs.traversal.Choices.{chosen_near}
 use Rattle.sixel_palette.proofs.palette.palette_of_codes.Goals as goal
 use Rattle.std.proofs.lemmas.Bool.Decides.{nat_tests}
 

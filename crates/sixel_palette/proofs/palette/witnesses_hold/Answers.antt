@@ -1,5 +1,5 @@
 use Rattle.std.proofs.lemmas.Bool.{false≢true}
-use Rattle.sixel_palette.proofs.PaletteApart.{apart_before}
+use Rattle.sixel_palette.proofs.traversal.Apart.{apart_before}
 use Rattle.sixel_palette.proofs.palette.witnesses_hold.Goals as goal
 
 pub returns-then-not-is_apart_from-clause-apart : goal.returns-then-not-is_apart_from-clause-apart

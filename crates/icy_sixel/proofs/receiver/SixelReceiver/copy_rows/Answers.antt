@@ -7,7 +7,7 @@ use Rattle.sixel_base.specs.Stroke.{Origin}
 use Rattle.sixel_canvas.specs.Layout.{AreCopied}
 use Rattle.sixel_decoder.specs.FinalRows.{found_pixel}
 use Rattle.sixel_decoder.specs.Reception.{HasNoPayload, IsPayloadOf}
-use Rattle.icy_sixel.specs.FinalRows.{rows_so_far}
+use Rattle.icy_sixel.specs.ReceivedRows.{rows_so_far}
 use Rattle.icy_sixel.specs.Receiver.{Receiver, Reception}
 use Rattle.icy_sixel.proofs.StoredErrors.{lent_stored, none_stored}
 use Rattle.icy_sixel.proofs.receiver.SixelReceiver.copy_rows.Goals as goal

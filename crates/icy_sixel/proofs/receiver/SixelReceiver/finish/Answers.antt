@@ -1,7 +1,7 @@
 use Rattle.std.proofs.Common.{◌∙◌, Ok, refl, rules, subst, sym}
 use Rattle.sixel_decoder.specs.FinishedImages.{IsTaken, shown_whole}
-use Rattle.sixel_decoder.proofs.FinishedImages.{finished_as}
-use Rattle.icy_sixel.specs.FinalRows.{pixel_so_far}
+use Rattle.sixel_decoder.proofs.images.FinishedImages.{finished_as}
+use Rattle.icy_sixel.specs.ReceivedRows.{pixel_so_far}
 use Rattle.icy_sixel.specs.Receiver.{Reception}
 use Rattle.icy_sixel.specs.ReceiverCalls.{whole_of}
 use Rattle.icy_sixel.specs.inside.Receiving.{reception_of}

@@ -1,5 +1,5 @@
 use Rattle.icy_sixel.specs.Receiver.{found}
-use Rattle.icy_sixel.proofs.FinalRows.{rows_stay, pixels_stay, image_pixels}
+use Rattle.icy_sixel.proofs.ReceivedRows.{rows_stay, pixels_stay, image_pixels}
 use Rattle.icy_sixel.proofs.receiver.rows.stable_rows.Goals as goal
 
 pub returns-clause-number : goal.returns-clause-number

@@ -7,8 +7,9 @@ use Rattle.sixel_encoder.specs.Compact.{IsCompactText}
 use Rattle.sixel_encoder.specs.declared.form.TextForm.TheVariants.{Compact}
 use Rattle.sixel_encoder.specs.Encoding.{image_fault}
 use Rattle.icy_sixel.specs.ImageView.{image_value}
-use Rattle.sixel_encoder.proofs.EncodedText.{hidden-written, one_string-written, read_back-written}
-use Rattle.sixel_encoder.proofs.EncodedText.{short-written}
+use Rattle.sixel_encoder.proofs.drawings.EncodedText.{hidden-written, one_string-written}
+use Rattle.sixel_encoder.proofs.drawings.EncodedText.{read_back-written}
+use Rattle.sixel_encoder.proofs.drawings.EncodedText.{short-written}
 use Rattle.icy_sixel.proofs.sixel_image.SixelImage.encode_compact.Goals as goal
 use Rattle.std.proofs.lemmas.Bool.Decides.{nat_tests}
 

@@ -3,7 +3,7 @@ use Rattle.std.specs.Prelude.{All, OnOk, string_bytes}
 use Rattle.sixel_base.specs.CallFault.{color_count_fault}
 use Rattle.sixel_base.specs.Payload.{Image}
 use Rattle.icy_sixel.specs.ImageView.{image_value}
-use Rattle.sixel_encoder.proofs.RefinedAlike.{hidden-refined}
+use Rattle.sixel_encoder.proofs.drawings.RefinedAlike.{hidden-refined}
 use Rattle.icy_sixel.proofs.sixel_image.SixelImage.encode_refined.Goals as goal
 use Rattle.std.proofs.Common.{arith}
 use Rattle.std.proofs.lemmas.Bool.Decides.{nat_tests}

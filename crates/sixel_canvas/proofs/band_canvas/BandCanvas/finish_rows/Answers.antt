@@ -1,7 +1,7 @@
 use Rattle.std.proofs.Common.{◌-◌, ◌≤◌, ap, ◌∙◌, arith}
 use Rattle.std.specs.Prelude.{nat_lt, if◌then◌else◌}
 use Rattle.sixel_canvas.specs.inside.BandCanvas.{BandCanvasState, band_canvas_shown}
-use Rattle.sixel_canvas.specs.inside.FinalRows.{final}
+use Rattle.sixel_canvas.specs.inside.RowsState.{final}
 use Rattle.sixel_canvas.specs.inside.ReleasedRows.{released_pixel}
 use Rattle.sixel_canvas.specs.inside.TaggedBand.{tagged_cell}
 use Rattle.sixel_canvas.proofs.ReleasedRows.{above_clear, above_handed}

@@ -3,7 +3,7 @@ use Rattle.std.proofs.Common.{ap, arith, length-drop, length-take}
 use Rattle.std.proofs.Math.Nat.{mul-le-mul, mul-le-mul_right}
 use Rattle.sixel_base.specs.Picture.{joined}
 use Rattle.std.proofs.lemmas.Grind.{common_steps}
-use Rattle.sixel_canvas.specs.inside.FinalRows.{RowsState}
+use Rattle.sixel_canvas.specs.inside.RowsState.{RowsState}
 use Rattle.sixel_canvas.proofs.MovedRows.{moved_within}
 use Rattle.sixel_canvas.proofs.ReleasedRows.{dropped}
 use Rattle.sixel_canvas.proofs.RowBytes.{part_len_is, row_copied, row_len, when_ok}

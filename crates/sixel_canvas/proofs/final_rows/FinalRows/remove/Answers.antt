@@ -1,5 +1,5 @@
 use Rattle.std.proofs.Common.{◌≡◌, ℕ, ◌+◌, ◌*◌, ◌∙◌, ap, drop, arith}
-use Rattle.sixel_canvas.specs.inside.FinalRows.{RowsState, final}
+use Rattle.sixel_canvas.specs.inside.RowsState.{RowsState, final}
 use Rattle.sixel_canvas.proofs.ReleasedRows.{dropped, final_removed, removed}
 use Rattle.sixel_canvas.proofs.final_rows.FinalRows.remove.Goals as goal
 

@@ -1,4 +1,4 @@
-use Rattle.sixel_canvas.specs.inside.FinalRows.{final}
+use Rattle.sixel_canvas.specs.inside.RowsState.{final}
 use Rattle.sixel_canvas.proofs.RowBytes.{taken, taken_len}
 use Rattle.sixel_canvas.proofs.final_rows.FinalRows.take.Goals as goal
 use Rattle.std.proofs.Common.{arith}

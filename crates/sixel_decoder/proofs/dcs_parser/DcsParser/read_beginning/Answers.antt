@@ -5,9 +5,10 @@ use Rattle.sixel_decoder.specs.declared.dcs_parser.DcsState.{DcsState}
 use Rattle.sixel_decoder.specs.declared.dcs_parser.DcsState.TheVariants as states
 use Rattle.sixel_base.specs.Dcs.{stage}
 use Rattle.sixel_decoder.specs.inside.DcsParser.{IsInPayload, HasFollowed}
-use Rattle.sixel_decoder.proofs.DcsChunks.{heading, head_or_payload, head_fine, stage_refuses}
-use Rattle.sixel_decoder.proofs.DcsChunks.{head_follows, all_counted, entered_follows}
-use Rattle.sixel_decoder.proofs.DcsChunks.{entered_refuses}
+use Rattle.sixel_decoder.proofs.dcs_sequences.Chunks.{heading, head_or_payload, head_fine}
+use Rattle.sixel_decoder.proofs.dcs_sequences.Chunks.{stage_refuses}
+use Rattle.sixel_decoder.proofs.dcs_sequences.Chunks.{head_follows, all_counted, entered_follows}
+use Rattle.sixel_decoder.proofs.dcs_sequences.Chunks.{entered_refuses}
 use Rattle.sixel_decoder.proofs.dcs_parser.DcsParser.read_beginning.Goals as goal
 
 pub returns-in_err-start-clause-follows : goal.returns-in_err-start-clause-follows

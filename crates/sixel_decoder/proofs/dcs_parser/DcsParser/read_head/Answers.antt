@@ -5,7 +5,7 @@ use Rattle.std.proofs.lemmas.Result.{err_from_is_err_and}
 use Rattle.sixel_base.specs.declared.state.DecoderState.{DecoderState}
 use Rattle.sixel_base.specs.Dcs.{stage}
 use Rattle.sixel_decoder.specs.inside.DcsParser.{HasFollowed, is_head, IsStageFault}
-use Rattle.sixel_decoder.proofs.Terminators.{refused_stays, pieces_join, pieces_step}
+use Rattle.sixel_decoder.proofs.dcs_sequences.Terminators.{refused_stays, pieces_join, pieces_step}
 use Rattle.sixel_decoder.proofs.dcs_parser.DcsParser.read_head.Goals as goal
 use Rattle.std.proofs.lemmas.Bool.Decides.{nat_tests}
 

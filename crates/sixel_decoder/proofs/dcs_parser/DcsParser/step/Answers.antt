@@ -8,7 +8,8 @@ use Rattle.sixel_base.proofs.ToleratedTokens.{fault-none}
 use Rattle.sixel_decoder.specs.Session.{Session}
 use Rattle.sixel_decoder.specs.inside.DcsParser.{HasFollowed, IsInHeader, IsInPayload}
 use Rattle.sixel_decoder.specs.declared.dcs_parser.DcsState.{DcsState}
-use Rattle.sixel_decoder.proofs.DcsHeaders.{header_goes_on, header_begins, header_refuses}
+use Rattle.sixel_decoder.proofs.dcs_sequences.Headers.{header_goes_on, header_begins}
+use Rattle.sixel_decoder.proofs.dcs_sequences.Headers.{header_refuses}
 use Rattle.sixel_decoder.proofs.dcs_parser.DcsParser.step.Goals as goal
 use Rattle.std.proofs.Common.{arith}
 use Rattle.std.proofs.lemmas.Bool.Decides.{nat_tests}

@@ -9,9 +9,9 @@ use Rattle.sixel_decoder.specs.Reception.{OfString, of_sequence}
 use Rattle.sixel_decoder.specs.declared.received.Status.TheVariants.{Dcs}
 use Rattle.sixel_decoder.specs.inside.DcsParser.{is_failed}
 use Rattle.sixel_decoder.specs.inside.DcsReader.{session_of}
-use Rattle.sixel_decoder.proofs.FedImages.{image_fed, image_rejected}
-use Rattle.sixel_decoder.proofs.ImageEnds.{end_of, refused_begun}
-use Rattle.sixel_decoder.proofs.Sessions.{followed_sound}
+use Rattle.sixel_decoder.proofs.chunks.FedImages.{image_fed, image_rejected}
+use Rattle.sixel_decoder.proofs.images.ImageEnds.{end_of, refused_begun}
+use Rattle.sixel_decoder.proofs.chunks.Sessions.{followed_sound}
 use Rattle.sixel_decoder.proofs.dcs_reader.DcsReader.feed.Given.{Over}
 use Rattle.sixel_decoder.proofs.dcs_reader.DcsReader.feed.Goals as goal
 

@@ -4,8 +4,8 @@ use Rattle.sixel_base.specs.Payload.{payload_fault}
 use Rattle.sixel_base.specs.Stroke.{Origin}
 use Rattle.sixel_decoder.specs.inside.DcsParser.{HasFollowed, IsInPayload}
 use Rattle.sixel_decoder.specs.declared.dcs_parser.DcsState.{DcsState}
-use Rattle.sixel_decoder.proofs.DcsFinishes.{finish_sound, finish_told, taken_in}
-use Rattle.sixel_decoder.proofs.DcsPayloads.{found_reading}
+use Rattle.sixel_decoder.proofs.dcs_sequences.Finishes.{finish_sound, finish_told, taken_in}
+use Rattle.sixel_decoder.proofs.dcs_sequences.Payloads.{found_reading}
 use Rattle.sixel_decoder.proofs.dcs_reader.DcsReader.finish.Goals as goal
 
 pub returns-then-can_finish : goal.returns-then-can_finish

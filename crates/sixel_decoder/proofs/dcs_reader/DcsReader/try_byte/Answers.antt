@@ -9,9 +9,9 @@ use Rattle.sixel_decoder.specs.declared.dcs_parser.DcsState.TheVariants.{Payload
 use Rattle.sixel_decoder.specs.declared.received.Status.TheVariants.{Dcs}
 use Rattle.sixel_decoder.specs.inside.DcsParser.{Follows, HasFollowed, IsInPayload, is_failed}
 use Rattle.sixel_decoder.specs.inside.DcsReader.{session_of}
-use Rattle.sixel_decoder.proofs.FedImages.{image_fed}
-use Rattle.sixel_decoder.proofs.Feeds.{open_follows}
-use Rattle.sixel_decoder.proofs.Sessions.{followed_sound}
+use Rattle.sixel_decoder.proofs.chunks.FedImages.{image_fed}
+use Rattle.sixel_decoder.proofs.chunks.Feeds.{open_follows}
+use Rattle.sixel_decoder.proofs.chunks.Sessions.{followed_sound}
 use Rattle.sixel_decoder.proofs.dcs_reader.DcsReader.try_byte.Given.{Over}
 use Rattle.sixel_decoder.proofs.dcs_reader.DcsReader.try_byte.Goals as goal
 

@@ -4,7 +4,7 @@ use Rattle.std.specs.Simd.Lanes.{fold_l}
 use Rattle.std.specs.Int.Bits.{bit_or}
 use Rattle.sixel_base.specs.DrawnHeight.{lowered, set_rows}
 use Rattle.sixel_decoder.specs.inside.DrawnRows.{together}
-use Rattle.sixel_decoder.proofs.SetRows.{lowered-again, set_rows-or}
+use Rattle.sixel_decoder.proofs.drawing.SetRows.{lowered-again, set_rows-or}
 use Rattle.sixel_decoder.proofs.drawn_rows.DrawnRows.add.Goals as goal
 
 pub returns : goal.returns

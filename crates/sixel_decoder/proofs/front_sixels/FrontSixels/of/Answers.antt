@@ -1,5 +1,5 @@
 use Rattle.std.proofs.Common.{arith}
-use Rattle.sixel_decoder.proofs.FrontBits.{front_blank, front_list, front_six}
+use Rattle.sixel_decoder.proofs.chunks.FrontBits.{front_blank, front_list, front_six}
 use Rattle.sixel_decoder.proofs.front_sixels.FrontSixels.of.Goals as goal
 
 pub returns-clause-bits : goal.returns-clause-bits

@@ -1,9 +1,9 @@
 use Rattle.std.proofs.Common.{◌≡◌, ℕ, ◌+◌, ◌≤◌, List, length, take, refl, sym, ap, ◌∙◌, arith}
 use Rattle.std.specs.Prelude.{fold}
 use Rattle.sixel_base.specs.History.{read}
-use Rattle.sixel_decoder.proofs.SixelRuns.{IsRun-take, fold_one, fold_run, length-front}
-use Rattle.sixel_decoder.proofs.SixelRuns.{length-bits_of, with_sixels}
-use Rattle.sixel_decoder.proofs.PaintedRuns.{Shows-eight}
+use Rattle.sixel_decoder.proofs.drawing.SixelRuns.{IsRun-take, fold_one, fold_run, length-front}
+use Rattle.sixel_decoder.proofs.drawing.SixelRuns.{length-bits_of, with_sixels}
+use Rattle.sixel_decoder.proofs.drawing.PaintedRuns.{Shows-eight}
 use Rattle.sixel_decoder.proofs.painter.Painter.draw_front.Goals as goal
 
 pub returns-then-self-len-clause-draws : goal.returns-then-self-len-clause-draws

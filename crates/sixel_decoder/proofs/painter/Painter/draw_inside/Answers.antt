@@ -3,7 +3,7 @@ use Rattle.std.proofs.lemmas.Bool.{le-ltb, lt-ltb}
 use Rattle.std.proofs.lemmas.Bool.Decides.{nat_tests}
 use Rattle.sixel_base.specs.Clip.{clipped_bits, is_pixel_inside}
 use Rattle.sixel_base.specs.Limits.{Limit}
-use Rattle.sixel_decoder.proofs.Clips.{covers_clipped, covers_outside}
+use Rattle.sixel_decoder.proofs.drawing.Clips.{covers_clipped, covers_outside}
 use Rattle.sixel_decoder.proofs.painter.Painter.draw_inside.Goals as goal
 use Rattle.sixel_decoder.proofs.painter.Painter.draw_inside.Goals.{
   then-from-columns+then-top-rows+in_ok-draw,

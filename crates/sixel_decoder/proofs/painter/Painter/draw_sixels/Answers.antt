@@ -1,6 +1,6 @@
 use Rattle.std.proofs.Common.{◌≡◌, true, sym, ◌∙◌}
 use Rattle.sixel_base.specs.Fault.{is_fault}
-use Rattle.sixel_decoder.proofs.LenientTokens.{has_drawn_front, has_drawn_ignored}
+use Rattle.sixel_decoder.proofs.drawing.LenientTokens.{has_drawn_front, has_drawn_ignored}
 use Rattle.sixel_decoder.proofs.painter.Painter.draw_sixels.Goals as goal
 
 pub returns-in-Ok-clause-tolerates : goal.returns-in-Ok-clause-tolerates

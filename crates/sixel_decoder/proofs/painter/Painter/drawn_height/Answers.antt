@@ -1,4 +1,4 @@
-use Rattle.sixel_decoder.proofs.ShownRows.{drawn_fits, shown_drawn}
+use Rattle.sixel_decoder.proofs.drawing.ShownRows.{drawn_fits, shown_drawn}
 use Rattle.sixel_decoder.proofs.painter.Painter.drawn_height.Goals as goal
 use Rattle.std.proofs.Common.{arith}
 use Rattle.std.proofs.lemmas.Bool.Decides.{nat_tests}

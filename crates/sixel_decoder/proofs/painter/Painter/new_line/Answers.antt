@@ -1,5 +1,5 @@
 use Rattle.std.proofs.Common.{arith}
-use Rattle.sixel_decoder.proofs.ShownRows.{drawn_fits, shown_drawn}
+use Rattle.sixel_decoder.proofs.drawing.ShownRows.{drawn_fits, shown_drawn}
 use Rattle.sixel_decoder.proofs.painter.Painter.new_line.Goals as goal
 
 pub returns-clause-draws : goal.returns-clause-draws

@@ -10,8 +10,8 @@ use Rattle.sixel_base.specs.Picture.{joined, picture}
 use Rattle.sixel_base.specs.Place.{raster_height}
 use Rattle.sixel_base.proofs.PictureBytes.{joined-add}
 use Rattle.sixel_canvas.proofs.Pictures.{picture_same}
-use Rattle.sixel_decoder.proofs.Clips.{clipped_picture}
-use Rattle.sixel_decoder.proofs.ImageAreas.{low}
+use Rattle.sixel_decoder.proofs.drawing.Clips.{clipped_picture}
+use Rattle.sixel_decoder.proofs.drawing.ImageAreas.{low}
 use Rattle.sixel_decoder.proofs.painter.Painter.take_image.Goals as goal
 
 -- the rows that are left, below those above the first of them

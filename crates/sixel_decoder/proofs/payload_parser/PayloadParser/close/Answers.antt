@@ -2,7 +2,7 @@ use Rattle.std.proofs.Common.{refl, subst}
 use Rattle.sixel_decoder.specs.inside.PayloadParser.{IsOpen, StandsIn}
 use Rattle.sixel_decoder.specs.declared.payload_parser.OpenCommand.{OpenCommand}
 use Rattle.sixel_base.specs.History.{Repeat, Raster, Color}
-use Rattle.sixel_decoder.proofs.LenientTokens.{has_drawn_more, tolerates}
+use Rattle.sixel_decoder.proofs.drawing.LenientTokens.{has_drawn_more, tolerates}
 use Rattle.sixel_decoder.proofs.payload_parser.PayloadParser.close.Goals as goal
 
 pub returns-in-InRepeat-clause-drawn : goal.returns-in-InRepeat-clause-drawn

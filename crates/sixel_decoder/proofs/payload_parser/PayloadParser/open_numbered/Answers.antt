@@ -1,4 +1,4 @@
-use Rattle.sixel_decoder.proofs.OpenCommands.{Stands-color, Stands-repeat}
+use Rattle.sixel_decoder.proofs.chunks.OpenCommands.{Stands-color, Stands-repeat}
 use Rattle.sixel_decoder.proofs.payload_parser.PayloadParser.open_numbered.Goals as goal
 use Rattle.std.proofs.Common.{arith}
 

@@ -6,14 +6,15 @@ use Rattle.sixel_base.specs.History.{Sixel}
 use Rattle.sixel_base.specs.Lenient.{fault}
 use Rattle.sixel_base.specs.Bytes.{is_sixel}
 use Rattle.sixel_decoder.specs.inside.Runs.{IsPrintable}
-use Rattle.sixel_decoder.proofs.ChunkPlaces.{feeds_refused, feeds_refused_end}
-use Rattle.sixel_decoder.proofs.ChunkPlaces.{feeds_refused_printable, feeds_terminated, feeds_whole}
-use Rattle.sixel_decoder.proofs.ChunkPlaces.{first_ahead, printable_from_sixel, reaches_ignored}
-use Rattle.sixel_decoder.proofs.ChunkPlaces.{reaches_pushed, reaches_read, reads_before}
-use Rattle.sixel_decoder.proofs.ChunkPlaces.{reads_whole, sixel_from_test, splits_at}
-use Rattle.sixel_decoder.proofs.ParserSteps.{refused_close}
-use Rattle.sixel_decoder.proofs.OpenCommands.{goes_on_numbered}
-use Rattle.sixel_decoder.proofs.SixelRuns.{Stands-run, goes_on_byte, refused_sixel}
+use Rattle.sixel_decoder.proofs.chunks.Places.{feeds_refused, feeds_refused_end}
+use Rattle.sixel_decoder.proofs.chunks.Places.{feeds_refused_printable, feeds_terminated}
+use Rattle.sixel_decoder.proofs.chunks.Places.{feeds_whole}
+use Rattle.sixel_decoder.proofs.chunks.Places.{first_ahead, printable_from_sixel, reaches_ignored}
+use Rattle.sixel_decoder.proofs.chunks.Places.{reaches_pushed, reaches_read, reads_before}
+use Rattle.sixel_decoder.proofs.chunks.Places.{reads_whole, sixel_from_test, splits_at}
+use Rattle.sixel_decoder.proofs.chunks.ParserSteps.{refused_close}
+use Rattle.sixel_decoder.proofs.chunks.OpenCommands.{goes_on_numbered}
+use Rattle.sixel_decoder.proofs.drawing.SixelRuns.{Stands-run, goes_on_byte, refused_sixel}
 use Rattle.sixel_decoder.proofs.payload_parser.PayloadParser.read_chunk.Goals as goal
 use Rattle.sixel_decoder.proofs.payload_parser.PayloadParser.read_chunk.Goals.{
   then-not-is_ignored+in_ok-push,

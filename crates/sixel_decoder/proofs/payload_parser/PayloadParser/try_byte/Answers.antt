@@ -1,6 +1,6 @@
 use Rattle.std.proofs.Common.{sym, ◌∙◌, arith}
-use Rattle.sixel_decoder.proofs.ChunkPlaces.{sixel_from_test}
-use Rattle.sixel_decoder.proofs.ParserSteps.{stands_goes_on}
+use Rattle.sixel_decoder.proofs.chunks.Places.{sixel_from_test}
+use Rattle.sixel_decoder.proofs.chunks.ParserSteps.{stands_goes_on}
 use Rattle.sixel_decoder.proofs.payload_parser.PayloadParser.try_byte.Goals as goal
 
 pub try_sixel-requires : goal.try_sixel-requires

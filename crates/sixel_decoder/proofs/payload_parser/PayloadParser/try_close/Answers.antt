@@ -1,7 +1,7 @@
 use Rattle.std.proofs.Common.{◌≡◌, subst, rules}
 use Rattle.sixel_base.specs.History.{Color}
 use Rattle.sixel_decoder.specs.declared.payload_parser.OpenCommand.TheVariants.{InColor}
-use Rattle.sixel_decoder.proofs.LenientTokens.{has_drawn_more}
+use Rattle.sixel_decoder.proofs.drawing.LenientTokens.{has_drawn_more}
 use Rattle.sixel_decoder.specs.inside.PayloadParser.{IsOpen, StandsIn}
 use Rattle.sixel_decoder.specs.declared.payload_parser.OpenCommand.{OpenCommand}
 use Rattle.sixel_decoder.proofs.payload_parser.PayloadParser.try_close.Goals as goal

@@ -1,5 +1,5 @@
 use Rattle.std.proofs.Common.{◌∙◌}
-use Rattle.sixel_decoder.proofs.ChunkPlaces.{reaches_printable}
+use Rattle.sixel_decoder.proofs.chunks.Places.{reaches_printable}
 use Rattle.sixel_decoder.proofs.payload_parser.PayloadParser.try_front.Goals as goal
 
 pub front-preserved : goal.front-preserved

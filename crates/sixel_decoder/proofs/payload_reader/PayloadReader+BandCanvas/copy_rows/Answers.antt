@@ -1,4 +1,4 @@
-use Rattle.sixel_decoder.proofs.FinalRows.{pixel_settled}
+use Rattle.sixel_decoder.proofs.images.StableRows.{pixel_settled}
 use Rattle.sixel_decoder.proofs.payload_reader.PayloadReader+BandCanvas.copy_rows.Goals as goal
 use Rattle.std.proofs.Common.{arith}
 use Rattle.std.proofs.lemmas.Bool.Decides.{nat_tests}

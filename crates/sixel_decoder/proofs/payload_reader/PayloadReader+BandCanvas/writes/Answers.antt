@@ -1,6 +1,6 @@
 use Rattle.std.proofs.Common.{◌∙◌, arith, rules}
 use Rattle.sixel_base.specs.Payload.{settled_tokens}
-use Rattle.sixel_decoder.proofs.BandCosts.{band_moved}
+use Rattle.sixel_decoder.proofs.drawing.BandCosts.{band_moved}
 use Rattle.sixel_decoder.proofs.payload_reader.PayloadReader+BandCanvas.writes.Goals as goal
 
 pub returns : goal.returns

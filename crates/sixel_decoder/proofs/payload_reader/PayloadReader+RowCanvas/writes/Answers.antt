@@ -1,5 +1,5 @@
 use Rattle.std.proofs.Common.{arith}
-use Rattle.sixel_decoder.proofs.RunCosts.{history_cost}
+use Rattle.sixel_decoder.proofs.drawing.RunCosts.{history_cost}
 use Rattle.sixel_decoder.proofs.payload_reader.PayloadReader+RowCanvas.writes.Goals as goal
 use Rattle.std.proofs.lemmas.Bool.Decides.{nat_tests}
 

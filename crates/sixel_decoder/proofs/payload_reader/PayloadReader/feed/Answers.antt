@@ -13,11 +13,11 @@ use Rattle.sixel_decoder.specs.Reception.{of_payload}
 use Rattle.sixel_decoder.specs.declared.payload_parser.PayloadParser.{PayloadParser}
 use Rattle.sixel_decoder.specs.declared.payload_reader.PayloadState.{PayloadState}
 use Rattle.sixel_decoder.specs.inside.PayloadReader.{session_of, parser_of, HasRead}
-use Rattle.sixel_decoder.proofs.Chunks.{ended_goes_on, ended_reads, open_goes_on}
-use Rattle.sixel_decoder.proofs.DcsEnds.{terminator_same}
-use Rattle.sixel_decoder.proofs.FedImages.{image_rejected}
-use Rattle.sixel_decoder.proofs.Feeds.{payload_fed}
-use Rattle.sixel_decoder.proofs.Sessions.{read_sound}
+use Rattle.sixel_decoder.proofs.chunks.Joined.{ended_goes_on, ended_reads, open_goes_on}
+use Rattle.sixel_decoder.proofs.dcs_sequences.Ends.{terminator_same}
+use Rattle.sixel_decoder.proofs.chunks.FedImages.{image_rejected}
+use Rattle.sixel_decoder.proofs.chunks.Feeds.{payload_fed}
+use Rattle.sixel_decoder.proofs.chunks.Sessions.{read_sound}
 use Rattle.sixel_decoder.proofs.payload_reader.PayloadReader.feed.Goals as goal
 
 -- the terminator that is stored is the first one

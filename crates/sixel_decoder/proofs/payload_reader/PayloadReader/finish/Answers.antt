@@ -18,7 +18,7 @@ use Rattle.sixel_decoder.specs.declared.payload_reader.PayloadState.{PayloadStat
 use Rattle.sixel_decoder.specs.declared.payload_reader.PayloadState.TheVariants as states
 use Rattle.sixel_decoder.specs.inside.PayloadReader.{session_of, parser_of, HasRead}
 use Rattle.sixel_decoder.specs.declared.decoded_payload.DecodedPayload.{DecodedPayload}
-use Rattle.sixel_decoder.proofs.PayloadFaults.{payload_ends}
+use Rattle.sixel_decoder.proofs.chunks.PayloadFaults.{payload_ends}
 use Rattle.sixel_decoder.proofs.payload_reader.PayloadReader.finish.Goals as goal
 use Rattle.std.proofs.Common.{arith}
 use Rattle.std.proofs.lemmas.Bool.Decides.{nat_tests}

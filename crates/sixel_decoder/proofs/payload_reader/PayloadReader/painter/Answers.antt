@@ -1,4 +1,4 @@
-use Rattle.sixel_decoder.proofs.Chunks.{shown_settled}
+use Rattle.sixel_decoder.proofs.chunks.Joined.{shown_settled}
 use Rattle.sixel_decoder.proofs.payload_reader.PayloadReader.painter.Goals as goal
 use Rattle.std.proofs.Common.{arith}
 

@@ -1,7 +1,8 @@
 use Rattle.std.proofs.Common.{◌≡◌, ◌<◌, ◌+◌, ◌-◌, ◌*◌, take, drop, arith}
 use Rattle.std.proofs.lemmas.List.{with_items_is}
 use Rattle.sixel_encoder.specs.inside.Grid.{grid_row}
-use Rattle.sixel_encoder.proofs.RowParts.{part-row, All-grid_row, cell-put_own, cell-put_other}
+use Rattle.sixel_encoder.proofs.band_rows.RowParts.{part-row, All-grid_row, cell-put_own}
+use Rattle.sixel_encoder.proofs.band_rows.RowParts.{cell-put_other}
 use Rattle.sixel_encoder.proofs.band.BandRows.push_entry.Goals as goal
 use Rattle.std.proofs.lemmas.Bool.Decides.{nat_tests}
 

@@ -3,7 +3,7 @@ use Rattle.std.proofs.Common.{ap, sym, ◌∙◌, arith}
 use Rattle.std.proofs.lemmas.List.{append-nil, get_or_default, length-set}
 use Rattle.sixel_encoder.specs.declared.band.BandRows.{BandRows}
 use Rattle.sixel_encoder.proofs.JoinedLists.{joined-none}
-use Rattle.sixel_encoder.proofs.Progress.{progress-used, progress-unused, progress-same}
+use Rattle.sixel_encoder.proofs.band_rows.Progress.{progress-used, progress-unused, progress-same}
 use Rattle.sixel_encoder.proofs.band.BandRows.push_rows.Goals as goal
 use Rattle.sixel_encoder.proofs.band.BandRows.push_rows.Goals.{then-index+in_ok-push_entry}
 use Rattle.sixel_encoder.proofs.band.BandRows.push_rows.Goals.{else-index}

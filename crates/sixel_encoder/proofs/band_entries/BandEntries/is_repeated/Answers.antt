@@ -1,5 +1,5 @@
 use Rattle.std.proofs.Common.{arith}
-use Rattle.sixel_encoder.proofs.ColumnLanes.{repeated-lanes}
+use Rattle.sixel_encoder.proofs.band_rows.ColumnLanes.{repeated-lanes}
 use Rattle.sixel_encoder.proofs.band_entries.BandEntries.is_repeated.Goals as goal
 
 pub returns : goal.returns

@@ -1,7 +1,7 @@
 use Rattle.std.proofs.Common.{◌≡◌, arith, slice_index}
 use Rattle.std.proofs.lemmas.Grind.{get_or-set_at}
 use Rattle.std.proofs.lemmas.List.{get_or-set_other}
-use Rattle.sixel_encoder.proofs.PlainBound.{added-none, added-some, bound-end}
+use Rattle.sixel_encoder.proofs.plain_text.Bound.{added-none, added-some, bound-end}
 use Rattle.sixel_encoder.proofs.bound.RowRuns.end.Goals as goal
 use Rattle.std.proofs.lemmas.Bool.Decides.{nat_tests}
 

@@ -1,8 +1,9 @@
 use Rattle.std.proofs.Common.{◌≤◌, length, ◌∙◌, arith}
 use Rattle.std.proofs.lemmas.List.FromFn.{length-map-range_with_len}
 use Rattle.sixel_encoder.specs.inside.Indexed.{drawing_of}
-use Rattle.sixel_encoder.proofs.CompactSteps.{IsWithin-drawn, band-selected, band-text, drawn-end}
-use Rattle.sixel_encoder.proofs.CompactSteps.{drawn-made, drawn-more, text-end, text-more}
+use Rattle.sixel_encoder.proofs.compact_form.Steps.{IsWithin-drawn, band-selected, band-text}
+use Rattle.sixel_encoder.proofs.compact_form.Steps.{drawn-end}
+use Rattle.sixel_encoder.proofs.compact_form.Steps.{drawn-made, drawn-more, text-end, text-more}
 use Rattle.sixel_encoder.proofs.compact.BandWriter.push_band.Goals as goal
 use Rattle.std.proofs.lemmas.Bool.Decides.{nat_tests}
 

@@ -1,9 +1,9 @@
 use Rattle.std.proofs.Common.{ap, ◌∙◌, arith}
 use Rattle.sixel_encoder.specs.inside.Indexed.{drawing_of}
-use Rattle.sixel_encoder.proofs.Counts.{flat_map-more, flat_map-start}
-use Rattle.sixel_encoder.proofs.DrawnHeight.{bands_up_to-le}
-use Rattle.sixel_encoder.proofs.SegmentOrder.{register_after-more, register_after-none}
-use Rattle.sixel_encoder.proofs.TextLength.{length-band, length-bands}
+use Rattle.sixel_encoder.proofs.compact_form.Counts.{flat_map-more, flat_map-start}
+use Rattle.sixel_encoder.proofs.round_trip.DrawnHeight.{bands_up_to-le}
+use Rattle.sixel_encoder.proofs.compact_form.SegmentOrder.{register_after-more, register_after-none}
+use Rattle.sixel_encoder.proofs.plain_text.Length.{length-band, length-bands}
 use Rattle.sixel_encoder.proofs.compact.BandWriter.push_bands.Goals as goal
 use Rattle.std.proofs.lemmas.Bool.Decides.{nat_tests}
 

@@ -1,6 +1,6 @@
 use Rattle.std.proofs.Common.{arith}
 use Rattle.std.proofs.lemmas.List.FromFn.{length-map-range_with_len}
-use Rattle.sixel_encoder.proofs.CompactSteps.{segment-text}
+use Rattle.sixel_encoder.proofs.compact_form.Steps.{segment-text}
 use Rattle.sixel_encoder.proofs.compact.BandWriter.push_segment.Goals as goal
 use Rattle.std.proofs.lemmas.Bool.Decides.{nat_tests}
 

@@ -4,8 +4,9 @@ use Rattle.std.specs.Prelude.{slice_index}
 use Rattle.std.proofs.lemmas.List.{get_or_default}
 use Rattle.sixel_encoder.specs.Text.{sixel_of}
 use Rattle.sixel_encoder.specs.inside.Indexed.{drawing_of}
-use Rattle.sixel_encoder.proofs.FillSteps.{IsBlocking, blocked-after, blocked-more, fill-end}
-use Rattle.sixel_encoder.proofs.FillSteps.{fill-off, fill-on}
+use Rattle.sixel_encoder.proofs.compact_form.FillSteps.{IsBlocking, blocked-after, blocked-more}
+use Rattle.sixel_encoder.proofs.compact_form.FillSteps.{fill-end}
+use Rattle.sixel_encoder.proofs.compact_form.FillSteps.{fill-off, fill-on}
 use Rattle.sixel_encoder.proofs.segment_rows.SegmentRows.draw.Goals as goal
 use Rattle.sixel_encoder.proofs.segment_rows.SegmentRows.draw.Goals.{then-more-wider-eq0}
 use Rattle.sixel_encoder.proofs.segment_rows.SegmentRows.draw.Goals.{

@@ -2,7 +2,7 @@ use Rattle.std.proofs.Common.{◌≡◌, ◌-◌, ◌+◌, ◌≤◌, length, sl
 use Rattle.sixel_encoder.specs.Compact.{segment_row}
 use Rattle.sixel_encoder.specs.Text.{sixel_of}
 use Rattle.sixel_encoder.specs.inside.Indexed.{drawing_of}
-use Rattle.sixel_encoder.proofs.FillSteps.{IsBlocking, state}
+use Rattle.sixel_encoder.proofs.compact_form.FillSteps.{IsBlocking, state}
 use Rattle.sixel_encoder.proofs.segment_rows.SegmentRows.draw.Given as goal
 
 abbrev pub invariant-loop-column : goal.invariant-loop-column

@@ -1,4 +1,4 @@
-use Rattle.sixel_encoder.proofs.LeftSegments.{row-small}
+use Rattle.sixel_encoder.proofs.compact_form.LeftSegments.{row-small}
 use Rattle.sixel_encoder.proofs.segment_rows.SegmentRows.push.Goals as goal
 use Rattle.std.proofs.Common.{arith}
 

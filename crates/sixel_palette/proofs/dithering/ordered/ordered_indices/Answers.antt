@@ -3,8 +3,9 @@ use Rattle.std.specs.Prelude.{length}
 use Rattle.std.proofs.lemmas.List.{length-set, get_or-replicate, get_or_past, length-replicate}
 use Rattle.sixel_palette.specs.Dithering.{ordered_color, serpentine}
 use Rattle.sixel_palette.specs.inside.Mapped.{IsIndexAt, mapped_value}
-use Rattle.sixel_palette.proofs.DitheredIndices.{AreEntries-set, HasTarget-more, row-within}
-use Rattle.sixel_palette.proofs.DitheredIndices.{step-visit}
+use Rattle.sixel_palette.proofs.mapped_images.DitheredIndices.{AreEntries-set, HasTarget-more}
+use Rattle.sixel_palette.proofs.mapped_images.DitheredIndices.{row-within}
+use Rattle.sixel_palette.proofs.mapped_images.DitheredIndices.{step-visit}
 use Rattle.std.proofs.lemmas.Bool.Decides.{nat_tests}
 use Rattle.std.proofs.lemmas.Bool.{cases_lt}
 use Rattle.sixel_palette.proofs.dithering.ordered.ordered_indices.Goals as goal

@@ -1,8 +1,8 @@
 use Rattle.std.proofs.Common.{arith, refl}
 use Rattle.sixel_palette.specs.Refined.{sum_to}
-use Rattle.sixel_palette.proofs.PaletteSums.{sum_to-more}
-use Rattle.sixel_palette.proofs.KeptEntries.{nearest-distance}
-use Rattle.sixel_palette.proofs.PaletteError.{number-light}
+use Rattle.sixel_palette.proofs.refinement.Sums.{sum_to-more}
+use Rattle.sixel_palette.proofs.mapped_images.KeptEntries.{nearest-distance}
+use Rattle.sixel_palette.proofs.mapped_images.PaletteError.{number-light}
 use Rattle.std.proofs.lemmas.Bool.Decides.{nat_tests}
 use Rattle.sixel_palette.proofs.dithering.palette_error.index_error.Goals as goal
 

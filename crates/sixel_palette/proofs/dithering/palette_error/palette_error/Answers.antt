@@ -1,7 +1,7 @@
 use Rattle.std.proofs.Common.{arith}
-use Rattle.sixel_palette.proofs.PaletteCounts.{counts-sum}
-use Rattle.sixel_palette.proofs.PaletteError.{error-small}
-use Rattle.sixel_palette.proofs.PaletteRefinement.{refinement-error}
+use Rattle.sixel_palette.proofs.refinement.Counts.{counts-sum}
+use Rattle.sixel_palette.proofs.mapped_images.PaletteError.{error-small}
+use Rattle.sixel_palette.proofs.refinement.Refinement.{refinement-error}
 use Rattle.std.proofs.lemmas.Bool.Decides.{nat_tests}
 use Rattle.sixel_palette.proofs.dithering.palette_error.palette_error.Goals as goal
 

@@ -1,5 +1,5 @@
 use Rattle.std.proofs.Common.{◌≡◌, ◌-◌, ◌+◌, suc, arith, ◌∙◌}
-use Rattle.sixel_palette.proofs.PaletteError.{root-found, root-less}
+use Rattle.sixel_palette.proofs.mapped_images.PaletteError.{root-found, root-less}
 use Rattle.std.proofs.lemmas.Bool.Decides.{nat_tests}
 use Rattle.sixel_palette.proofs.dithering.palette_error.root.Goals as goal
 

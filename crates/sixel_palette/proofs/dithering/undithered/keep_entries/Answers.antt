@@ -4,9 +4,10 @@ use Rattle.std.proofs.lemmas.List.{length-set}
 use Rattle.sixel_palette.specs.Palette.{color_at}
 use Rattle.sixel_palette.specs.Dithering.{serpentine}
 use Rattle.sixel_palette.specs.inside.Mapped.{IsIndexAt, mapped_value}
-use Rattle.sixel_palette.proofs.DitheredIndices.{AreEntries-indices, AreEntries-set}
-use Rattle.sixel_palette.proofs.DitheredIndices.{AreMapped-exact, AreRows-image, HasTarget-more}
-use Rattle.sixel_palette.proofs.DitheredIndices.{IsLater-indices, IsLater-set}
+use Rattle.sixel_palette.proofs.mapped_images.DitheredIndices.{AreEntries-indices, AreEntries-set}
+use Rattle.sixel_palette.proofs.mapped_images.DitheredIndices.{AreMapped-exact, AreRows-image}
+use Rattle.sixel_palette.proofs.mapped_images.DitheredIndices.{HasTarget-more}
+use Rattle.sixel_palette.proofs.mapped_images.DitheredIndices.{IsLater-indices, IsLater-set}
 use Rattle.std.proofs.lemmas.Bool.Decides.{nat_tests}
 use Rattle.sixel_palette.proofs.dithering.undithered.keep_entries.Goals as goal
 

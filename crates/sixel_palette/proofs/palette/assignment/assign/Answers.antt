@@ -1,5 +1,5 @@
 use Rattle.std.proofs.Common.{◌∙◌, arith}
-use Rattle.sixel_palette.proofs.PaletteCounts.{error_is, error-small}
+use Rattle.sixel_palette.proofs.refinement.Counts.{error_is, error-small}
 use Rattle.sixel_palette.proofs.palette.assignment.assign.Goals as goal
 
 pub summed-error-requires-clause-small : goal.summed-error-requires-clause-small

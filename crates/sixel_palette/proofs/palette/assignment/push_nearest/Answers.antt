@@ -1,6 +1,6 @@
 use Rattle.std.proofs.Common.{arith, ◌∙◌}
 use Rattle.std.proofs.lemmas.List.{length_push}
-use Rattle.sixel_palette.proofs.PaletteNearestEntry.{near_pushed}
+use Rattle.sixel_palette.proofs.nearest_entries.NearestEntry.{near_pushed}
 use Rattle.sixel_palette.proofs.palette.assignment.push_nearest.Goals as goal
 
 pub loop-code-preserved : goal.loop-code-preserved

@@ -1,5 +1,5 @@
 use Rattle.std.proofs.Common.{ℕ, ◌+◌, ◌*◌, length, get_or, arith}
-use Rattle.sixel_palette.proofs.PaletteSums.{sum_to-more, sum_to-part}
+use Rattle.sixel_palette.proofs.refinement.Sums.{sum_to-more, sum_to-part}
 use Rattle.sixel_palette.proofs.palette.assignment.summed.Goals as goal
 
 pub overflow_add-sum : goal.overflow_add-sum

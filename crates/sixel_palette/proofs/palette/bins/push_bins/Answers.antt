@@ -4,9 +4,9 @@ use Rattle.std.proofs.lemmas.List.Sums.{sum_by_more}
 use Rattle.sixel_palette.specs.GainCut.{corner}
 use Rattle.sixel_palette.specs.inside.PaletteCodes.{color_of}
 use Rattle.sixel_palette.specs.inside.PaletteSums.{first_counted}
-use Rattle.sixel_palette.proofs.PaletteBins.{counted_more, counted_none, red-le, table_none}
-use Rattle.sixel_palette.proofs.PaletteBins.{whole_bins}
-use Rattle.sixel_palette.proofs.PaletteLists.{increasing-le}
+use Rattle.sixel_palette.proofs.refinement.Bins.{counted_more, counted_none, red-le, table_none}
+use Rattle.sixel_palette.proofs.refinement.Bins.{whole_bins}
+use Rattle.sixel_palette.proofs.colors.Lists.{increasing-le}
 use Rattle.sixel_palette.proofs.palette.bins.push_bins.Goals as goal
 
 pub loop-index-init : goal.loop-index-init

@@ -1,5 +1,5 @@
 use Rattle.std.proofs.Common.{arith}
-use Rattle.sixel_palette.proofs.PaletteBuckets.{box_from_intervals, greatest_none}
+use Rattle.sixel_palette.proofs.traversal.Buckets.{box_from_intervals, greatest_none}
 use Rattle.sixel_palette.proofs.palette.buckets.bucket_of.Goals as goal
 
 pub returns : goal.returns

@@ -1,5 +1,5 @@
 use Rattle.std.proofs.Common.{refl, arith}
-use Rattle.sixel_palette.proofs.PaletteRelaxation.{greatest_more}
+use Rattle.sixel_palette.proofs.traversal.Relaxation.{greatest_more}
 use Rattle.sixel_palette.proofs.palette.buckets.greatest_in.Goals as goal
 
 pub loop-position-preserved : goal.loop-position-preserved

@@ -1,5 +1,5 @@
 use Rattle.std.proofs.Common.{◌*◌, get_or}
-use Rattle.sixel_palette.proofs.PaletteRelaxation.{IsGreatestOf}
+use Rattle.sixel_palette.proofs.traversal.Relaxation.{IsGreatestOf}
 use Rattle.sixel_palette.proofs.palette.buckets.greatest_in.Given as goal
 
 abbrev pub invariant-loop-position : goal.invariant-loop-position

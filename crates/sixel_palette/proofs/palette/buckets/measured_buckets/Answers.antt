@@ -3,7 +3,7 @@ use Rattle.std.proofs.lemmas.List.{length_push}
 use Rattle.sixel_palette.specs.declared.palette.buckets.Bucket.{Bucket}
 use Rattle.sixel_palette.specs.Palette.{no_entry}
 use Rattle.sixel_palette.specs.inside.PaletteBuckets.{IsBucket}
-use Rattle.sixel_palette.proofs.PaletteLists.{all_replicated, each_push}
+use Rattle.sixel_palette.proofs.colors.Lists.{all_replicated, each_push}
 use Rattle.sixel_palette.proofs.palette.buckets.measured_buckets.Goals as goal
 
 pub loop-position-preserved : goal.loop-position-preserved

@@ -1,7 +1,7 @@
 use Rattle.std.proofs.Common.{refl, arith}
-use Rattle.sixel_palette.proofs.PaletteBuckets.{none}
-use Rattle.sixel_palette.proofs.PaletteRelaxation.{buckets_relaxed, relaxed_bucket, old_bucket}
-use Rattle.sixel_palette.proofs.PaletteRelaxation.{nearest_still, nearest_far}
+use Rattle.sixel_palette.proofs.traversal.Buckets.{none}
+use Rattle.sixel_palette.proofs.traversal.Relaxation.{buckets_relaxed, relaxed_bucket, old_bucket}
+use Rattle.sixel_palette.proofs.traversal.Relaxation.{nearest_still, nearest_far}
 use Rattle.sixel_palette.proofs.palette.buckets.relax_buckets.Goals as goal
 
 pub relax_bucket-greatest-requires-clause-some : goal.relax_bucket-greatest-requires-clause-some

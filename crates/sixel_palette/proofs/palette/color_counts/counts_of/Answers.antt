@@ -1,6 +1,6 @@
 use Rattle.std.proofs.Common.{◌∙◌, arith}
 use Rattle.std.proofs.lemmas.List.{take_at}
-use Rattle.sixel_palette.proofs.PaletteCounts.{counts_none}
+use Rattle.sixel_palette.proofs.refinement.Counts.{counts_none}
 use Rattle.sixel_palette.proofs.palette.color_counts.counts_of.Goals as goal
 use Rattle.std.proofs.lemmas.Bool.Decides.{nat_tests}
 

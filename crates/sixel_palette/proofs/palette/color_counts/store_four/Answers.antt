@@ -1,5 +1,5 @@
 use Rattle.std.proofs.Common.{◌≡◌, ◌+◌, arith}
-use Rattle.sixel_palette.proofs.PalettePositions.{positions-more}
+use Rattle.sixel_palette.proofs.bitmaps.Positions.{positions-more}
 use Rattle.sixel_palette.proofs.palette.color_counts.store_four.Goals as goal
 
 pub loop-lane-init : goal.loop-lane-init

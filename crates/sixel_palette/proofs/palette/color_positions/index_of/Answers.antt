@@ -1,6 +1,6 @@
 use Rattle.std.proofs.Common.{◌/◌, ◌%◌, ◌≤◌, refl, ap, arith}
 use Rattle.sixel_palette.specs.inside.PaletteCodes.{color_of}
-use Rattle.sixel_palette.proofs.PaletteFarthest.{nearest_from_entry}
+use Rattle.sixel_palette.proofs.traversal.Farthest.{nearest_from_entry}
 use Rattle.sixel_palette.proofs.palette.color_positions.index_of.Goals as goal
 
 pub bounds-color_indices-position_of : goal.bounds-color_indices-position_of

@@ -1,6 +1,6 @@
 use Rattle.std.proofs.Common.{arith}
 use Rattle.sixel_palette.specs.inside.PaletteCodes.{code_count}
-use Rattle.sixel_palette.proofs.PaletteLists.{increasing-few}
+use Rattle.sixel_palette.proofs.colors.Lists.{increasing-few}
 use Rattle.sixel_palette.proofs.palette.color_positions.set_starts.Goals as goal
 
 pub overflow_cast-starts : goal.overflow_cast-starts

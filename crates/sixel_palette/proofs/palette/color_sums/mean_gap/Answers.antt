@@ -1,5 +1,5 @@
 use Rattle.std.proofs.Common.{◌-◌, arith}
-use Rattle.sixel_palette.proofs.PaletteDistance.{square-le}
+use Rattle.sixel_palette.proofs.colors.Distance.{square-le}
 use Rattle.sixel_palette.proofs.palette.color_sums.mean_gap.Goals as goal
 
 pub returns-clause-small : goal.returns-clause-small

@@ -4,8 +4,9 @@ use Rattle.sixel_palette.specs.declared.palette.gain_cut.Cut.{Cut}
 use Rattle.sixel_palette.specs.declared.palette.color_sums.ColorSums.{ColorSums}
 use Rattle.sixel_palette.specs.GainCut.{best_to, gain}
 use Rattle.sixel_palette.specs.inside.PaletteSums.{prefix_sums, suffix_sums, total}
-use Rattle.sixel_palette.proofs.PaletteCuts.{best_to-more, best_to-same, better-kept, better-taken}
-use Rattle.sixel_palette.proofs.PaletteCuts.{gain-same, no_totals, prefix-more, skipped}
+use Rattle.sixel_palette.proofs.refinement.Cuts.{best_to-more, best_to-same, better-kept}
+use Rattle.sixel_palette.proofs.refinement.Cuts.{better-taken}
+use Rattle.sixel_palette.proofs.refinement.Cuts.{gain-same, no_totals, prefix-more, skipped}
 use Rattle.sixel_palette.proofs.palette.gain_cut.best_cut.Goals as goal
 use Rattle.sixel_palette.specs.declared.palette.gain_cut.Sides.{Sides}
 use Rattle.sixel_palette.specs.inside.PaletteBoxes.{AreGains}

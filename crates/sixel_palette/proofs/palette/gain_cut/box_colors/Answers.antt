@@ -5,7 +5,7 @@ use Rattle.sixel_base.specs.Color.{rgb}
 use Rattle.sixel_palette.specs.ColorSums.{mean_or}
 use Rattle.sixel_palette.specs.GainCut.{Box, box_at, box_sums}
 use Rattle.sixel_palette.specs.Refined.{IsRegisterColor}
-use Rattle.sixel_palette.proofs.PaletteLists.{each_push}
+use Rattle.sixel_palette.proofs.colors.Lists.{each_push}
 use Rattle.sixel_palette.proofs.palette.gain_cut.box_colors.Goals as goal
 
 pub loop-position-preserved : goal.loop-position-preserved

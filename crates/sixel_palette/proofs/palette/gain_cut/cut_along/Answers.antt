@@ -1,7 +1,7 @@
 use Rattle.std.proofs.Common.{◌≡◌, ◌+◌, ◌-◌, length, drop, sym, ◌∙◌, arith}
 use Rattle.std.proofs.lemmas.List.{length-drop, length-take}
 use Rattle.sixel_palette.specs.GainCut.{cut_gain}
-use Rattle.sixel_palette.proofs.PaletteCuts.{best_to-same, gains_of_box, no_gain_above}
+use Rattle.sixel_palette.proofs.refinement.Cuts.{best_to-same, gains_of_box, no_gain_above}
 use Rattle.sixel_palette.proofs.palette.gain_cut.cut_along.Goals as goal
 
 pub returns : goal.returns

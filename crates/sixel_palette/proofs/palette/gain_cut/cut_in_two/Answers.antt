@@ -1,5 +1,5 @@
 use Rattle.std.proofs.Common.{arith}
-use Rattle.sixel_palette.proofs.PaletteCutBoxes.{boxes_cut}
+use Rattle.sixel_palette.proofs.refinement.CutBoxes.{boxes_cut}
 use Rattle.sixel_palette.proofs.palette.gain_cut.cut_in_two.Goals as goal
 
 pub returns-clause-boxes : goal.returns-clause-boxes

@@ -1,7 +1,7 @@
 use Rattle.std.proofs.Common.{ap, sym}
 use Rattle.std.specs.Prelude.{◌==◌}
 use Rattle.std.proofs.lemmas.List.{get_or_default}
-use Rattle.sixel_palette.proofs.PaletteBestBox.{best_gain}
+use Rattle.sixel_palette.proofs.refinement.BestBox.{best_gain}
 use Rattle.sixel_palette.proofs.palette.gain_cut.is_final.Goals as goal
 
 pub returns : goal.returns

@@ -5,8 +5,9 @@ use Rattle.std.proofs.lemmas.List.{nil_from_length}
 use Rattle.std.proofs.lemmas.List.Sorted.{IsPermutation-refl, IsPermutation-trans}
 use Rattle.sixel_palette.specs.declared.palette.gain_cut.ColorBox.{ColorBox}
 use Rattle.sixel_palette.specs.GainCut.{best_box, boxes_after, gain_at, is_final}
-use Rattle.sixel_palette.proofs.PaletteBestBox.{best_gain, best_of_boxes, boxes_final, boxes_more}
-use Rattle.sixel_palette.proofs.PaletteBestBox.{boxes_start}
+use Rattle.sixel_palette.proofs.refinement.BestBox.{best_gain, best_of_boxes, boxes_final}
+use Rattle.sixel_palette.proofs.refinement.BestBox.{boxes_more}
+use Rattle.sixel_palette.proofs.refinement.BestBox.{boxes_start}
 use Rattle.sixel_palette.proofs.palette.gain_cut.push_boxes.Goals as goal
 
 pub loop-count-init : goal.loop-count-init

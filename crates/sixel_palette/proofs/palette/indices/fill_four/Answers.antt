@@ -1,5 +1,5 @@
 use Rattle.std.proofs.Common.{arith}
-use Rattle.sixel_palette.proofs.PaletteFarthest.{Contains-word, word_below, index_from_word}
+use Rattle.sixel_palette.proofs.traversal.Farthest.{Contains-word, word_below, index_from_word}
 use Rattle.sixel_palette.proofs.palette.indices.fill_four.Goals as goal
 
 pub indices_of_four-four-requires-clause-listed : goal.indices_of_four-four-requires-clause-listed

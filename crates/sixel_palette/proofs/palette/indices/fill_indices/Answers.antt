@@ -1,6 +1,6 @@
 use Rattle.std.proofs.Common.{◌≡◌, ◌+◌, ◌*◌, arith}
 use Rattle.std.proofs.lemmas.List.{get_or-replicate}
-use Rattle.sixel_palette.proofs.PaletteFarthest.{index_from_word}
+use Rattle.sixel_palette.proofs.traversal.Farthest.{index_from_word}
 use Rattle.sixel_palette.proofs.palette.indices.fill_indices.Goals as goal
 
 pub loop-four-preserved : goal.loop-four-preserved

@@ -1,4 +1,4 @@
-use Rattle.sixel_palette.proofs.PaletteFarthest.{Contains-word, word_below, index_from_word}
+use Rattle.sixel_palette.proofs.traversal.Farthest.{Contains-word, word_below, index_from_word}
 use Rattle.sixel_palette.proofs.palette.indices.fill_pixel.Goals as goal
 
 pub index_of-requires-clause-listed : goal.index_of-requires-clause-listed

@@ -1,5 +1,5 @@
 use Rattle.std.proofs.Common.{arith}
-use Rattle.sixel_palette.proofs.PaletteLloyd.{improved_kept, improved_taken}
+use Rattle.sixel_palette.proofs.refinement.Lloyd.{improved_kept, improved_taken}
 use Rattle.sixel_palette.proofs.palette.lloyd.improve.Goals as goal
 
 pub returns-clause-improved : goal.returns-clause-improved

@@ -5,7 +5,7 @@ use Rattle.sixel_palette.specs.declared.palette.bins.Bin.{Bin}
 use Rattle.sixel_palette.specs.Lloyd.{mean_bytes}
 use Rattle.sixel_palette.specs.inside.PaletteCodes.{code_count, color_of}
 use Rattle.sixel_palette.specs.inside.PaletteSums.{total}
-use Rattle.sixel_palette.proofs.PaletteLists.{each_push}
+use Rattle.sixel_palette.proofs.colors.Lists.{each_push}
 use Rattle.sixel_palette.proofs.palette.lloyd.mean_codes.Goals as goal
 
 pub loop-bin-preserved : goal.loop-bin-preserved

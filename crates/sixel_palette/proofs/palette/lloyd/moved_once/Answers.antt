@@ -1,9 +1,9 @@
 use Rattle.std.proofs.Common.{◌<◌, length, ap, ◌∙◌, arith}
 use Rattle.sixel_palette.specs.Lloyd.{nearest_index}
 use Rattle.sixel_palette.specs.inside.PaletteSums.{AreIndicesBy}
-use Rattle.sixel_palette.proofs.PaletteColors.{IsColor-color_of}
-use Rattle.sixel_palette.proofs.PaletteLloyd.{entry_of, moved_is, nearest_index-is}
-use Rattle.sixel_palette.proofs.PaletteRefined.{nearest_entry-lt}
+use Rattle.sixel_palette.proofs.colors.Colors.{IsColor-color_of}
+use Rattle.sixel_palette.proofs.refinement.Lloyd.{entry_of, moved_is, nearest_index-is}
+use Rattle.sixel_palette.proofs.refinement.Refined.{nearest_entry-lt}
 use Rattle.sixel_palette.proofs.palette.lloyd.moved_once.Goals as goal
 
 pub returns-clause-moved : goal.returns-clause-moved

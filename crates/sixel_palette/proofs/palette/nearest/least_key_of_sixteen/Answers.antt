@@ -3,7 +3,7 @@ use Rattle.std.proofs.lemmas.List.{get_or-set_other, get_or-set_same, length-set
 use Rattle.std.proofs.lemmas.List.{take_more}
 use Rattle.sixel_palette.specs.inside.PaletteCodes.{color_of}
 use Rattle.sixel_palette.specs.inside.PaletteKeys.{key_of}
-use Rattle.sixel_palette.proofs.PaletteKeys.{none, least_key-nil, least_key-push}
+use Rattle.sixel_palette.proofs.nearest_entries.Keys.{none, least_key-nil, least_key-push}
 use Rattle.sixel_palette.proofs.palette.nearest.least_key_of_sixteen.Goals as goal
 
 pub loop-lane-preserved : goal.loop-lane-preserved

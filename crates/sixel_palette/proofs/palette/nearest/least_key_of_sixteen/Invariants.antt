@@ -2,7 +2,7 @@ use Rattle.std.proofs.Common.{◌≡◌, ℕ, ◌*◌, ◌<◌, length, take, ge
 use Rattle.sixel_palette.specs.Palette.{no_entry}
 use Rattle.sixel_palette.specs.inside.PaletteCodes.{color_of}
 use Rattle.sixel_palette.specs.inside.PaletteKeys.{key_of, least_key}
-use Rattle.sixel_palette.proofs.PaletteKeys.{none}
+use Rattle.sixel_palette.proofs.nearest_entries.Keys.{none}
 use Rattle.sixel_palette.proofs.palette.nearest.least_key_of_sixteen.Given as goal
 
 abbrev pub invariant-loop-lane : goal.invariant-loop-lane

@@ -1,5 +1,5 @@
 use Rattle.std.proofs.Common.{◌≡◌, ◌≢◌, ◌+◌, ◌-◌, ◌%◌, ◌≤◌, length, take}
-use Rattle.sixel_palette.proofs.PaletteKeys.{AreLeastKeys, ArePushed}
+use Rattle.sixel_palette.proofs.nearest_entries.Keys.{AreLeastKeys, ArePushed}
 use Rattle.sixel_palette.proofs.palette.nearest.push_nearest.Given as goal
 
 abbrev pub invariant-loop-position : goal.invariant-loop-position

@@ -1,7 +1,7 @@
 use Rattle.std.proofs.Common.{◌<◌, [], get_or, length, arith}
-use Rattle.sixel_palette.proofs.PaletteColors.{IsColor, distance-lt}
-use Rattle.sixel_palette.proofs.PaletteChoices.{IsColor-shown}
-use Rattle.sixel_palette.proofs.PaletteNearest.{nearest-le}
+use Rattle.sixel_palette.proofs.colors.Colors.{IsColor, distance-lt}
+use Rattle.sixel_palette.proofs.traversal.Choices.{IsColor-shown}
+use Rattle.sixel_palette.proofs.nearest_entries.Nearest.{nearest-le}
 use Rattle.sixel_palette.proofs.palette.nearest_indices.nearest_indices.Goals as goal
 
 pub indices_of-requires-clause-listed : goal.indices_of-requires-clause-listed

@@ -1,6 +1,6 @@
 use Rattle.std.proofs.Common.{◌∙◌, arith}
-use Rattle.sixel_palette.proofs.PaletteCounts.{error_is, error-small}
-use Rattle.sixel_palette.proofs.PaletteTops.{tops_longer}
+use Rattle.sixel_palette.proofs.refinement.Counts.{error_is, error-small}
+use Rattle.sixel_palette.proofs.refinement.Tops.{tops_longer}
 use Rattle.sixel_palette.proofs.palette.refined.refined_entries.Goals as goal
 
 pub summed-requires-clause-small : goal.summed-requires-clause-small

@@ -1,5 +1,5 @@
 use Rattle.std.proofs.Common.{refl, arith}
-use Rattle.sixel_palette.proofs.PaletteRefinement.{refinement-palette}
+use Rattle.sixel_palette.proofs.refinement.Refinement.{refinement-palette}
 use Rattle.sixel_palette.proofs.palette.refined.refined_of.Goals as goal
 
 pub returns : goal.returns

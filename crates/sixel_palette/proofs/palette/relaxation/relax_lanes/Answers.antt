@@ -3,9 +3,9 @@ use Rattle.std.proofs.Common.{refl, ap, cond, nat_lt, sym, ◌∙◌, arith}
 use Rattle.std.proofs.lemmas.Simd.{length-chunk, get_or-chunk, length-replicate, get_or-replicate}
 use Rattle.sixel_palette.specs.Palette.{distance}
 use Rattle.sixel_palette.specs.inside.PaletteCodes.{color_of}
-use Rattle.sixel_palette.proofs.PaletteLanes.{length-chosen, length-smaller, stored_outside}
-use Rattle.sixel_palette.proofs.PaletteLanes.{length-narrow, stored_at, mask_each, least_at}
-use Rattle.sixel_palette.proofs.PaletteLanes.{narrow_chosen, near_stored, stored_here}
+use Rattle.sixel_palette.proofs.traversal.Lanes.{length-chosen, length-smaller, stored_outside}
+use Rattle.sixel_palette.proofs.traversal.Lanes.{length-narrow, stored_at, mask_each, least_at}
+use Rattle.sixel_palette.proofs.traversal.Lanes.{narrow_chosen, near_stored, stored_here}
 use Rattle.sixel_palette.proofs.palette.relaxation.relax_lanes.Goals as goal
 
 pub overflow_cast-own : goal.overflow_cast-own

@@ -1,7 +1,7 @@
 use Rattle.std.proofs.Common.{◌≡◌, ◌+◌, ◌*◌, inl, inr, arith}
 use Rattle.std.proofs.lemmas.Bool.{cases_lt}
-use Rattle.sixel_palette.proofs.PaletteLanes.{greatest_from_lanes, greatest_lanes_more}
-use Rattle.sixel_palette.proofs.PaletteLanes.{length-chosen, length-smaller}
+use Rattle.sixel_palette.proofs.traversal.Lanes.{greatest_from_lanes, greatest_lanes_more}
+use Rattle.sixel_palette.proofs.traversal.Lanes.{length-chosen, length-smaller}
 use Rattle.sixel_palette.proofs.palette.relaxation.relax_whole_bucket.Goals as goal
 
 pub loop-eight-preserved : goal.loop-eight-preserved

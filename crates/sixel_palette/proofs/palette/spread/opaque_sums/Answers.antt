@@ -1,6 +1,6 @@
 use Rattle.std.proofs.Common.{arith}
 use Rattle.std.proofs.lemmas.Bool.Decides.{nat_tests}
-use Rattle.sixel_palette.proofs.PaletteSums.{sum_to-more}
+use Rattle.sixel_palette.proofs.refinement.Sums.{sum_to-more}
 use Rattle.sixel_palette.proofs.palette.spread.opaque_sums.Goals as goal
 
 pub loop-pixel-preserved : goal.loop-pixel-preserved

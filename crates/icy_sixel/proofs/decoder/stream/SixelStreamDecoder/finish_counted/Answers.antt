@@ -7,7 +7,7 @@ use Rattle.sixel_base.specs.Payload.{Image, payload_area, payload_fault, payload
 use Rattle.sixel_base.proofs.ToleratedTokens.{effective-fault}
 use Rattle.sixel_base.specs.Place.{width, height}
 use Rattle.sixel_base.specs.Stroke.{Origin}
-use Rattle.sixel_decoder.proofs.RowExtents.{cropped_height-most, settled-area, sides-fit}
+use Rattle.sixel_decoder.proofs.drawing.RowExtents.{cropped_height-most, settled-area, sides-fit}
 use Rattle.icy_sixel.proofs.decoder.stream.SixelStreamDecoder.finish_counted.Goals as goal
 use Rattle.std.proofs.lemmas.Bool.Decides.{nat_tests}
 

@@ -2,7 +2,7 @@ use Rattle.std.proofs.Common.{arith, length, drop, ◌≡◌, ◌-◌, ◌*◌, 
 use Rattle.std.specs.Prelude.{◌%◌, ◌==◌, if◌then◌else◌}
 use Rattle.std.proofs.lemmas.List.{take_at}
 use Rattle.std.proofs.lemmas.Bool.Decides.{nat_tests}
-use Rattle.sixel_palette.proofs.ErrorLine.{AreReceivedBy-first}
+use Rattle.sixel_palette.proofs.mapped_images.ErrorLine.{AreReceivedBy-first}
 use Rattle.sixel_palette.proofs.dithering.error_line.ErrorLine.receive.Goals.{then-row-eq0}
 use Rattle.sixel_palette.proofs.dithering.error_line.ErrorLine.receive.Goals.{else-row-eq0}
 use Rattle.sixel_palette.proofs.dithering.error_line.ErrorLine.receive.Goals as goal

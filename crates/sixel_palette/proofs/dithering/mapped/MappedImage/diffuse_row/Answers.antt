@@ -6,12 +6,13 @@ use Rattle.sixel_palette.specs.Dithering.{errors_of}
 use Rattle.sixel_palette.specs.inside.Diffusion.{channels}
 use Rattle.sixel_palette.specs.inside.ErrorLine.{received_above}
 use Rattle.sixel_palette.specs.inside.Mapped.{mapped_value}
-use Rattle.sixel_palette.proofs.DiffusionVisit.{AreReceived-neighbors, AreVisited-more, before-more}
-use Rattle.sixel_palette.proofs.DiffusionVisit.{errors_of-more}
-use Rattle.sixel_palette.proofs.ErrorLine.{AreReceivedBy-more, IsLine-more}
-use Rattle.sixel_palette.proofs.DiffusionLanes.{small-lanes}
-use Rattle.sixel_palette.proofs.Serpentine.{column-next_row, serpentine-step}
-use Rattle.sixel_palette.proofs.KeptEntries.{before-none, before-some}
+use Rattle.sixel_palette.proofs.mapped_images.DiffusionVisit.{AreReceived-neighbors}
+use Rattle.sixel_palette.proofs.mapped_images.DiffusionVisit.{AreVisited-more, before-more}
+use Rattle.sixel_palette.proofs.mapped_images.DiffusionVisit.{errors_of-more}
+use Rattle.sixel_palette.proofs.mapped_images.ErrorLine.{AreReceivedBy-more, IsLine-more}
+use Rattle.sixel_palette.proofs.mapped_images.DiffusionLanes.{small-lanes}
+use Rattle.sixel_palette.proofs.mapped_images.Serpentine.{column-next_row, serpentine-step}
+use Rattle.sixel_palette.proofs.mapped_images.KeptEntries.{before-none, before-some}
 use Rattle.std.proofs.lemmas.Bool.Decides.{nat_tests}
 use Rattle.sixel_palette.proofs.dithering.mapped.MappedImage.diffuse_row.Goals as goal
 

@@ -2,7 +2,7 @@ use Rattle.std.proofs.Common.{arith}
 use Rattle.std.proofs.lemmas.List.{length-replicate}
 use Rattle.std.proofs.lemmas.Bool.Decides.{nat_tests}
 use Rattle.sixel_palette.specs.inside.Mapped.{mapped_value}
-use Rattle.sixel_palette.proofs.ErrorLine.{IsLine-none}
+use Rattle.sixel_palette.proofs.mapped_images.ErrorLine.{IsLine-none}
 use Rattle.sixel_palette.proofs.dithering.mapped.MappedImage.error_line.Goals as goal
 
 pub returns : goal.returns

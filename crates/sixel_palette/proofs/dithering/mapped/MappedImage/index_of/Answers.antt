@@ -1,5 +1,5 @@
 use Rattle.std.proofs.Common.{arith}
-use Rattle.sixel_palette.proofs.PaletteNearest.{nearest-le}
+use Rattle.sixel_palette.proofs.nearest_entries.Nearest.{nearest-le}
 use Rattle.std.proofs.lemmas.Bool.Decides.{nat_tests}
 use Rattle.sixel_palette.proofs.dithering.mapped.MappedImage.index_of.Goals as goal
 

@@ -2,9 +2,9 @@ use Rattle.std.proofs.Common.{◌∙◌, ℕ, ap, sym, arith}
 use Rattle.std.specs.Prelude.{Some, ◌+◌, ◌*◌}
 use Rattle.sixel_palette.specs.Dithering.{entry_of}
 use Rattle.sixel_palette.specs.inside.Mapped.{mapped_value}
-use Rattle.sixel_palette.proofs.KeptEntries.{before-some}
+use Rattle.sixel_palette.proofs.mapped_images.KeptEntries.{before-some}
 use Rattle.sixel_palette.proofs.dithering.mapped.MappedImage.is_before.Goals as goal
-use Rattle.sixel_palette.proofs.KeptEntries.{entry_of-opaque}
+use Rattle.sixel_palette.proofs.mapped_images.KeptEntries.{entry_of-opaque}
 
 pub returns : goal.returns
 returns c = λ _.

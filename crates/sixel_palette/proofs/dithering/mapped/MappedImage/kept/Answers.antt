@@ -1,7 +1,7 @@
 use Rattle.std.specs.Prelude.{◌+◌, ◌*◌}
 use Rattle.sixel_palette.specs.Dithering.{neighbor_of}
 use Rattle.sixel_palette.specs.inside.Mapped.{mapped_value}
-use Rattle.sixel_palette.proofs.KeptEntries.{IsKept-nearer}
+use Rattle.sixel_palette.proofs.mapped_images.KeptEntries.{IsKept-nearer}
 use Rattle.sixel_palette.proofs.dithering.mapped.MappedImage.kept.Goals as goal
 
 pub returns : goal.returns

@@ -3,8 +3,8 @@ use Rattle.std.specs.Prelude.{List, ℕ, ◌+◌, ◌*◌, slice_index}
 use Rattle.sixel_palette.specs.Palette.{IsNearest, IsOpaque, color_at}
 use Rattle.sixel_palette.specs.Dithering.{IsIndex, entry_distance, neighbor_of}
 use Rattle.sixel_palette.specs.inside.Mapped.{mapped_value}
-use Rattle.sixel_palette.proofs.DitheredIndices.{IsIndexAt-light}
-use Rattle.sixel_palette.proofs.KeptEntries.{nearest-distance}
+use Rattle.sixel_palette.proofs.mapped_images.DitheredIndices.{IsIndexAt-light}
+use Rattle.sixel_palette.proofs.mapped_images.KeptEntries.{nearest-distance}
 use Rattle.std.proofs.lemmas.Bool.Decides.{nat_tests}
 use Rattle.sixel_palette.proofs.dithering.mapped.MappedImage.kept_index.Goals as goal
 

@@ -1,7 +1,7 @@
 use Rattle.std.proofs.Common.{arith}
-use Rattle.sixel_palette.proofs.KeptEntries.{neighbor-inside, IsKept-value}
+use Rattle.sixel_palette.proofs.mapped_images.KeptEntries.{neighbor-inside, IsKept-value}
 use Rattle.std.proofs.lemmas.Bool.Decides.{nat_tests}
-use Rattle.sixel_palette.proofs.PaletteNearest.{nearest-le}
+use Rattle.sixel_palette.proofs.nearest_entries.Nearest.{nearest-le}
 use Rattle.sixel_palette.proofs.dithering.mapped.MappedImage.neighbors.Goals as goal
 
 pub returns-then-self-eq0-clause-before : goal.returns-then-self-eq0-clause-before

@@ -3,7 +3,7 @@ use Rattle.std.specs.Prelude.{List, ℕ, ◌+◌, ◌*◌, ◌<◌, slice_index}
 use Rattle.sixel_palette.specs.Palette.{IsOpaque}
 use Rattle.sixel_palette.specs.Dithering.{IsIndex, neighbor_of, ordered_color}
 use Rattle.sixel_palette.specs.inside.Mapped.{mapped_value}
-use Rattle.sixel_palette.proofs.DitheredIndices.{IsIndexAt-dark, IsIndexAt-light}
+use Rattle.sixel_palette.proofs.mapped_images.DitheredIndices.{IsIndexAt-dark, IsIndexAt-light}
 use Rattle.sixel_palette.proofs.dithering.mapped.MappedImage.palette_index.Goals as goal
 
 pub returns-then-not-is_opaque-clause-index : goal.returns-then-not-is_opaque-clause-index

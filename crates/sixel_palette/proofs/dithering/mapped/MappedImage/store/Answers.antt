@@ -2,9 +2,11 @@ use Rattle.std.proofs.Common.{◌≡◌, ◌<◌, ◌≤◌, ℕ, ◌*◌, ◌+�
 use Rattle.std.specs.Prelude.{slice_index, slice_index_or}
 use Rattle.std.proofs.lemmas.Nat.{mul-le}
 use Rattle.sixel_palette.specs.Dithering.{passed_on}
-use Rattle.sixel_palette.proofs.DitheredIndices.{AreEntries-set}
-use Rattle.sixel_palette.proofs.DiffusionLanes.{lanes, lanes-plus, lanes-minus, lanes-times}
-use Rattle.sixel_palette.proofs.DiffusionLanes.{lanes-shift, lanes-splat, passed-part, small-lanes}
+use Rattle.sixel_palette.proofs.mapped_images.DitheredIndices.{AreEntries-set}
+use Rattle.sixel_palette.proofs.mapped_images.DiffusionLanes.{lanes, lanes-plus, lanes-minus}
+use Rattle.sixel_palette.proofs.mapped_images.DiffusionLanes.{lanes-times}
+use Rattle.sixel_palette.proofs.mapped_images.DiffusionLanes.{lanes-shift, lanes-splat, passed-part}
+use Rattle.sixel_palette.proofs.mapped_images.DiffusionLanes.{small-lanes}
 use Rattle.sixel_palette.proofs.dithering.mapped.MappedImage.store.Goals as goal
 
 pub returns : goal.returns

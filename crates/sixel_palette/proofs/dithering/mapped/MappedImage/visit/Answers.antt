@@ -5,9 +5,9 @@ use Rattle.sixel_palette.specs.Dithering.{IsIndex, neighbor_of}
 use Rattle.sixel_palette.specs.inside.Diffusion.{channels}
 use Rattle.sixel_palette.specs.inside.Mapped.{mapped_value}
 use Rattle.sixel_palette.specs.declared.dithering.mapped.Kept.{Kept}
-use Rattle.sixel_palette.proofs.DiffusionVisit.{IsVisit-dark, IsVisit-stored}
-use Rattle.sixel_palette.proofs.KeptEntries.{IsIndex-near, IsKept-nearer}
-use Rattle.sixel_palette.proofs.DitheredIndices.{AreEntries-set}
+use Rattle.sixel_palette.proofs.mapped_images.DiffusionVisit.{IsVisit-dark, IsVisit-stored}
+use Rattle.sixel_palette.proofs.mapped_images.KeptEntries.{IsIndex-near, IsKept-nearer}
+use Rattle.sixel_palette.proofs.mapped_images.DitheredIndices.{AreEntries-set}
 use Rattle.sixel_palette.proofs.dithering.mapped.MappedImage.visit.Goals as goal
 
 pub returns-then-not-is_opaque : goal.returns-then-not-is_opaque

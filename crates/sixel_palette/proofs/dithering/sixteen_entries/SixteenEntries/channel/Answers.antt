@@ -1,6 +1,6 @@
 use Rattle.std.proofs.Common.{arith}
 use Rattle.std.proofs.lemmas.Simd.{Each1-all, Each2-splat}
-use Rattle.sixel_palette.proofs.SixteenEntries.{channel_at}
+use Rattle.sixel_palette.proofs.nearest_entries.SixteenEntries.{channel_at}
 use Rattle.sixel_palette.proofs.dithering.sixteen_entries.SixteenEntries.channel.Goals as goal
 
 pub nonzero_rem-result : goal.nonzero_rem-result

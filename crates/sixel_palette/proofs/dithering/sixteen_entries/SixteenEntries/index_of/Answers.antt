@@ -1,6 +1,7 @@
 use Rattle.std.proofs.Common.{◌≡◌, get_or, inl, inr, refl, arith}
 use Rattle.std.proofs.lemmas.Bool.{cases_lt}
-use Rattle.sixel_palette.proofs.SixteenEntries.{IsIndex-before, IsIndex-keys, byte_lanes}
+use Rattle.sixel_palette.proofs.nearest_entries.SixteenEntries.{IsIndex-before, IsIndex-keys}
+use Rattle.sixel_palette.proofs.nearest_entries.SixteenEntries.{byte_lanes}
 use Rattle.sixel_palette.proofs.dithering.sixteen_entries.SixteenEntries.index_of.Goals as goal
 
 pub loop-lane-preserved : goal.loop-lane-preserved

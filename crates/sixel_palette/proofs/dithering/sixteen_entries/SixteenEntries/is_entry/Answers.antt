@@ -1,6 +1,6 @@
 use Rattle.std.proofs.Common.{arith}
 use Rattle.std.proofs.lemmas.Bool.Decides.{nat_tests}
-use Rattle.sixel_palette.proofs.SixteenEntries.{byte_lanes, entry_distance-same}
+use Rattle.sixel_palette.proofs.nearest_entries.SixteenEntries.{byte_lanes, entry_distance-same}
 use Rattle.sixel_palette.proofs.dithering.sixteen_entries.SixteenEntries.is_entry.Goals as goal
 
 pub returns : goal.returns

@@ -1,6 +1,7 @@
 use Rattle.std.proofs.Common.{get_or, arith}
-use Rattle.sixel_palette.proofs.DiffusionLanes.{lanes, lanes-cast, lanes-splat, lanes-times}
-use Rattle.sixel_palette.proofs.SixteenEntries.{byte_lanes, key_at}
+use Rattle.sixel_palette.proofs.mapped_images.DiffusionLanes.{lanes, lanes-cast, lanes-splat}
+use Rattle.sixel_palette.proofs.mapped_images.DiffusionLanes.{lanes-times}
+use Rattle.sixel_palette.proofs.nearest_entries.SixteenEntries.{byte_lanes, key_at}
 use Rattle.sixel_palette.proofs.dithering.sixteen_entries.SixteenEntries.keys.Goals as goal
 
 pub returns : goal.returns

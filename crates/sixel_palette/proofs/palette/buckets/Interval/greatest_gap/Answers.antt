@@ -1,7 +1,7 @@
 use Rattle.std.proofs.Common.{◌-◌, ◌<◌, ◌≤◌, ⊎_elim, arith}
 use Rattle.std.specs.Int.{abs_diff}
 use Rattle.std.proofs.lemmas.Bool.{cases_lt}
-use Rattle.sixel_palette.proofs.PaletteDistance.{square-le}
+use Rattle.sixel_palette.proofs.colors.Distance.{square-le}
 use Rattle.sixel_palette.proofs.palette.buckets.Interval.greatest_gap.Goals as goal
 
 pub returns-clause-greatest : goal.returns-clause-greatest

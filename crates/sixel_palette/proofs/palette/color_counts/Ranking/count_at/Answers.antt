@@ -1,5 +1,5 @@
 use Rattle.std.proofs.Common.{◌≡◌, refl, arith}
-use Rattle.sixel_palette.proofs.PaletteCounts.{count-le, counts_run}
+use Rattle.sixel_palette.proofs.refinement.Counts.{count-le, counts_run}
 use Rattle.sixel_palette.proofs.palette.color_counts.Ranking.count_at.Goals as goal
 
 pub overflow_add-counts : goal.overflow_add-counts

@@ -5,8 +5,8 @@ use Rattle.sixel_palette.specs.inside.PaletteCounts.{IsRankingOf}
 use Rattle.sixel_palette.specs.inside.PalettePositions.{HasPosition, IsPositionOf}
 use Rattle.sixel_palette.specs.inside.PaletteCodes.{AreFourWords}
 use Rattle.sixel_palette.specs.declared.palette.color_counts.Ranking.{Ranking}
-use Rattle.sixel_palette.proofs.PaletteFarthest.{Contains-word}
-use Rattle.sixel_palette.proofs.PaletteLists.{four_cases}
+use Rattle.sixel_palette.proofs.traversal.Farthest.{Contains-word}
+use Rattle.sixel_palette.proofs.colors.Lists.{four_cases}
 use Rattle.sixel_palette.proofs.palette.color_counts.Ranking.count_four.Goals as goal
 
 -- the code of an opaque word is listed

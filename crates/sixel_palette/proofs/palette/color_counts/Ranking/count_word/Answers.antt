@@ -1,6 +1,6 @@
 use Rattle.std.proofs.Common.{◌≡◌, arith}
-use Rattle.sixel_palette.proofs.PaletteCounts.{counts_hidden}
-use Rattle.sixel_palette.proofs.PaletteFarthest.{Contains-word}
+use Rattle.sixel_palette.proofs.refinement.Counts.{counts_hidden}
+use Rattle.sixel_palette.proofs.traversal.Farthest.{Contains-word}
 use Rattle.sixel_palette.proofs.palette.color_counts.Ranking.count_word.Goals as goal
 
 pub returns-then-word-lt128-clause-counts : goal.returns-then-word-lt128-clause-counts

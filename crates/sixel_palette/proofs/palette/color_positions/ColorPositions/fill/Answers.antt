@@ -1,6 +1,6 @@
 use Rattle.std.proofs.Common.{◌≡◌, ◌+◌, ◌*◌, ◌/◌, ◌<◌, length, arith}
 use Rattle.std.proofs.lemmas.List.{get_or-replicate}
-use Rattle.sixel_palette.proofs.PaletteFarthest.{index_from_word, word_below}
+use Rattle.sixel_palette.proofs.traversal.Farthest.{index_from_word, word_below}
 use Rattle.sixel_palette.proofs.palette.color_positions.ColorPositions.fill.Goals as goal
 
 pub loop-pixel-preserved : goal.loop-pixel-preserved

@@ -1,6 +1,6 @@
 use Rattle.std.proofs.Common.{sym, inl, inr, refl, arith}
 use Rattle.sixel_palette.specs.inside.PaletteSums.{total}
-use Rattle.sixel_palette.proofs.PaletteSums.{gain-none, gain-some}
+use Rattle.sixel_palette.proofs.refinement.Sums.{gain-none, gain-some}
 use Rattle.sixel_palette.proofs.palette.color_sums.ColorSums.gain.Goals as goal
 
 pub returns-then-self-eq0 : goal.returns-then-self-eq0

@@ -1,6 +1,6 @@
 use Rattle.std.proofs.Common.{arith}
-use Rattle.sixel_palette.proofs.PaletteNearestEntry.{nearest_none}
-use Rattle.sixel_palette.proofs.PaletteLists.{all_replicated}
+use Rattle.sixel_palette.proofs.nearest_entries.NearestEntry.{nearest_none}
+use Rattle.sixel_palette.proofs.colors.Lists.{all_replicated}
 use Rattle.sixel_palette.proofs.palette.farthest.Traversal.new.Goals as goal
 
 pub returns-clause-whole : goal.returns-clause-whole

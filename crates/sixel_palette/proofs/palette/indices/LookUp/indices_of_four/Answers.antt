@@ -2,7 +2,7 @@ use Rattle.std.proofs.Common.{ℕ, ◌/◌, ◌%◌, ◌<◌, ◌≤◌, List, [
 use Rattle.sixel_palette.specs.Palette.{nearest, no_entry}
 use Rattle.sixel_palette.specs.inside.PaletteCodes.{color_of}
 use Rattle.sixel_palette.specs.inside.PaletteNearest.{IsIndexOf}
-use Rattle.sixel_palette.proofs.PaletteLists.{four_cases}
+use Rattle.sixel_palette.proofs.colors.Lists.{four_cases}
 use Rattle.sixel_palette.proofs.palette.indices.LookUp.indices_of_four.Goals as goal
 
 -- the index at a position is that of the word there

@@ -1,6 +1,6 @@
 use Rattle.std.proofs.Common.{◌≡◌, ◌/◌, get_or, ap, arith}
 use Rattle.sixel_palette.specs.inside.PaletteCodes.{color_of}
-use Rattle.sixel_palette.proofs.PaletteFarthest.{nearest_from_entry}
+use Rattle.sixel_palette.proofs.traversal.Farthest.{nearest_from_entry}
 use Rattle.sixel_palette.proofs.palette.indices.LookUp.opaque_index_of.Goals as goal
 
 pub returns : goal.returns

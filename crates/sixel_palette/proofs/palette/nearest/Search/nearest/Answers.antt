@@ -1,4 +1,4 @@
-use Rattle.sixel_palette.proofs.PaletteKeys.{nearest_from_key}
+use Rattle.sixel_palette.proofs.nearest_entries.Keys.{nearest_from_key}
 use Rattle.sixel_palette.proofs.palette.nearest.Search.nearest.Goals as goal
 use Rattle.std.proofs.Common.{arith}
 use Rattle.std.proofs.lemmas.Bool.Decides.{nat_tests}

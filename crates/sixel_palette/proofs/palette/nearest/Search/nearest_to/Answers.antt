@@ -1,4 +1,4 @@
-use Rattle.sixel_palette.proofs.PaletteFarthest.{nearest_from_entry}
+use Rattle.sixel_palette.proofs.traversal.Farthest.{nearest_from_entry}
 use Rattle.sixel_palette.proofs.palette.nearest.Search.nearest_to.Goals as goal
 use Rattle.std.proofs.Common.{arith}
 use Rattle.std.proofs.lemmas.Bool.Decides.{nat_tests}

@@ -1,6 +1,6 @@
 use Rattle.std.proofs.Common.{◌≤◌, arith}
 use Rattle.sixel_palette.specs.Palette.{distance}
-use Rattle.sixel_palette.proofs.PaletteNearestEntry.{near_taken, near_kept}
+use Rattle.sixel_palette.proofs.nearest_entries.NearestEntry.{near_taken, near_kept}
 use Rattle.sixel_palette.proofs.palette.nearest_entry.NearestEntry.with.Goals as goal
 use Rattle.std.proofs.lemmas.Bool.Decides.{nat_tests}
 

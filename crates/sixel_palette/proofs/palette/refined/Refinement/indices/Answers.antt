@@ -1,6 +1,6 @@
 use Rattle.std.proofs.Common.{arith}
 use Rattle.std.proofs.lemmas.Result.{IfOk-weaker}
-use Rattle.sixel_palette.proofs.PaletteRefinement.{refinement-below}
+use Rattle.sixel_palette.proofs.refinement.Refinement.{refinement-below}
 use Rattle.sixel_palette.proofs.palette.refined.Refinement.indices.Goals as goal
 
 pub indices-requires : goal.indices-requires

@@ -1,4 +1,4 @@
-use Rattle.sixel_palette.proofs.PaletteCounts.{weighed_from_counts}
+use Rattle.sixel_palette.proofs.refinement.Counts.{weighed_from_counts}
 use Rattle.sixel_palette.proofs.palette.refined.Refinement.of.Goals as goal
 
 pub counts_of-requires-clause-listed : goal.counts_of-requires-clause-listed

@@ -1,1 +1,0 @@
--- What raster attributes do to what was drawn, and when they are rejected.

@@ -1,1 +1,0 @@
--- What a sixel does to what was drawn, and when it is rejected.

@@ -1,0 +1,11 @@
+pub mod FedImages
+pub mod Feeds
+pub mod FrontBits
+pub mod Joined
+pub mod Lanes
+pub mod OpenCommands
+pub mod ParserSteps
+pub mod PayloadFaults
+pub mod Places
+pub mod Reads
+pub mod Sessions

@@ -1,0 +1,37 @@
+-- What is rejected while a payload is fed is rejected at its end.
+use Rattle.std.proofs.Common.{Bool, List, ℕ, Result, arith}
+use Rattle.std.specs.Prelude.{IsTrue, nat_lt, ◌||◌}
+use Rattle.sixel_base.specs.declared.error.SixelError.{SixelError}
+use Rattle.sixel_base.specs.Bytes.{front}
+use Rattle.sixel_base.specs.Fault.{Faults}
+use Rattle.sixel_base.specs.History.{history_of}
+use Rattle.sixel_base.specs.IgnoredCommands.{payload_ignored}
+use Rattle.sixel_base.specs.Lenient.{fault, effective}
+use Rattle.sixel_base.specs.Limits.{Limit}
+use Rattle.sixel_base.specs.Payload.{growths, settled, payload_fault, payload_wants}
+use Rattle.sixel_base.specs.Stroke.{Origin}
+use Rattle.sixel_base.proofs.ToleratedTokens.{effective-fault}
+use Rattle.sixel_decoder.specs.inside.PayloadParser.{Decodes}
+use Rattle.sixel_decoder.specs.inside.Painter.{Ends}
+use Rattle.sixel_decoder.specs.declared.decoded_payload.DecodedPayload.{DecodedPayload}
+use Rattle.sixel_decoder.proofs.chunks.ParserSteps.{Faults-along}
+use Rattle.std.proofs.lemmas.Bool.Decides.{nat_tests}
+
+pub or_right : (a b : Bool) → IsTrue b → IsTrue (a || b)
+or_right a b is = grind (arith, nat_tests)
+
+or_left : (a b : Bool) → IsTrue a → IsTrue (a || b)
+or_left a b is = grind (arith, nat_tests)
+
+pub payload_refused : (e : SixelError) (limit : Limit) (bytes : List ℕ)
+    → Faults e (nat_lt 0 (growths (settled bytes))) (fault limit (settled bytes))
+    → Faults e (payload_wants limit bytes) (payload_fault limit bytes)
+payload_refused e limit bytes refused = grind (arith, nat_tests)
+
+-- what is rejected at the end of a payload
+pub payload_ends : (result : Result DecodedPayload SixelError) (o : Origin) (bytes : List ℕ)
+    → Ends result o (effective o.pixel_limit (history_of (front bytes)))
+    (payload_ignored o.pixel_limit bytes) → Decodes result o bytes
+payload_ends result o bytes is =
+    let same = effective-fault o.pixel_limit (history_of (front bytes)) in
+    grind (arith, nat_tests, same, Faults-along, or_left)

@@ -1,0 +1,191 @@
+-- Which bytes of a payload's chunk belong to the DCS sequence after its terminator.
+use Rattle.std.proofs.Common.{◌≡◌, ℕ, ◌+◌, ◌≤◌, true, List, [], ◌∷◌, ◌++◌, refl}
+use Rattle.std.proofs.Common.{ap, sym, ◌∙◌, arith, Option, Some, None, length, drop}
+use Rattle.std.specs.Prelude.{◌==◌}
+use Rattle.std.proofs.lemmas.Bool.Decides.{nat_tests}
+use Rattle.sixel_base.specs.Bytes.{count, first_terminator}
+use Rattle.sixel_base.specs.declared.status.SixelFeedStatus.TheVariants as fed
+use Rattle.sixel_base.specs.declared.status.SixelDcsFeedStatus.{SixelDcsFeedStatus}
+use Rattle.sixel_base.specs.declared.status.SixelDcsFeedStatus.TheVariants.{NeedMoreData, Complete}
+use Rattle.sixel_base.specs.declared.status.SixelDcsFeedStatus.TheVariants.{Cancelled, Interrupted}
+use Rattle.sixel_base.specs.Status.{status_of}
+use Rattle.sixel_base.specs.Dcs.{after_terminator, end_status, end_count, escape_status}
+use Rattle.sixel_base.specs.Dcs.{escape_count, payload_status, payload_count}
+use Rattle.sixel_base.specs.Dcs.{ended_with, ended_by}
+use Rattle.sixel_decoder.specs.inside.DcsParser.{GoesTo}
+use Rattle.sixel_decoder.proofs.chunks.Joined.{count-append, first_terminator-append}
+use Rattle.sixel_decoder.proofs.chunks.Joined.{first_terminator-ended, before_terminator-ended}
+use Rattle.sixel_decoder.proofs.dcs_sequences.Terminators.{after_terminator-none}
+use Rattle.sixel_decoder.proofs.dcs_sequences.Terminators.{after_terminator-some}
+use Rattle.sixel_decoder.proofs.dcs_sequences.Terminators.{drop-count, escape_waits, end_stays}
+
+-- a payload has at most all bytes
+pub count-fits : (bytes : List ℕ) → count bytes ≤ length bytes
+count-fits [] = omega arith
+count-fits (byte ∷ bytes) = grind (arith, nat_tests, count-fits bytes)
+
+-- a chunk adds at most its bytes
+pub count-most : (bytes piece : List ℕ) → count (bytes ++ piece) ≤ count bytes + length piece
+count-most [] piece = omega (arith, count-fits piece)
+count-most (byte ∷ bytes) piece = grind (arith, nat_tests, count-most bytes piece)
+
+-- ---- how a payload has ended, by its first terminator
+
+pub none_by : (o : Option ℕ) (rest : List ℕ) → ended_by o rest ≡ None → o ≡ None
+none_by o rest is = grind (arith, nat_tests)
+
+pub some_by : (o : Option ℕ) (rest : List ℕ) (status : SixelDcsFeedStatus)
+    → ended_by o rest ≡ Some status → (t : ℕ) × (o ≡ Some t) × (end_status t rest ≡ status)
+some_by o rest status is = grind (arith, nat_tests)
+
+pub count_open : (payload : List ℕ) → first_terminator payload ≡ None
+    → payload_count payload ≡ count payload
+count_open payload none = grind (arith, nat_tests)
+
+pub count_at : (payload rest : List ℕ) (t : ℕ) → first_terminator payload ≡ Some t
+    → after_terminator payload ≡ rest → payload_count payload ≡ count payload + end_count t rest
+count_at payload rest t first after = grind (arith, nat_tests)
+
+pub status_at : (payload rest : List ℕ) (t : ℕ) → first_terminator payload ≡ Some t
+    → after_terminator payload ≡ rest → payload_status payload ≡ end_status t rest
+status_at payload rest t first after = grind (arith, nat_tests)
+
+pub ended_at : (payload : List ℕ) (t : ℕ) → first_terminator payload ≡ Some t
+    → ended_with payload ≡ Some (payload_status payload)
+ended_at payload t first = grind (arith, nat_tests)
+
+pub terminated_by : (o : Option ℕ) (t : ℕ) → fed.Terminated t ≡ status_of o → o ≡ Some t
+terminated_by o t is = grind (arith, nat_tests)
+
+pub waiting_by : (o : Option ℕ) → fed.NeedMoreData ≡ status_of o → o ≡ None
+waiting_by o is = grind (arith, nat_tests)
+
+-- payloads of one status have one terminator
+pub terminator_same : (a b : Option ℕ) → status_of a ≡ status_of b → a ≡ b
+terminator_same a b same = grind (arith, nat_tests)
+
+-- ---- how it goes on
+
+-- no terminator came
+open_before : (payload piece : List ℕ) (o : Option ℕ) → first_terminator payload ≡ o
+    → first_terminator (payload ++ piece) ≡ None → first_terminator payload ≡ None
+open_before payload piece o is none = grind (arith, nat_tests, first_terminator-ended)
+
+pub goes_open : (payload piece : List ℕ) (consumed : ℕ) (ended : Option SixelDcsFeedStatus)
+    → ended ≡ ended_with payload → first_terminator (payload ++ piece) ≡ None
+    → count payload + consumed ≡ count (payload ++ piece)
+    → GoesTo payload (payload ++ piece) (record { consumed = consumed; status = NeedMoreData })
+    × (ended ≡ ended_with (payload ++ piece))
+goes_open payload piece consumed ended is none counted = grind (arith, open_before, count_open)
+
+-- the terminator comes in the chunk, and the bytes after it are these
+pub goes_to_end :
+    (payload piece rest : List ℕ) (t start consumed more : ℕ) (status : SixelDcsFeedStatus)
+    → None ≡ ended_with payload
+    → first_terminator (payload ++ piece) ≡ Some t
+    → count payload + consumed ≡ count (payload ++ piece)
+    → rest ≡ drop start piece → (consumed + 1 ≤ length piece → start ≡ consumed + 1)
+    → more ≡ end_count t rest → status ≡ end_status t rest
+    → GoesTo payload (payload ++ piece) (record { consumed = consumed + more; status = status })
+goes_to_end payload piece rest t start consumed more status ended first counted is begins counts
+    stands =
+    let none : first_terminator payload ≡ None =
+    none_by (first_terminator payload) (after_terminator payload) (sym ended) in
+    let here : first_terminator piece ≡ Some t =
+    sym (first_terminator-append payload piece none) ∙ first in
+    let same : consumed ≡ count piece = omega (arith, count-append payload piece none, counted) in
+    let follows = drop-count piece t here in
+    let at : start ≡ count piece + 1 =
+    begins (omega (arith, same, follows.1)) ∙ ap (λ n. n + 1) same in
+    let after : after_terminator (payload ++ piece) ≡ rest =
+    after_terminator-none payload piece none
+    ∙ (sym follows.0 ∙ (ap (λ n. drop n piece) (sym at) ∙ sym is)) in (
+      omega (
+        arith,
+        count_open payload none,
+        count_at (payload ++ piece) rest t first after,
+        counted,
+        counts,
+      ),
+      stands ∙ sym (status_at (payload ++ piece) rest t first after),
+    )
+
+escape_ends : (t : ℕ) (rest : List ℕ) → (t == 27) ≡ true
+    → (end_count t rest ≡ escape_count rest) × (end_status t rest ≡ escape_status rest)
+escape_ends t rest is = grind (arith, nat_tests)
+
+-- ESC was the last byte before the chunk
+goes_after_escape : (payload piece : List ℕ) (t consumed more : ℕ) (status : SixelDcsFeedStatus)
+    → Some NeedMoreData ≡ ended_with payload
+    → first_terminator (payload ++ piece) ≡ Some t
+    → count payload + consumed ≡ count (payload ++ piece)
+    → more + 1 ≡ escape_count piece → status ≡ escape_status piece
+    → GoesTo payload (payload ++ piece) (record { consumed = consumed + more; status = status })
+goes_after_escape payload piece t consumed more status ended first counted counts stands =
+    let was =
+    some_by (first_terminator payload) (after_terminator payload) NeedMoreData (sym ended) in
+    let waits = escape_waits was.0 (after_terminator payload) was.2 in
+    let now = first_terminator-ended payload piece was.0 was.1 in
+    let after : after_terminator (payload ++ piece) ≡ piece =
+    after_terminator-some payload piece was.0 was.1 ∙ ap (λ w. w ++ piece) waits.1 in
+    let then = escape_ends was.0 piece waits.0 in (
+      omega (
+        arith,
+        counted,
+        ap length (before_terminator-ended payload piece was.0 was.1),
+        counts,
+        count_at payload [] was.0 was.1 waits.1,
+        (escape_ends was.0 [] waits.0).0,
+        count_at (payload ++ piece) piece was.0 now after,
+        then.0,
+      ),
+      stands ∙ sym (status_at (payload ++ piece) piece was.0 now after ∙ then.1),
+    )
+
+-- the string had ended before the chunk
+goes_ended : (payload piece : List ℕ) (consumed more : ℕ) (before status : SixelDcsFeedStatus)
+    → Some before ≡ ended_with payload
+    → (before ≡ NeedMoreData → ⊥) → count payload + consumed ≡ count (payload ++ piece)
+    → (more ≡ 0) × (status ≡ before)
+    → GoesTo payload (payload ++ piece) (record { consumed = consumed + more; status = status })
+goes_ended payload piece consumed more before status ended over counted same =
+    let was = some_by (first_terminator payload) (after_terminator payload) before (sym ended) in
+    let stays =
+    end_stays was.0 (after_terminator payload) piece (λ waits. over (sym was.2 ∙ waits)) in
+    let now = first_terminator-ended payload piece was.0 was.1 in
+    let after = after_terminator-some payload piece was.0 was.1 in (
+      omega (
+        arith,
+        counted,
+        same.0,
+        ap length (before_terminator-ended payload piece was.0 was.1),
+        count_at payload (after_terminator payload) was.0 was.1 refl,
+        count_at (payload ++ piece) (after_terminator payload ++ piece) was.0 now after,
+        stays.1,
+      ),
+      same.1
+          ∙ (sym was.2
+          ∙ (sym stays.0
+          ∙ sym
+          (status_at (payload ++ piece) (after_terminator payload ++ piece) was.0 now after))),
+    )
+
+-- a terminator had come before the chunk
+pub goes_later : (payload piece : List ℕ) (t consumed more : ℕ) (was status : SixelDcsFeedStatus)
+    → Some was ≡ ended_with payload
+    → first_terminator (payload ++ piece) ≡ Some t
+    → count payload + consumed ≡ count (payload ++ piece)
+    → (was ≡ NeedMoreData → (more + 1 ≡ escape_count piece) × (status ≡ escape_status piece))
+    → ((was ≡ NeedMoreData → ⊥) → (more ≡ 0) × (status ≡ was))
+    → GoesTo payload (payload ++ piece) (record { consumed = consumed + more; status = status })
+goes_later payload piece t consumed more NeedMoreData status ended first counted waiting over =
+    goes_after_escape payload piece t consumed more status ended first counted (waiting refl).0
+    (waiting refl).1
+goes_later payload piece t consumed more Complete status ended first counted waiting over =
+    goes_ended payload piece consumed more Complete status ended (λ e. cc) counted (over (λ e. cc))
+goes_later payload piece t consumed more (Cancelled b) status ended first counted waiting over =
+    goes_ended payload piece consumed more (Cancelled b) status ended (λ e. cc) counted
+    (over (λ e. cc))
+goes_later payload piece t consumed more (Interrupted b) status ended first counted waiting over =
+    goes_ended payload piece consumed more (Interrupted b) status ended (λ e. cc) counted
+    (over (λ e. cc))

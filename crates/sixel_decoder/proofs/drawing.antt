@@ -1,0 +1,13 @@
+pub mod BandCosts
+pub mod Clips
+pub mod ColorDefinitions
+pub mod DrawnHeights
+pub mod ImageAreas
+pub mod LenientTokens
+pub mod PaintedRuns
+pub mod RowExtents
+pub mod RunCosts
+pub mod SetRows
+pub mod ShownRows
+pub mod SixelRuns
+pub mod TokenFaults

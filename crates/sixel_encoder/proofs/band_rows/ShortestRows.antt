@@ -1,0 +1,130 @@
+-- No list of tokens that spells a row takes fewer bytes than the row's own tokens.
+use Rattle.std.proofs.Common.{◌≡◌, ◌≢◌, ℕ, zero, suc, ◌+◌, ◌*◌, ◌<◌, ◌≤◌, List}
+use Rattle.std.proofs.Common.{◌∷◌, ◌++◌, length, replicate, refl, ap, sym, ◌∙◌, arith}
+use Rattle.std.proofs.Common.{length-append, append_assoc, ◌/◌, ◌%◌, []}
+use Rattle.std.specs.Prelude.{flat_map, All}
+use Rattle.std.proofs.lemmas.Bool.{cases_eq}
+use Rattle.std.proofs.lemmas.Bool.Decides.{nat_tests}
+use Rattle.std.proofs.lemmas.List.{append-nil, replicate-append-replicate, replicate_more}
+use Rattle.std.proofs.lemmas.List.Concat.{flat_map-append}
+use Rattle.std.proofs.lemmas.List.Elements.{All-head, All-tail, All-append}
+use Rattle.sixel_base.specs.Limits.{repeat_limit}
+use Rattle.sixel_encoder.specs.RunTokens.{RunToken, One, Many, sixels, spelling, written}
+use Rattle.sixel_encoder.specs.RunTokens.{cost, IsRunToken, Spells, IsShortest, rest_tokens}
+use Rattle.sixel_encoder.specs.RunTokens.{run_tokens, tokens_after, row_tokens}
+use Rattle.sixel_encoder.proofs.band_rows.RunCost.{run_cost, run_cut, run_least, run_cost0}
+use Rattle.sixel_encoder.proofs.band_rows.RunCost.{run_cost1}
+use Rattle.sixel_encoder.proofs.band_rows.RunCost.{cost-append, cost-run}
+use Rattle.std.proofs.lemmas.Grind.{common_steps}
+
+-- the bytes of the tokens of `n` equal sixels and a row
+abbrev pub left : ℕ → ℕ → List ℕ → ℕ
+left n b row = cost (tokens_after n b row)
+
+pub left-nil : (n b : ℕ) → left n b [] ≡ run_cost n
+left-nil n b = cost-run n b
+
+-- a row that goes on with the same sixel
+pub tokens_after-same : (n b c : ℕ) (row : List ℕ) → c ≡ b
+    → tokens_after n b (c ∷ row) ≡ tokens_after (n + 1) b row
+tokens_after-same n b c row e = grind (arith, nat_tests)
+
+-- a row that goes on with another sixel
+pub tokens_after-other : (n b c : ℕ) (row : List ℕ) → c ≢ b
+    → tokens_after n b (c ∷ row) ≡ run_tokens n b ++ tokens_after 1 c row
+tokens_after-other n b c row e = grind (arith, nat_tests)
+
+pub left-other : (n b c : ℕ) (row : List ℕ) → c ≢ b → left n b (c ∷ row) ≡ run_cost n + left 1 c row
+left-other n b c row e = grind (arith, nat_tests, cost-append, cost-run, tokens_after-other)
+
+pub left-same : (n b c : ℕ) (row : List ℕ) → c ≡ b → left n b (c ∷ row) ≡ left (n + 1) b row
+left-same n b c row e = ap cost (tokens_after-same n b c row e)
+
+-- writing a run in two parts saves no byte
+pub left_cut : (m n b : ℕ) (row : List ℕ) → left (m + n) b row ≤ run_cost m + left n b row
+left_cut m n b [] = omega (arith, left-nil (m + n) b, left-nil n b, run_cut m n)
+left_cut m n b (c ∷ row) = grind (arith, left-same, left-other, run_cut, left_cut m (n + 1) b row)
+
+-- with no sixel before it a row takes the same bytes, whatever that sixel is
+left_any : (b c : ℕ) (row : List ℕ) → left 0 b row ≡ left 0 c row
+left_any b c [] = omega (arith, left-nil 0 b, left-nil 0 c)
+left_any b c (x ∷ row) = grind (arith, nat_tests, left-same, left-other)
+
+-- equal sixels add to the run
+left_run : (k n b : ℕ) (row : List ℕ) → left n b (replicate k b ++ row) ≡ left (n + k) b row
+left_run zero n b row = ap (λ x. left x b row) (omega arith)
+left_run (suc k) n b row = grind (arith, nat_tests, left-same, left_run k (n + 1) b row)
+
+left_many : (n b : ℕ) (row : List ℕ) → left 0 0 (replicate n b ++ row) ≤ run_cost n + left 0 0 row
+left_many n b row = grind (arith, nat_tests, left_any, left_run n 0 b row, left_cut n 0 b row)
+
+-- the first token of a spelling takes no fewer bytes than it saves
+left_token : (token : RunToken) (row : List ℕ) → IsRunToken token
+    → left 0 0 (sixels token ++ row) ≤ length (spelling token) + left 0 0 row
+unfolding sixels
+left_token (One b) row is = omega (arith, left_many 1 b row, run_cost1)
+left_token (Many n b) row is = grind (arith, nat_tests, run_least, length-append, left_many)
+
+left_tokens : (tokens : List RunToken) → All IsRunToken tokens
+    → left 0 0 (flat_map sixels tokens) ≤ cost tokens
+left_tokens [] all = omega (arith, left-nil 0 0, run_cost0)
+left_tokens (token ∷ tokens) all =
+    let first = left_token token (flat_map sixels tokens) (All-head IsRunToken token tokens all) in
+    let rest = left_tokens tokens (All-tail IsRunToken token tokens all) in
+    omega (arith, first, rest, length-append (spelling token) (written tokens))
+
+-- the tokens of a row are a shortest spelling of it
+pub shortest : (row : List ℕ) → IsShortest (row_tokens row) row
+shortest row = grind (arith, nat_tests, left_tokens)
+
+-- ---- and they spell it
+
+-- equal tokens of a count make a run
+sixels-replicate : (n k b : ℕ) → flat_map sixels (replicate n (Many k b)) ≡ replicate (n * k) b
+unfolding sixels
+sixels-replicate zero k b = let product : 0 ≡ 0 * k = omega arith in ap (λ x. replicate x b) product
+sixels-replicate (suc n) k b = grind (arith, replicate-append-replicate, sixels-replicate n k b)
+
+sixels-singly : (n b : ℕ) → flat_map sixels (replicate n (One b)) ≡ replicate n b
+unfolding sixels
+sixels-singly zero b = refl
+sixels-singly (suc n) b = ap (λ r. b ∷ r) (sixels-singly n b)
+
+sixels-rest : (n b : ℕ) → flat_map sixels (rest_tokens n b) ≡ replicate n b
+unfolding sixels
+sixels-rest n b = grind (arith, nat_tests, append-nil, sixels-singly)
+
+-- the tokens of a run spell it, whatever the greatest count
+sixels-cut : (n k b : ℕ) → 0 < k
+    → flat_map sixels (replicate (n / k) (Many k b) ++ rest_tokens (n % k) b) ≡ replicate n b
+sixels-cut n k b h =
+    let whole : (n / k) * k + n % k ≡ n = grind (arith, nat_tests) in
+    grind (arith, flat_map-append, sixels-replicate, sixels-rest, replicate-append-replicate)
+
+sixels-run : (n b : ℕ) → flat_map sixels (run_tokens n b) ≡ replicate n b
+sixels-run n b = sixels-cut n repeat_limit b (omega arith)
+
+sixels-after : (n b : ℕ) (row : List ℕ)
+    → flat_map sixels (tokens_after n b row) ≡ replicate n b ++ row
+sixels-after n b [] = sixels-run n b ∙ sym (append-nil (replicate n b))
+sixels-after n b (c ∷ row) =
+    let same = sixels-after (n + 1) b row in
+    let other = sixels-after 1 c row in
+    let more = replicate_more n b in
+    let joined = append_assoc (replicate n b) (b ∷ []) row in
+    let parts = flat_map-append sixels (run_tokens n b) (tokens_after 1 c row) in
+    grind (arith, nat_tests, cases_eq c b, tokens_after-same, tokens_after-other, sixels-run)
+
+All-run : (n b : ℕ) → All IsRunToken (run_tokens n b)
+All-run n b = grind (arith, common_steps, nat_tests)
+
+All-after : (n b : ℕ) (row : List ℕ) → All IsRunToken (tokens_after n b row)
+All-after n b [] = All-run n b
+All-after n b (c ∷ row) =
+    let same = All-after (n + 1) b row in
+    let other = All-append IsRunToken _ _ (All-run n b) (All-after 1 c row) in
+    grind (arith, nat_tests, cases_eq c b, tokens_after-same, tokens_after-other)
+
+-- the tokens of a row spell it
+pub spells : (row : List ℕ) → Spells (row_tokens row) row
+spells row = record { each = All-after 0 0 row; joined = sixels-after 0 0 row }

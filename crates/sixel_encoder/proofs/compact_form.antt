@@ -1,0 +1,13 @@
+pub mod Counts
+pub mod CutSegments
+pub mod FillSteps
+pub mod LeftSegments
+pub mod PassSteps
+pub mod RegisterNumbers
+pub mod RunSegments
+pub mod SegmentMarks
+pub mod SegmentOrder
+pub mod SegmentSteps
+pub mod SegmentTallies
+pub mod Steps
+pub mod Text

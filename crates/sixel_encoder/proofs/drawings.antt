@@ -1,0 +1,10 @@
+pub mod EncodedText
+pub mod IndexedDrawing
+pub mod IndexedText
+pub mod PaletteText
+pub mod RefinedAlike
+pub mod RefinedText
+pub mod SameDithering
+pub mod SameDrawing
+pub mod Sizes
+pub mod Verdicts

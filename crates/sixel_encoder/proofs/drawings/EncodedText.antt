@@ -1,0 +1,85 @@
+-- What the text of an image that was encoded is: blind to what is hidden, no longer than the plain
+-- one, and read back as its trip.
+use Rattle.std.proofs.Common.{◌≡◌, ℕ, ◌*◌, ◌<◌, ◌≤◌, List, Result, Ok, Err, sym, ap, ◌∙◌, arith}
+use Rattle.std.proofs.Common.{length}
+use Rattle.std.specs.Prelude.{All, IfErr, IfOk, OnOk, MatchOption}
+use Rattle.sixel_base.specs.declared.error.SixelError.{SixelError}
+use Rattle.sixel_base.specs.declared.error.SixelError.TheVariants.{OutOfMemory}
+use Rattle.sixel_base.specs.Size.{banded}
+use Rattle.sixel_base.specs.declared.state.DecoderState.{DecoderState}
+use Rattle.sixel_base.specs.Payload.{Image}
+use Rattle.sixel_encoder.specs.declared.form.TextForm.{TextForm}
+use Rattle.sixel_encoder.specs.Text.{Drawing}
+use Rattle.sixel_encoder.specs.Encoding.{image_fault, IsDrawing, IsText}
+use Rattle.sixel_encoder.specs.Form.{IsFormText, form_text}
+use Rattle.sixel_base.specs.Limits.{Limit}
+use Rattle.sixel_encoder.specs.Trip.{CanRead, trip, IsReadAs, IsOneString, IsWritable}
+use Rattle.std.proofs.lemmas.Bool.Decides.{nat_tests}
+use Rattle.sixel_encoder.proofs.compact_form.Text.{length-compact, IsDrawnText-compact}
+use Rattle.sixel_encoder.proofs.round_trip.DcsText.{IsOneString-drawn, IsReadAs-drawn}
+use Rattle.sixel_encoder.proofs.round_trip.TripLimits.{CanRead-drawn, IsWritable-drawn, area-drawn}
+use Rattle.sixel_encoder.specs.declared.form.TextForm.TheVariants.{Plain, Compact}
+use Rattle.sixel_encoder.specs.Marks.{IsDrawnText}
+use Rattle.sixel_encoder.proofs.plain_text.Text.{IsDrawnText-plain}
+
+-- a text of marks that draw the drawing
+pub IsDrawnText-form : (form : TextForm) (drawing : Drawing) → IsWritable drawing
+    → IsDrawnText drawing (form_text form drawing)
+IsDrawnText-form Plain drawing is = IsDrawnText-plain drawing is
+IsDrawnText-form Compact drawing is = IsDrawnText-compact drawing is
+
+-- where the drawings are one, so are the texts
+pub hidden-written : {S : Type 0} (form : TextForm) (bytes : S → List ℕ)
+    (result : Result S SixelError) (image other : Image) (k : ℕ) (others : List ℕ)
+    → ((drawing another : Drawing) → All (λ byte. byte < 256) image.pixels
+    → IsDrawing image k drawing → IsDrawing other k another → drawing ≡ another)
+    → OnOk result (All (λ byte. byte < 256) image.pixels)
+    → IfOk result (λ text. IsFormText form image k (bytes text)) → IsFormText form other k others
+    → IfOk result (λ text. bytes text ≡ others)
+hidden-written form bytes (Ok text) image other k others one fits is also =
+    is.2 ∙ (ap (form_text form) (one is.0 also.0 fits is.1 also.1) ∙ sym also.2)
+hidden-written form bytes (Err e) image other k others one fits is also = tt
+
+-- and none is longer than the plain one
+pub short-written : {S : Type 0} (form : TextForm) (bytes : S → List ℕ)
+    (result : Result S SixelError) (image : Image) (k : ℕ) (plain : List ℕ)
+    → ((drawing another : Drawing) → All (λ byte. byte < 256) image.pixels
+    → IsDrawing image k drawing → IsDrawing image k another → drawing ≡ another)
+    → OnOk result (All (λ byte. byte < 256) image.pixels)
+    → IfOk result (λ text. IsFormText form image k (bytes text)) → IsText image k plain
+    → IfOk result (λ text. length (bytes text) ≤ length plain)
+short-written form bytes (Ok text) image k plain one fits is also =
+    let same : is.0 ≡ also.0 = one is.0 also.0 fits is.1 also.1 in
+    grind (arith, nat_tests, length-compact)
+short-written form bytes (Err e) image k plain one fits is also = tt
+
+pub one_string-written : {S : Type 0} (form : TextForm) (bytes : S → List ℕ)
+    (result : Result S SixelError) (limit : Limit) (image : Image) (k : ℕ)
+    → MatchOption (image_fault image) (IfErr result (λ e. e ≡ OutOfMemory)) (λ f. result ≡ Err f)
+    → OnOk result (All (λ byte. byte < 256) image.pixels)
+    → IfOk result (λ text. IsFormText form image k (bytes text))
+    → image.width * banded image.height ≤ limit.pixels
+    → IfOk result (λ text. IsOneString limit (bytes text))
+one_string-written form bytes (Ok text) limit image k refused fits is room =
+    let sound = IsWritable-drawn image k is.0 is.1 (grind (arith, nat_tests)) fits in
+    let small = area-drawn image k is.0 is.1 in
+    rw is.2
+    (IsOneString-drawn limit is.0 _ sound (IsDrawnText-form form is.0 sound) (omega (arith, room)))
+one_string-written form bytes (Err e) limit image k refused fits is room = tt
+
+pub read_back-written : {S : Type 0} (form : TextForm) (bytes : S → List ℕ)
+    (result : Result S SixelError) (decoder : DecoderState) (image : Image) (k : ℕ)
+    → MatchOption (image_fault image) (IfErr result (λ e. e ≡ OutOfMemory)) (λ f. result ≡ Err f)
+    → OnOk result (All (λ byte. byte < 256) image.pixels)
+    → IfOk result (λ text. IsFormText form image k (bytes text))
+    → CanRead decoder image.width image.height
+    → IfOk result
+    (λ text.
+    (drawing : Drawing) × IsDrawing image k drawing
+    × IsReadAs decoder (bytes text) (trip decoder.raster_crop drawing))
+read_back-written form bytes (Ok text) decoder image k refused fits is reads =
+    let sound = IsWritable-drawn image k is.0 is.1 (grind (arith, nat_tests)) fits in
+    let drawn = IsDrawnText-form form is.0 sound in
+    let back = CanRead-drawn image k is.0 is.1 decoder reads in
+    (is.0, is.1, rw is.2 (IsReadAs-drawn decoder is.0 _ sound drawn back))
+read_back-written form bytes (Err e) decoder image k refused fits is reads = tt

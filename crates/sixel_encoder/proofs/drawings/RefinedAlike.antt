@@ -1,0 +1,114 @@
+-- A refined text of an image is one of each image that shows the same.
+use Rattle.std.proofs.Common.{◌≡◌, ℕ, ◌<◌, List, length, ap, sym, subst, ◌∙◌, arith}
+use Rattle.std.specs.Prelude.{All, Err, IfOk, None, Ok, OnOk, Option, Result}
+use Rattle.std.specs.Option.{option_or}
+use Rattle.sixel_base.specs.CallFault.{CallFault, FailsBy, size_call_fault}
+use Rattle.sixel_base.specs.Payload.{Image}
+use Rattle.sixel_base.specs.declared.error.SixelError.{SixelError}
+use Rattle.sixel_palette.specs.Palette.{AreIndices, nearest}
+use Rattle.sixel_palette.specs.Refined.{IsRefined, base_entries, cut_entries, opaque_bins}
+use Rattle.sixel_palette.specs.GainCut.{bin_step}
+use Rattle.sixel_palette.specs.declared.palette.refined.RefinedPalette.{RefinedPalette}
+use Rattle.sixel_palette.proofs.refinement.One.{refined_same}
+use Rattle.sixel_palette.proofs.refinement.Tops.{tops_alike}
+use Rattle.sixel_palette.specs.declared.mapping.Mapping.{Mapping}
+use Rattle.sixel_encoder.specs.declared.form.TextForm.{TextForm}
+use Rattle.sixel_palette.specs.Dithering.{AreDithered}
+use Rattle.sixel_encoder.specs.Encoding.{image_fault, shown_image}
+use Rattle.sixel_encoder.specs.RefinedText.{IsRefinedText, ShowsEntries}
+use Rattle.sixel_encoder.proofs.drawings.PaletteText.{hidden-returned, rows-sound}
+use Rattle.sixel_encoder.proofs.drawings.SameDithering.{AreDithered-alike, drawing-alike}
+use Rattle.sixel_encoder.proofs.drawings.SameDithering.{pixels-same}
+use Rattle.sixel_palette.proofs.mapped_images.SameVisits.{AreAlike}
+use Rattle.sixel_encoder.proofs.drawings.SameDrawing.{IsShown-other}
+use Rattle.std.proofs.lemmas.Bool.Decides.{nat_tests}
+use Rattle.sixel_encoder.proofs.drawings.SameDrawing.{AreAlike-images}
+
+-- ---- the palette
+
+-- the indices of nearest entries are the same
+indices-same : (p q : List ℕ) (entries : List (List ℕ)) (indices : List ℕ) → AreAlike p q
+    → AreIndices p entries indices → AreIndices q entries indices
+indices-same p q entries indices alike are = grind (arith, nat_tests)
+
+-- so a palette is refined for both
+pub IsRefined-other : (image other : Image) (max_colors : ℕ) (palette : RefinedPalette)
+    → shown_image image ≡ shown_image other → IsRefined image.pixels max_colors palette
+    → IsRefined other.pixels max_colors palette
+IsRefined-other image other max_colors palette e is =
+    let alike = AreAlike-images image other e in
+    let colors = length is.members in
+    let same : opaque_bins image.pixels colors ≡ opaque_bins other.pixels colors = λ i. record {
+      sum = λ number. pixels-same image.pixels other.pixels alike number i;
+      step = bin_step colors;
+    } in
+    let first = pixels-same image.pixels other.pixels alike (nearest palette.colors.items) in
+    let initial = pixels-same image.pixels other.pixels alike (nearest palette.initial.items) in
+    record {
+      shown = is.shown;
+      few = is.few;
+      members = is.members;
+      are = record {
+        all = λ k d l. IsShown-other image other e _ (is.are.all k d l);
+        complete = λ c shown. is.are.complete c (IsShown-other other image (sym e) c shown);
+        ascending = is.are.ascending;
+      };
+      whole = is.whole;
+      base = is.base;
+      cut = λ l.
+          let w = is.cut l in (
+            w.0 ∙ ap (λ p. cut_entries p max_colors) same,
+            w.1 ∙ ap (λ p. base_entries p max_colors) same,
+          );
+      indices = grind (arith, nat_tests, indices-same);
+      error = is.error ∙ first;
+      falls = omega (arith, is.falls, first, initial);
+      initial_shown = is.initial_shown;
+      initial_few = is.initial_few;
+      top = grind (arith, nat_tests, tops_alike);
+      witnesses = λ k d l. IsShown-other image other e _ (is.witnesses k d l);
+      apart = is.apart;
+      bound = λ n l others few.
+          let far = is.bound n l others few in
+          (far.0, IsShown-other image other e far.0 far.1, far.2);
+    }
+
+-- ---- the text
+
+pub IsRefinedText-other : (image other : Image) (max_colors : ℕ) (mapping : Mapping)
+    (form : TextForm) (text : List ℕ) → image_fault image ≡ None
+    → shown_image image ≡ shown_image other → IsRefinedText image max_colors mapping form text
+    → IsRefinedText other max_colors mapping form text
+IsRefinedText-other image other max_colors mapping form text sound e is =
+    let alike = AreAlike-images image other e in
+    let rows = rows-sound image sound in
+    let colors = is.palette.colors.items in
+    let indices = is.text.indices in
+    let wide : image.width ≡ other.width = ap (λ s. s.width) e in
+    let dithered : AreDithered mapping other.width other.pixels colors indices =
+    rw wide at (AreDithered-alike mapping _ _ _ _ _ alike rows is.text.dithered) in
+    let drawing = drawing-alike mapping colors _ _ image other e rows is.text.dithered dithered in
+    record {
+      palette = is.palette;
+      refined = IsRefined-other image other max_colors is.palette e is.refined;
+      text = grind (arith, nat_tests);
+      exact = subst ShowsEntries drawing is.exact;
+    }
+
+-- images that show the same have one refined text
+pub hidden-refined : {S : Type 0} (bytes : S → List ℕ) (result : Result S SixelError)
+    (image other : Image) (max_colors : ℕ) (mapping : Mapping) (form : TextForm) (others : List ℕ)
+    (rest : Option CallFault)
+    → FailsBy (option_or (size_call_fault (image_fault image)) rest) result
+    → OnOk result (All (λ byte. byte < 256) image.pixels)
+    → IfOk result (λ text. IsRefinedText image max_colors mapping form (bytes text))
+    → shown_image image ≡ shown_image other → IsRefinedText other max_colors mapping form others
+    → IfOk result (λ text. bytes text ≡ others)
+hidden-refined bytes (Ok text) image other most mapping form others rest fails small is e too =
+    let same = pixels-same image.pixels other.pixels (AreAlike-images image other e) in
+    let colors =
+    (refined_same _ _ most is.palette too.palette small (IsShown-other image other e)
+    (IsShown-other other image (sym e)) same is.refined too.refined).1 in
+    hidden-returned bytes (Ok text) image other is.palette.colors.items mapping form others rest
+    fails is.text e (rw colors too.text)
+hidden-refined bytes (Err f) image other most mapping form others rest fails small is e too = tt

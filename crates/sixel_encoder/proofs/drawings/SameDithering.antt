@@ -1,0 +1,201 @@
+-- Images that show the same have the same indices at their opaque pixels, so one drawing.
+use Rattle.std.proofs.Common.{◌≡◌, ℕ, zero, suc, ◌+◌, ◌*◌, ◌<◌, ◌≤◌, List, length, refl}
+use Rattle.std.proofs.Common.{ap, sym, subst, arith, inl, inr}
+use Rattle.std.specs.Prelude.{◌/◌, None, Option, slice_index}
+use Rattle.std.proofs.lemmas.Bool.{cases_lt}
+use Rattle.std.proofs.lemmas.List.{ext_get_or}
+use Rattle.std.proofs.lemmas.List.FromFn.{length-map-range_with_len}
+use Rattle.sixel_palette.specs.Palette.{IsOpaque}
+use Rattle.sixel_palette.specs.Refined.{opaque_pixels}
+use Rattle.sixel_base.specs.Payload.{Image}
+use Rattle.sixel_palette.specs.declared.dither.Amplitude.{Amplitude}
+use Rattle.sixel_palette.specs.declared.dither.Dither.{Dither}
+use Rattle.sixel_palette.specs.declared.dither.Dither.TheVariants.{Diffusion, Off, Ordered}
+use Rattle.sixel_palette.specs.declared.mapping.Mapping.{Mapping}
+use Rattle.sixel_palette.specs.declared.mapping.Tolerance.{Tolerance}
+use Rattle.sixel_palette.specs.Dithering.{AreDithered, AreMapped, HasTarget, HaveTargets, IsIndex}
+use Rattle.sixel_palette.specs.Dithering.{Mapped, amplitude_of, entry_of, mapped_of, pattern_of}
+use Rattle.sixel_palette.specs.Dithering.{serpentine, target_of, tolerance_of}
+use Rattle.sixel_encoder.specs.Encoding.{shown_image}
+use Rattle.sixel_palette.specs.Gray.{source_pixels}
+use Rattle.sixel_encoder.specs.IndexedDrawing.{entries_of, indexed_drawing}
+use Rattle.sixel_palette.proofs.mapped_images.DitheredIndices.{AreRowsOf, visit-inside}
+use Rattle.sixel_palette.proofs.mapped_images.GraySource.{AreRowsOf-source, IsSource-pixels}
+use Rattle.sixel_palette.proofs.mapped_images.GraySource.{dithered-count}
+use Rattle.sixel_palette.proofs.mapped_images.GraySource.{entry-source, source-alike}
+use Rattle.sixel_encoder.proofs.drawings.IndexedDrawing.{get_or-entries}
+use Rattle.sixel_palette.proofs.mapped_images.KeptEntries.{IsIndex-same}
+use Rattle.sixel_palette.proofs.mapped_images.PaletteError.{number-dark, number-light, sum_to-same}
+use Rattle.sixel_encoder.proofs.drawings.SameDrawing.{drawing-fields}
+use Rattle.sixel_palette.proofs.mapped_images.SameVisits.{AreAlike, AreSameOpaque, channel-alike}
+use Rattle.sixel_palette.proofs.mapped_images.SameVisits.{entry-before, errors-alike}
+use Rattle.sixel_palette.proofs.mapped_images.SameVisits.{neighbor-alike}
+use Rattle.sixel_palette.proofs.mapped_images.SameVisits.{target-alike, with_pixels}
+use Rattle.std.proofs.lemmas.Bool.Decides.{nat_tests}
+use Rattle.sixel_encoder.proofs.drawings.SameDrawing.{AreAlike-images}
+
+-- ---- all kinds
+
+-- the targets of an opaque pixel's visit are the same
+target_of-alike : (dither : Dither) (m : Mapped) (q a b : List ℕ) (n : ℕ) → AreAlike m.pixels q
+    → AreRowsOf m.pixels m.width → n < length m.pixels / 4 → AreSameOpaque m a b n
+    → IsOpaque m.pixels (serpentine m.width n)
+    → target_of dither m a n ≡ target_of dither (with_pixels m q) b n
+target_of-alike Off m q a b n alike rows l same light = grind (arith, nat_tests, visit-inside)
+target_of-alike (Ordered amplitude) m q a b n alike rows l same light =
+    grind (arith, nat_tests, visit-inside, channel-alike)
+target_of-alike (Diffusion strength) m q a b n alike rows l same light =
+    grind (arith, nat_tests, target-alike, visit-inside, with_pixels, errors-alike)
+
+-- an index does not depend on the pixels
+IsIndex-other : (m : Mapped) (q c : List ℕ) (neighbor : Option ℕ) (index : ℕ)
+    → IsIndex m c neighbor index → IsIndex (with_pixels m q) c neighbor index
+IsIndex-other m q c neighbor index is = grind (arith, nat_tests)
+
+-- the indices of a visit's pixel are the same, if both have their targets
+index-alike : (dither : Dither) (m : Mapped) (q a b : List ℕ) (n : ℕ) → AreAlike m.pixels q
+    → AreRowsOf m.pixels m.width → n < length m.pixels / 4 → AreSameOpaque m a b n
+    → HasTarget m (target_of dither m a n) a n
+    → HasTarget (with_pixels m q) (target_of dither (with_pixels m q) b n) b n
+    → IsOpaque m.pixels (serpentine m.width n)
+    → slice_index a (serpentine m.width n) ≡ slice_index b (serpentine m.width n)
+index-alike dither m q a b n alike rows l same first second light =
+    let at = serpentine m.width n in
+    let there = alike.opaque at (visit-inside m n rows l) light in
+    let own = target_of dither m a n in
+    let target = target_of-alike dither m q a b n alike rows l same light in
+    grind (arith, nat_tests, neighbor-alike m q own a b n alike rows l same, IsIndex-same, at)
+
+-- so are those of all visits
+same-opaque : (dither : Dither) (m : Mapped) (q a b : List ℕ) (n : ℕ) → AreAlike m.pixels q
+    → AreRowsOf m.pixels m.width → n ≤ length m.pixels / 4
+    → ((k : ℕ) → k < n → HasTarget m (target_of dither m a k) a k)
+    → ((k : ℕ) → k < n → HasTarget (with_pixels m q) (target_of dither (with_pixels m q) b k) b k)
+    → AreSameOpaque m a b n
+same-opaque dither m q a b zero alike rows most first second = λ k l. absurd (omega arith)
+same-opaque dither m q a b (suc n) alike rows most first second = λ k l light.
+    let before =
+    same-opaque dither m q a b n alike rows (omega arith) (λ j lj. first j (omega arith))
+    (λ j lj. second j (omega arith)) in
+    let last = index-alike dither m q a b n alike rows (omega arith) before in
+    elim (cases_lt k n) [
+      | inl earlier ↦ before k earlier light
+      | inr most ↦
+          let one : k ≡ n = omega arith in
+          rw one (last (first n (omega arith)) (second n (omega arith)) (rw one at light))
+    ]
+
+-- ---- the mapping
+
+-- the sum of any number over the opaque pixels is the same
+pub pixels-same : (p q : List ℕ) → AreAlike p q → (number : List ℕ → ℕ)
+    → opaque_pixels p number ≡ opaque_pixels q number
+pixels-same p q alike number = grind (arith, nat_tests, sum_to-same, number-dark, number-light)
+
+-- so are the tolerance and the amplitude
+tolerance-alike : (dither : Dither) (tolerance : Tolerance) (colors : List (List ℕ)) (p q : List ℕ)
+    → AreAlike p q → tolerance_of dither tolerance colors p ≡ tolerance_of dither tolerance colors q
+tolerance-alike dither tolerance colors p q alike = grind (arith, nat_tests, pixels-same)
+
+amplitude-alike : (amplitude : Amplitude) (colors : List (List ℕ)) (p q : List ℕ) → AreAlike p q
+    → amplitude_of amplitude colors p ≡ amplitude_of amplitude colors q
+amplitude-alike amplitude colors p q alike = grind (arith, nat_tests, pixels-same)
+
+pattern-alike : (dither : Dither) (colors : List (List ℕ)) (p q : List ℕ) → AreAlike p q
+    → pattern_of dither colors p ≡ pattern_of dither colors q
+pattern-alike dither colors p q alike = grind (arith, nat_tests, amplitude-alike)
+
+-- indices that are mapped are mapped for the other pixels
+other-mapped : (dither : Dither) (m : Mapped) (q a : List ℕ) → AreAlike m.pixels q
+    → AreRowsOf m.pixels m.width → AreMapped m (target_of dither m a) a
+    → AreMapped (with_pixels m q) (target_of dither (with_pixels m q) a) a
+other-mapped dither m q a alike rows are = record {
+  one_each = omega (arith, are.one_each, alike.count);
+  each = λ n l.
+      let here : n < length m.pixels / 4 = omega (arith, l, alike.count) in
+      let at = serpentine m.width n in
+      let inside = visit-inside m n rows here in
+      let same : AreSameOpaque m a a n = λ k lk light. refl in
+      let own = target_of dither m a n in
+      record {
+        opaque = λ light.
+            elim (cases_lt (slice_index m.pixels (4 * at + 3)) 128) [
+              | inl dark ↦ absurd (omega (arith, alike.dark at inside dark, light))
+              | inr lit ↦
+                  let target = target_of-alike dither m q a a n alike rows here same lit in
+                  let near = neighbor-alike m q own a a n alike rows here same in
+                  let is = IsIndex-other _ q _ _ _ ((are.each n here).opaque lit) in
+                  rw target at (rw near at is)
+            ];
+        hidden = λ dark.
+            let shade = cases_lt (slice_index m.pixels (4 * at + 3)) 128 in
+            grind (arith, nat_tests, are.each n here);
+      };
+}
+
+module _ (mapping : Mapping) (width : ℕ) (colors : List (List ℕ)) where
+  -- so the images are mapped alike
+  mapped-alike : (p q : List ℕ) → AreAlike p q
+      → with_pixels (mapped_of mapping width p colors) q ≡ mapped_of mapping width q colors
+  mapped-alike p q alike = grind (arith, tolerance-alike, pattern-alike)
+
+  -- so indices of the one are indices of the other
+  HaveTargets-alike : (p q a : List ℕ) → AreAlike p q → AreRowsOf p width
+      → HaveTargets mapping width p colors a → HaveTargets mapping width q colors a
+  HaveTargets-alike p q a alike rows are =
+      subst (λ (o : Mapped). AreMapped o (target_of mapping.dither o a) a) (mapped-alike p q alike)
+      (other-mapped mapping.dither (mapped_of mapping width p colors) q a alike rows are)
+
+  pub AreDithered-alike : (p q a : List ℕ) → AreAlike p q → AreRowsOf p width
+      → AreDithered mapping width p colors a → AreDithered mapping width q colors a
+  AreDithered-alike p q a alike rows are =
+      let first = source_pixels mapping.dither colors p in
+      let second = source_pixels mapping.dither colors q in
+      HaveTargets-alike first second a (source-alike mapping.dither colors p q alike)
+      (AreRowsOf-source p first width (IsSource-pixels mapping.dither colors p) rows) are
+
+module _ (mapping : Mapping) (colors : List (List ℕ)) (a b : List ℕ) where
+  -- so are the entries of all pixels
+  entry-targets : (width : ℕ) (p q : List ℕ) (pixel : ℕ) → AreAlike p q → AreRowsOf p width
+      → HaveTargets mapping width p colors a → HaveTargets mapping width q colors b
+      → pixel < length p / 4 → entry_of p a pixel ≡ entry_of q b pixel
+  entry-targets width p q pixel alike rows first second l =
+      let m = mapped_of mapping width p colors in
+      let also =
+      subst (λ (o : Mapped). AreMapped o (target_of mapping.dither o b) b)
+      (sym (mapped-alike mapping width colors p q alike)) second in
+      let count = length p / 4 in
+      entry-before m q a b count pixel alike rows.some l (same-opaque mapping.dither m q a b count
+      alike rows (omega arith) first.each (λ k lk. also.each k (omega (arith, alike.count, lk))))
+      (visit-inside m pixel rows l)
+
+  entry-alike : (width : ℕ) (p q : List ℕ) (pixel : ℕ) → AreAlike p q → AreRowsOf p width
+      → AreDithered mapping width p colors a → AreDithered mapping width q colors b
+      → pixel < length p / 4 → entry_of p a pixel ≡ entry_of q b pixel
+  entry-alike width p q pixel alike rows first second l =
+      let s = source_pixels mapping.dither colors p in
+      let t = source_pixels mapping.dither colors q in
+      let own = IsSource-pixels mapping.dither colors p in
+      let same = source-alike mapping.dither colors p q alike in
+      let both =
+      entry-targets width s t pixel same (AreRowsOf-source p s width own rows) first second in
+      grind (arith, nat_tests, entry-source, IsSource-pixels mapping.dither colors q)
+
+  -- and the drawings
+  pub drawing-alike : (image other : Image) → shown_image image ≡ shown_image other
+      → AreRowsOf image.pixels image.width → AreDithered mapping image.width image.pixels colors a
+      → AreDithered mapping other.width other.pixels colors b
+      → indexed_drawing image colors a ≡ indexed_drawing other colors b
+  drawing-alike image other e rows first second =
+      let alike = AreAlike-images image other e in
+      let wide : other.width ≡ image.width = sym (ap (λ s. s.width) e) in
+      let also = rw wide at second in
+      let count = dithered-count mapping image.width image.pixels colors a first in
+      let size = dithered-count mapping image.width other.pixels colors b also in
+      let entries =
+      ext_get_or None (entries_of image.pixels a) (entries_of other.pixels b)
+      (grind (arith, nat_tests, length-map-range_with_len)) (λ pixel l.
+      let own : pixel < length a = grind (arith, nat_tests, length-map-range_with_len) in
+      let both = entry-alike image.width image.pixels other.pixels pixel alike rows first also in
+      grind (arith, nat_tests, get_or-entries)) in
+      grind (arith, nat_tests, drawing-fields)

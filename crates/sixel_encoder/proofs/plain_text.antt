@@ -1,0 +1,5 @@
+pub mod Bound
+pub mod Length
+pub mod Marks
+pub mod Payload
+pub mod Text

@@ -1,0 +1,80 @@
+-- What marks do to the place, the colors and the sizes: the history is where the pen is.
+use Rattle.std.specs.Prelude.{Some}
+use Rattle.std.proofs.Common.{List, arith, false, refl, ℕ, ◌*◌, ◌<◌, ◌∷◌, ◌≡◌, []}
+use Rattle.sixel_base.specs.History.{Color, History}
+use Rattle.sixel_base.specs.Limits.{whole_limit}
+use Rattle.sixel_base.specs.Place.{across, down, span}
+use Rattle.sixel_base.specs.Stroke.{is_definition, named_by, ratio, registers, selected}
+use Rattle.sixel_base.specs.declared.settings.PixelAspectRatio.{PixelAspectRatio}
+use Rattle.sixel_encoder.specs.Marks.{AreAllowed, Back, Draw, IsAllowed, Mark, Next, Pen, Pick}
+use Rattle.sixel_encoder.specs.Marks.{moved, moved_by}
+use Rattle.sixel_encoder.specs.RunTokens.{row_tokens}
+use Rattle.sixel_encoder.specs.Text.{Drawing, bands}
+use Rattle.sixel_encoder.specs.Trip.{IsWritable}
+use Rattle.sixel_encoder.proofs.round_trip.Digits.{fields-numbers, numbers}
+use Rattle.sixel_encoder.proofs.round_trip.Extent.{Fits, Fits-run_tokens, IsWithinLimits}
+use Rattle.sixel_encoder.proofs.round_trip.RowSteps.{Moved-row}
+use Rattle.sixel_encoder.proofs.band_rows.ShortestRows.{spells}
+use Rattle.sixel_encoder.proofs.round_trip.TextHistory.{AreSound-row}
+use Rattle.sixel_encoder.proofs.round_trip.Tokens.{with_mark, with_marks}
+use Rattle.std.proofs.lemmas.Bool.Decides.{nat_tests}
+
+-- ---- a color introducer of one number
+
+-- it selects its register
+selects : (entry : ℕ) → entry < 256 → named_by (numbers entry []) ≡ entry
+selects entry h = grind (arith, nat_tests, numbers, fields-numbers entry [])
+
+-- one number defines no color
+defines_none : (entry : ℕ) → entry < 256 → is_definition (numbers entry []) ≡ false
+defines_none entry h = grind (arith, nat_tests, fields-numbers entry [] (omega arith) tt)
+
+-- so it keeps the registers
+keeps_registers : (entry : ℕ) (h : History) (start : List (List ℕ)) → entry < 256
+    → registers start (Color (numbers entry []) ∷ h) ≡ registers start h
+keeps_registers entry h start small = rw (defines_none entry small) refl
+
+-- ---- marks
+
+-- a history is where the pen is, with this palette, within the drawing's sizes
+pub record Follows (drawing : Drawing) (start palette : List (List ℕ)) (pen : Pen)
+    (history : History) : Type 0 where
+  pub single : span history ≡ 1
+  pub place : across history ≡ pen.column
+  pub level : down history ≡ 6 * pen.band
+  pub named : (register : ℕ) → pen.register ≡ Some register → selected history ≡ register
+  pub defined : registers start history ≡ palette
+  pub shape : (other : PixelAspectRatio) → ratio other history ≡ drawing.aspect_ratio
+  pub fits : Fits whole_limit drawing.width (6 * bands drawing.height) history
+
+-- two options with a value are equal only if the values are
+same_some : (m n : ℕ) → Some m ≡ Some n → m ≡ n
+same_some m n e = cc
+
+module _ (drawing : Drawing) (is : IsWritable drawing) where
+  -- a drawing's sizes are within the limits
+  IsWithinLimits-drawing : IsWithinLimits whole_limit drawing.width (6 * bands drawing.height)
+  IsWithinLimits-drawing = record { wide = is.wide; high = is.high; area = is.area }
+
+  -- a history follows the pen over a mark
+  pub Follows-mark : (start palette : List (List ℕ)) (pen : Pen) (mark : Mark) (h : History)
+      → IsAllowed drawing pen mark → Follows drawing start palette pen h
+      → Follows drawing start palette (moved pen mark) (with_mark mark h)
+  Follows-mark start palette pen (Pick register) h may follows =
+      grind (arith, nat_tests, selects, same_some, keeps_registers)
+  Follows-mark start palette pen (Draw row) h may follows =
+      let fits =
+      Fits-run_tokens whole_limit drawing.width (6 * bands drawing.height) (row_tokens row) h in
+      let sound = AreSound-row row in
+      grind (arith, nat_tests, Moved-row row h, spells row, IsWithinLimits-drawing)
+  Follows-mark start palette pen Back h may follows = grind (arith, nat_tests)
+  Follows-mark start palette pen Next h may follows = grind (arith, nat_tests)
+
+  -- and over all marks
+  pub Follows-marks : (start palette : List (List ℕ)) (pen : Pen) (marks : List Mark) (h : History)
+      → AreAllowed drawing pen marks → Follows drawing start palette pen h
+      → Follows drawing start palette (moved_by marks pen) (with_marks marks h)
+  Follows-marks start palette pen [] h may follows = follows
+  Follows-marks start palette pen (mark ∷ marks) h may follows =
+      Follows-marks start palette (moved pen mark) marks (with_mark mark h) may.1
+      (Follows-mark start palette pen mark h may.0 follows)

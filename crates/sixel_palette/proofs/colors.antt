@@ -1,0 +1,4 @@
+pub mod Colors
+pub mod Distance
+pub mod Lists
+pub mod Shown

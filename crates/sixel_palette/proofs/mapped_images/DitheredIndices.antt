@@ -1,0 +1,169 @@
+-- Palette indices that are stored one after the other, and those of whole rows.
+use Rattle.std.proofs.Common.{◌≡◌, ℕ, ◌+◌, ◌*◌, ◌<◌, ◌≤◌, List, length, set, sym, arith, inl}
+use Rattle.std.proofs.Common.{inr}
+use Rattle.std.specs.Prelude.{◌/◌, ◌%◌, slice_index}
+use Rattle.std.proofs.lemmas.Bool.{cases_lt}
+use Rattle.std.proofs.lemmas.Bool.Decides.{nat_tests}
+use Rattle.std.proofs.lemmas.List.{get_or_past, get_or-set_other, get_or-set_same}
+use Rattle.std.proofs.lemmas.Nat.{div-add-mod'}
+use Rattle.sixel_palette.specs.Palette.{AreIndices, IsOpaque, color_at}
+use Rattle.sixel_palette.specs.Dithering.{AreMapped, HasTarget, IsIndex, Mapped, neighbor_of}
+use Rattle.sixel_palette.specs.Dithering.{serpentine, whole_rows}
+use Rattle.sixel_palette.specs.declared.dithering.mapped.MappedImage.{MappedImage}
+use Rattle.sixel_palette.specs.inside.Mapped.{AreEntries, IsIndexAt, IsLater, IsMappable}
+use Rattle.sixel_palette.specs.inside.Mapped.{mapped_value}
+use Rattle.sixel_palette.proofs.mapped_images.KeptEntries.{AreSame, IsIndex-exact, neighbor-inside}
+use Rattle.sixel_palette.proofs.mapped_images.KeptEntries.{neighbor-same}
+use Rattle.sixel_palette.proofs.mapped_images.Serpentine.{serpentine-apart, serpentine-serpentine}
+use Rattle.sixel_palette.proofs.nearest_entries.Nearest.{nearest-le}
+
+-- ---- one more index
+
+-- a visit whose pixel has its index keeps it with the indices up to its own
+pub HasTarget-same : (m : Mapped) (target a b : List ℕ) (n : ℕ) → 0 < m.width
+    → AreSame m.width a b (n + 1) → HasTarget m target a n → HasTarget m target b n
+HasTarget-same m target a b n some same has =
+    let kept = sym (neighbor-same m target a b n some (λ k l. same k (omega arith))) in
+    grind (arith, nat_tests)
+
+-- a visit whose index is stored has its index
+pub HasTarget-set : (m : Mapped) (target indices : List ℕ) (n index : ℕ) → 0 < m.width
+    → serpentine m.width n < length indices → IsIndexAt m target indices n index
+    → HasTarget m target (set indices (serpentine m.width n) index) n
+HasTarget-set m target indices n index some inside is =
+    grind (arith, nat_tests, get_or-set_same, neighbor-same, get_or-set_other, serpentine-apart)
+
+-- a transparent pixel has the index 0
+pub IsIndexAt-dark : (m : Mapped) (target indices : List ℕ) (n : ℕ) → 0 < length m.colors
+    → slice_index m.pixels (4 * serpentine m.width n + 3) < 128
+    → IsIndexAt m target indices n 0
+IsIndexAt-dark m target indices n some dark = grind (arith, nat_tests)
+
+-- an opaque one that of its target
+pub IsIndexAt-light : (m : Mapped) (target indices : List ℕ) (n index : ℕ)
+    → IsOpaque m.pixels (serpentine m.width n)
+    → IsIndex m target (neighbor_of m target indices n) index
+    → IsIndexAt m target indices n index
+IsIndexAt-light m target indices n index light is = grind (arith, nat_tests)
+
+-- so the visits before it and its own have theirs
+pub HasTarget-more : (m : Mapped) (target : ℕ → List ℕ) (indices : List ℕ) (n index : ℕ)
+    → 0 < m.width → serpentine m.width n < length indices
+    → ((k : ℕ) → k < n → HasTarget m (target k) indices k)
+    → IsIndexAt m (target n) indices n index → (k : ℕ) → k < n + 1
+    → HasTarget m (target k) (set indices (serpentine m.width n) index) k
+HasTarget-more m target indices n index some inside before here k l =
+    let new = set indices (serpentine m.width n) index in
+    elim (cases_lt k n) [
+      | inl earlier ↦
+          HasTarget-same m (target k) indices new k some
+          (λ j lj. grind (arith, get_or-set_other, serpentine-apart)) (before k earlier)
+      | inr last ↦ grind (arith, nat_tests, new, HasTarget-set)
+    ]
+
+-- each index is that of an entry, if the stored one is
+pub AreEntries-set : (colors : List (List ℕ)) (indices : List ℕ) (pixel index : ℕ)
+    → pixel < length indices → AreEntries colors indices → index < length colors
+    → AreEntries colors (set indices pixel index)
+AreEntries-set colors indices pixel index inside are l =
+    grind (arith, nat_tests, get_or-set_same, get_or-set_other)
+
+-- ---- all indices
+
+-- whole rows of pixels
+pub record AreRowsOf (p : List ℕ) (width : ℕ) : Type 0 where
+  pub some : 0 < width
+  pub count : ℕ
+  pub whole : length p / 4 ≡ count * width
+
+-- those of an image that is mapped to some colors
+pub record AreRows (m : Mapped) : Type 0 where
+  pub rows : AreRowsOf m.pixels m.width
+  pub some : 0 < length m.colors
+
+pub AreRows-image : (image : MappedImage) → IsMappable image → AreRows (mapped_value image)
+AreRows-image image is = grind (arith, nat_tests)
+
+-- the pixel of a visit lies in the rows
+pub visit-inside : (m : Mapped) (n : ℕ) → AreRowsOf m.pixels m.width → n < length m.pixels / 4
+    → serpentine m.width n < length m.pixels / 4
+visit-inside m n rows l = grind (arith, nat_tests)
+
+-- the visit of a pixel has its index
+pub HasTarget-pixel : (m : Mapped) (target : ℕ → List ℕ) (indices : List ℕ) (pixel : ℕ)
+    → AreRowsOf m.pixels m.width → AreMapped m target indices → pixel < length m.pixels / 4
+    → HasTarget m (target (serpentine m.width pixel)) indices (serpentine m.width pixel)
+HasTarget-pixel m target indices pixel rows are l =
+    are.each (serpentine m.width pixel) (visit-inside m pixel rows l)
+
+pub AreEntries-indices : (m : Mapped) (indices : List ℕ) → AreRows m
+    → AreIndices m.pixels m.colors indices → AreEntries m.colors indices
+AreEntries-indices m indices rows are = grind (arith, nat_tests, get_or_past)
+
+-- before the visits each has that of its nearest entry
+pub IsLater-indices : (m : Mapped) (indices : List ℕ) (n : ℕ) → AreRows m
+    → AreIndices m.pixels m.colors indices → n < length m.pixels / 4 → IsLater m indices n
+IsLater-indices m indices n rows are l = grind (arith, nat_tests, visit-inside)
+
+-- and keeps it until its visit
+pub IsLater-set : (m : Mapped) (indices : List ℕ) (n index k : ℕ) → 0 < m.width → n < k
+    → IsLater m indices k → IsLater m (set indices (serpentine m.width n) index) k
+IsLater-set m indices n index k some later is = grind (arith, get_or-set_other, serpentine-apart)
+
+-- without a tolerance the nearest entries of the colors have the colors as targets
+pub AreMapped-exact : (m : Mapped) (target : ℕ → List ℕ) (indices : List ℕ) → AreRows m
+    → m.tolerance ≡ 0 → AreIndices m.pixels m.colors indices
+    → ((n : ℕ) → n < length m.pixels / 4 → IsOpaque m.pixels (serpentine m.width n)
+    → target n ≡ color_at m.pixels (serpentine m.width n))
+    → AreMapped m target indices
+AreMapped-exact m target indices rows none are same = record {
+  one_each = are.one_each;
+  each = λ n l.
+      let pixel = serpentine m.width n in
+      let inside = visit-inside m n rows.rows l in
+      record {
+        opaque = λ light.
+            IsIndex-exact m (target n) (neighbor_of m (target n) indices n)
+            (slice_index indices pixel) none
+            (neighbor-inside m (target n) indices n (AreEntries-indices m indices rows are))
+            (rw (same n l light) (are.opaque pixel inside light));
+        hidden = λ dark. are.hidden pixel inside dark;
+      };
+}
+
+-- and the other way round
+pub AreIndices-mapped : (m : Mapped) (target : ℕ → List ℕ) (indices : List ℕ) → AreRows m
+    → m.tolerance ≡ 0 → AreMapped m target indices
+    → ((n : ℕ) → n < length m.pixels / 4 → IsOpaque m.pixels (serpentine m.width n)
+    → target n ≡ color_at m.pixels (serpentine m.width n))
+    → AreIndices m.pixels m.colors indices
+AreIndices-mapped m target indices rows none are same = record {
+  one_each = are.one_each;
+  opaque = λ pixel l light.
+      let back = serpentine-serpentine m.width pixel rows.rows.some in
+      let has = HasTarget-pixel m target indices pixel rows.rows are l in
+      let own = same (serpentine m.width pixel) (visit-inside m pixel rows.rows l) in
+      grind (arith, nat_tests, nearest-le);
+  hidden = λ pixel l dark.
+      let back = serpentine-serpentine m.width pixel rows.rows.some in
+      let has = HasTarget-pixel m target indices pixel rows.rows are l in
+      grind (arith, nat_tests);
+}
+
+-- without an entry no pixel is opaque, so there is nothing to map
+pub AreMapped-none : (m : Mapped) (target : ℕ → List ℕ) (indices : List ℕ)
+    → AreRowsOf m.pixels m.width → length m.colors ≡ 0 → AreIndices m.pixels m.colors indices
+    → AreMapped m target indices
+AreMapped-none m target indices rows none are = grind (arith, nat_tests, visit-inside)
+
+-- ---- whole rows
+
+-- the row of a visit lies in them
+pub row-within : (bytes width n : ℕ) → 0 < width → bytes ≡ whole_rows bytes width
+    → n < bytes / 4 → n / width * width + width ≤ bytes / 4
+row-within bytes width n some rows l = grind (arith, nat_tests)
+
+-- the visit of its step is the visit
+pub step-visit : (width n row step : ℕ) → row ≡ n / width → step ≡ n % width
+    → row * width + step ≡ n
+step-visit width n row step first second = rw (first, second) (div-add-mod' n width)

@@ -1,0 +1,4 @@
+pub mod Keys
+pub mod Nearest
+pub mod NearestEntry
+pub mod SixteenEntries

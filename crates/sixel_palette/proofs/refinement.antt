@@ -1,0 +1,12 @@
+pub mod BestBox
+pub mod Bins
+pub mod Counts
+pub mod CutBoxes
+pub mod Cuts
+pub mod Divide
+pub mod Lloyd
+pub mod One
+pub mod Refined
+pub mod Refinement
+pub mod Sums
+pub mod Tops

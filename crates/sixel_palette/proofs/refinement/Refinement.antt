@@ -1,0 +1,178 @@
+-- A palette with refined entries is the refined palette, and each color has its nearest entry.
+use Rattle.std.proofs.Common.{◌≡◌, ℕ, zero, suc, ◌+◌, ◌*◌, ◌/◌, ◌<◌, ◌≤◌, List, [], ◌∷◌, ◌++◌}
+use Rattle.std.proofs.Common.{length, get_or, map, ap, subst, sym, ◌∙◌, refl, arith, inl, inr}
+use Rattle.std.proofs.lemmas.Bool.{cases_lt}
+use Rattle.std.proofs.Math.Seq.{get_or-append_seam}
+use Rattle.std.specs.List.{All}
+use Rattle.std.proofs.lemmas.List.{get_or_append_left, length-append, length-map}
+use Rattle.std.proofs.lemmas.Simd.{map-map}
+use Rattle.std.specs.declared.alloc.Global.{Global}
+use Rattle.std.specs.declared.vec.Vec.{Vec}
+use Rattle.sixel_palette.specs.declared.palette.refined.RefinedPalette.{RefinedPalette}
+use Rattle.sixel_palette.specs.declared.palette.refined.Refinement.{Refinement}
+use Rattle.sixel_palette.specs.Palette.{AreIndices, IsShown, color_at, nearest, no_entry}
+use Rattle.sixel_palette.specs.Refined.{IsRefined, base_entries, cut_entries, opaque_bins}
+use Rattle.sixel_palette.specs.Refined.{register_color, summed_error}
+use Rattle.sixel_palette.specs.inside.PaletteCodes.{IsListed, color_of}
+use Rattle.sixel_palette.specs.inside.PaletteNearest.{AreIndicesTo, IsIndex}
+use Rattle.sixel_palette.specs.inside.PaletteRefinement.{HasEntries, IsRefinement}
+use Rattle.sixel_palette.proofs.traversal.Choices.{members_from_codes, IsColor-shown}
+use Rattle.sixel_palette.proofs.refinement.Counts.{pixels_from_counts}
+use Rattle.sixel_palette.proofs.traversal.Farthest.{nearest_from_entry}
+use Rattle.sixel_palette.proofs.refinement.Refined.{nearest_entry-lt, bound_of_shown}
+use Rattle.sixel_palette.proofs.refinement.Tops.{near_listed, tops_alike, tops_fall}
+use Rattle.sixel_palette.proofs.refinement.Tops.{tops_none, tops_occur}
+
+-- the error is that of all pixels
+pub refinement-error : (pixels : List ℕ) (room : ℕ) (it : Refinement) → IsRefinement pixels room it
+    → it.entries.error ≡ summed_error it.entries.colors.items pixels
+refinement-error pixels room it is =
+    is.entries.error ∙ is.counted.sums (nearest it.entries.colors.items)
+
+module _ (pixels : List ℕ) (room : ℕ) (it : Refinement)
+    (bytes : (k : ℕ) → get_or pixels k 0 < 256) (is : IsRefinement pixels room it) where
+  -- with an opaque pixel there is an entry
+  pub refinement-below : (c : List ℕ) → IsShown pixels c
+      → nearest it.entries.colors.items c < no_entry
+  refinement-below c m =
+      let listed = is.are.shown c m in
+      let l = listed.1 in
+      nearest_entry-lt _ _ (is.entries.some (omega (arith, l))) is.entries.shown
+      (IsColor-shown _ _ bytes m)
+
+  -- each pixel has its index
+  indexed : (pixel : ℕ) → pixel < length pixels / 4
+      → (index : ℕ) × IsIndex pixels it.entries.colors.items pixel index
+  indexed pixel l =
+      elim (cases_lt (get_or pixels (4 * pixel + 3) 0) 128) [
+        | inl dark ↦
+            (0, record { opaque = λ light. absurd (omega (arith, dark)); hidden = λ _. refl })
+        | inr light ↦
+            let c = color_at pixels pixel in
+            let shown : IsShown pixels c = (pixel, l, light, refl) in
+            let (k, inside, same) = is.are.shown c shown in
+            let near = rw same at (is.entries.nearest k inside) in (
+              get_or it.entries.indices.items k 0,
+              record {
+                opaque = λ _.
+                    nearest_from_entry it.entries.colors.items c _ (refinement-below c shown) near;
+                hidden = λ dark. absurd (omega (arith, dark, light));
+              },
+            )
+      ]
+
+  -- and so do the first n
+  first-indexed : (n : ℕ) → n ≤ length pixels / 4
+      → (indices : List ℕ) × (length indices ≡ n)
+      × AreIndicesTo pixels it.entries.colors.items n indices
+  first-indexed zero l = ([], refl, λ k m. absurd (omega (arith, m)))
+  first-indexed (suc n) l =
+      let (indices, size, before) = first-indexed n (omega arith) in
+      let (index, own) = indexed n (omega arith) in (
+        indices ++ index ∷ [],
+        omega (arith, length-append indices (index ∷ []), size),
+        λ k m.
+            elim (cases_lt k n) [
+              | inl less ↦
+                  rw (get_or_append_left indices (index ∷ []) 0 k (omega (arith, size, less)))
+                  (before k less)
+              | inr more ↦
+                  let here : k ≡ n = omega (arith, m, more) in
+                  let last : get_or (indices ++ index ∷ []) k 0 ≡ index =
+                  ap (λ i. get_or (indices ++ index ∷ []) i 0) (here ∙ sym size)
+                  ∙ get_or-append_seam indices index [] 0 in
+                  subst (IsIndex pixels it.entries.colors.items k) (sym last)
+                  (subst (λ i. IsIndex pixels it.entries.colors.items i index) (sym here) own)
+            ],
+      )
+
+  -- with the palette indices of nearest entries, the entries are the refined palette
+  pub refinement-palette : (palette : RefinedPalette) → HasEntries it.entries palette
+      → AreIndices pixels it.entries.colors.items palette.indices.items
+      → IsRefined pixels room palette
+  refinement-palette palette has indices =
+      let codes = is.codes in
+      let are = is.are in
+      let made = is.entries in
+      let colors = it.entries.colors.items in
+      let initial = it.entries.initial.items in
+      let weighed = λ (entries : List (List ℕ)). is.counted.sums (nearest entries) in
+      let same_pixels =
+      pixels_from_counts _ _ _ is.counted
+      ∙ ap (opaque_bins pixels) (sym (length-map codes color_of)) in
+      let shown = tops_alike _ _ are.listed are.shown _ _ _ _ made.top in
+      let occur : All (IsShown pixels) it.entries.witnesses.items = tops_occur _ _ _ _ _ shown in
+      let long = length-map codes color_of in
+      record {
+        shown = rw has.colors made.shown;
+        few = rw has.colors made.few;
+        members = map color_of codes;
+        are = members_from_codes _ _ are.ascending are.shown are.listed;
+        whole = λ l.
+            let w = made.whole (omega (arith, l, long)) in
+            let members = sym (map-map register_color color_of codes) in (
+              has.initial ∙ w.0 ∙ members,
+              has.colors
+                  ∙ tops_none _ _ _ _ _
+                  (λ d m.
+                  rw w.1 (near_listed _ _ (IsColor-shown _ _ bytes m) (are.shown d m))) shown
+                  ∙ w.1 ∙ members,
+            );
+        base = made.base;
+        cut = λ l.
+            let w = made.cut (omega (arith, l, long)) in (
+              has.initial ∙ w.0 ∙ ap (λ p. cut_entries p room) same_pixels,
+              w.1 ∙ ap (λ p. base_entries p room) same_pixels,
+            );
+        indices = rw has.colors indices;
+        error = rw (has.colors, has.error) (refinement-error pixels room it is);
+        falls =
+            rw (has.colors, has.initial) (omega (
+              arith,
+              weighed colors,
+              weighed initial,
+              tops_fall (IsListed codes) room made.base colors it.entries.witnesses.items codes
+                  is.counts made.top,
+              made.falls,
+            ));
+        initial_shown = rw has.initial made.initial_shown;
+        initial_few = rw has.initial made.initial_few;
+        top = rw (has.colors, has.witnesses) shown;
+        witnesses = rw has.witnesses occur;
+        apart = rw (has.witnesses, has.apart) made.apart;
+        bound = rw (has.witnesses, has.apart) (λ n l.
+            bound_of_shown _ _ _ _ made.apart.apart occur l);
+      }
+
+  -- there is such a palette beside any vector of as many indices
+  pub refinement-some : (indices : Vec ℕ Global) → length indices.items ≡ length pixels / 4
+      → (palette : RefinedPalette) × IsRefined pixels room palette
+      × (palette.colors.items ≡ it.entries.colors.items)
+  refinement-some indices size =
+      let (own, many, each) = first-indexed (length pixels / 4) (omega arith) in
+      let palette : RefinedPalette = record {
+        colors = it.entries.colors;
+        indices = record {
+          ptr = indices.ptr;
+          len = indices.len;
+          cap = indices.cap;
+          alloc = indices.alloc;
+          items = own;
+          ok = (indices.ok.0 ∙ size ∙ sym many, indices.ok.1);
+          small = indices.small;
+        };
+        error = it.entries.error;
+        initial = it.entries.initial;
+        witnesses = it.entries.witnesses;
+        apart = it.entries.apart;
+      } in (
+        palette,
+        refinement-palette palette
+            (record { colors = refl; error = refl; initial = refl; witnesses = refl; apart = refl })
+            (record {
+              one_each = many;
+              opaque = λ k l. (each k l).opaque;
+              hidden = λ k l. (each k l).hidden;
+            }),
+        refl,
+      )

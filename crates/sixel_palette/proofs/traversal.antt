@@ -1,0 +1,9 @@
+pub mod Apart
+pub mod Buckets
+pub mod Choices
+pub mod Farthest
+pub mod Lanes
+pub mod Law
+pub mod Order
+pub mod Relaxation
+pub mod Size
