@@ -167,7 +167,7 @@ fn palette_of_codes(
 ///
 /// If so, then for any list of fewer colors some witness has to each of these a squared distance of
 /// at least a fourth of `error`. It does not allocate.
-#[tactic(auto, using(crate::proofs::PaletteApart::apart_pairs))]
+#[tactic(auto, using(crate::proofs::traversal::Apart::apart_pairs))]
 pub fn witnesses_hold(witnesses: &[[u8; 3]], error: u32) -> bool
     ensures apart { IsTrue result ↔ AreApart witnesses.now error }
     ensures bound { IsTrue result → (n : ℕ) → n < length witnesses.now

@@ -109,7 +109,7 @@ fn push_nearest(
 }
 
 /// The sum of the products of counts and squared distances.
-#[tactic(auto, using(crate::proofs::PaletteSums::sums))]
+#[tactic(auto, using(crate::proofs::refinement::Sums::sums))]
 #[inline(never)]
 pub fn summed(counts: &[u32], squares: &[u32]) -> u64
     requires same { length counts.now ≡ length squares.now }

@@ -49,7 +49,7 @@ pub fn bins_of(alloc: Global, codes: &[u32], counts: &[u32]) -> Result<Vec<Bin>,
 }
 
 /// A bin for each color.
-#[tactic(auto, using(crate::proofs::PaletteBins::bin_counts))]
+#[tactic(auto, using(crate::proofs::refinement::Bins::bin_counts))]
 fn color_bins(alloc: Global, codes: &[u32], counts: &[u32]) -> Result<Vec<Bin>, AllocError>
     requires small { AreColorCodes codes.now }
     requires ascending { IsStrictlyIncreasing codes.now }
@@ -89,7 +89,7 @@ fn histogram(alloc: Global, codes: &[u32], counts: &[u32]) -> Result<Vec<Bin>, A
 /// Appends the bins of the colors.
 ///
 /// The codes rise, so the bins of one red come one after the other.
-#[tactic(auto, using(crate::proofs::PaletteBins::bin_counts))]
+#[tactic(auto, using(crate::proofs::refinement::Bins::bin_counts))]
 #[inline(never)]
 fn push_bins(
     bins: &mut Vec<Bin>,

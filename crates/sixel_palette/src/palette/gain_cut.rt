@@ -83,7 +83,7 @@ pub fn boxes_of(alloc: Global, bins: &mut [Bin], room: usize) -> Result<Vec<Colo
 }
 
 /// The register colors next to the means of boxes.
-#[tactic(auto, using(crate::proofs::PaletteSums::binned_part))]
+#[tactic(auto, using(crate::proofs::refinement::Sums::binned_part))]
 pub fn box_colors(
     alloc: Global,
     bins: &[Bin],
@@ -228,7 +228,7 @@ fn divide(bins: &mut [Bin], start: usize, end: usize, cut: Cut) -> usize
 }
 
 /// A range of bins as a box, with its best cut.
-#[tactic(auto, using(crate::proofs::PaletteSums::binned_part))]
+#[tactic(auto, using(crate::proofs::refinement::Sums::binned_part))]
 fn box_of(
     bins: &[Bin],
     start: usize,
@@ -326,7 +326,7 @@ fn side_of(bin: &Bin, channel: Channel) -> usize
 }
 
 /// Sums the bins of each value of a channel, from the least value on.
-#[tactic(auto, using(crate::proofs::PaletteCuts::side_sums))]
+#[tactic(auto, using(crate::proofs::refinement::Cuts::side_sums))]
 #[inline(always)]
 fn gather(bins: &[Bin], channel: Channel, sides: Sides, sums: &mut [ColorSums])
     requires few { binned_pixels bins.now ≤ area_limit }

@@ -146,7 +146,7 @@ fn means_of(
 }
 
 /// Adds each bin's pixels to the sums of its entry.
-#[tactic(auto, using(crate::proofs::PaletteLloyd::additions))]
+#[tactic(auto, using(crate::proofs::refinement::Lloyd::additions))]
 #[inline(never)]
 fn add_bins(sums: &mut [ColorSums], bins: &[Bin], indices: &[u8])
     requires sums { length sums.old ≡ 256 }

@@ -79,7 +79,7 @@ fn relax_last_bucket(
 }
 
 /// Relaxes the distances of a bucket of 64 colors, eight at once.
-#[tactic(auto, using(crate::proofs::PaletteLanes::greatest_lanes_first))]
+#[tactic(auto, using(crate::proofs::traversal::Lanes::greatest_lanes_first))]
 #[inline(never)]
 fn relax_whole_bucket(
     codes: &[u32],

@@ -43,7 +43,7 @@ pub fn spread_palette(colors: &mut [[u8; 3]], pixels: &[u8], amount: u8) -> Resu
 }
 
 /// The sums of the opaque pixels.
-#[tactic(auto, using(crate::proofs::PaletteSums::sums))]
+#[tactic(auto, using(crate::proofs::refinement::Sums::sums))]
 #[inline(never)]
 fn opaque_sums(pixels: &[u8]) -> ColorSums
     requires { length pixels.now / 4 ≤ area_limit }
