@@ -2,7 +2,6 @@ pub mod Bits
 pub mod Flags
 pub mod Levels
 pub mod Pages
-pub mod Positions
 pub mod RankPages
 pub mod Ranks
 pub mod Stores

@@ -6,7 +6,6 @@ pub mod PaletteRanks
 pub mod PaletteLookUp
 pub mod PaletteChosen
 pub mod PaletteTraversal
-pub mod PalettePositions
 pub mod PaletteCounts
 pub mod PaletteKeys
 pub mod PaletteAssignment

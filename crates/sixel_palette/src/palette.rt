@@ -16,7 +16,6 @@ mod assignment;
 mod bins;
 mod buckets;
 mod color_counts;
-mod color_positions;
 mod color_set;
 mod color_sums;
 pub mod colors;

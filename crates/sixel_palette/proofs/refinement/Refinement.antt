@@ -35,7 +35,7 @@ module _ (pixels : List ℕ) (room : ℕ) (it : Refinement)
   pub refinement-below : (c : List ℕ) → IsShown pixels c
       → nearest it.entries.colors.items c < no_entry
   refinement-below c m =
-      let listed = is.are.shown c m in
+      let listed = is.codes.shown c m in
       let l = listed.1 in
       nearest_entry-lt _ _ (is.entries.some (omega (arith, l))) is.entries.shown
       (IsColor-shown _ _ bytes m)
@@ -50,7 +50,7 @@ module _ (pixels : List ℕ) (room : ℕ) (it : Refinement)
         | inr light ↦
             let c = color_at pixels pixel in
             let shown : IsShown pixels c = (pixel, l, light, refl) in
-            let (k, inside, same) = is.are.shown c shown in
+            let (k, inside, same) = is.codes.shown c shown in
             let near = rw same at (is.entries.nearest k inside) in (
               get_or it.entries.indices.items k 0,
               record {
@@ -91,8 +91,8 @@ module _ (pixels : List ℕ) (room : ℕ) (it : Refinement)
       → AreIndices pixels it.entries.colors.items palette.indices.items
       → IsRefined pixels room palette
   refinement-palette palette has indices =
-      let codes = is.codes in
-      let are = is.are in
+      let codes = it.codes.items in
+      let are = is.codes in
       let made = is.entries in
       let colors = it.entries.colors.items in
       let initial = it.entries.initial.items in

@@ -12,7 +12,7 @@ use Rattle.sixel_palette.specs.Refined.{register_color}
 use Rattle.sixel_palette.specs.inside.PaletteCodes.{AreShownCodes, IsListed, color_of}
 use Rattle.sixel_palette.specs.inside.PaletteCounts.{AreCounts, counted_error}
 use Rattle.sixel_palette.specs.inside.PaletteNearest.{AreNearest}
-use Rattle.sixel_palette.specs.inside.PalettePositions.{HaveAllPositions}
+use Rattle.sixel_palette.specs.inside.PaletteRanks.{IsRankBitmap}
 use Rattle.sixel_palette.specs.inside.PaletteSums.{counted_pixels}
 
 -- the entries are refined for these codes and counts
@@ -44,12 +44,11 @@ pub record AreRefinedEntries (codes counts : List ℕ) (room : ℕ) (entries : R
 -- the palette is refined for the image
 pub record IsRefinement (pixels : List ℕ) (room : ℕ) (it : Refinement) : Type 0 where
   pub area : length pixels / 4 ≤ area_limit
-  pub codes : List ℕ
-  pub are : AreShownCodes pixels codes
-  pub positions : HaveAllPositions pixels codes it.positions
+  pub codes : AreShownCodes pixels it.codes.items
+  pub ranks : IsRankBitmap it.codes.items it.ranks
   pub counts : List ℕ
-  pub counted : AreCounts pixels codes counts (length pixels / 4)
-  pub entries : AreRefinedEntries codes counts room it.entries
+  pub counted : AreCounts pixels it.codes.items counts (length pixels / 4)
+  pub entries : AreRefinedEntries it.codes.items counts room it.entries
 
 -- the palette has these entries
 pub record HasEntries (entries : RefinedEntries) (palette : RefinedPalette) : Type 0 where

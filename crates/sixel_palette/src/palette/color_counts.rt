@@ -1,30 +1,29 @@
 //! The number of an image's pixels that have each of its distinct colors.
 
 ghost use Rattle.std.specs.Prelude.{◌≡◌, ◌+◌, ◌*◌, ◌/◌, ◌<◌, ◌≤◌, ℕ, List, length, IfOk};
+ghost use Rattle.std.specs.Prelude.{slice_index};
 ghost use Rattle.std.specs.List.{sum};
 ghost use Rattle.std.specs.List.Sorted.{IsStrictlyIncreasing};
 ghost use Rattle.sixel_base.specs.Limits.{area_limit};
 ghost use Rattle.sixel_palette.specs.Palette.{IsShown};
 ghost use Rattle.sixel_palette.specs.inside.PaletteCodes.{IsListed, AreColorCodes};
 ghost use Rattle.sixel_palette.specs.inside.PaletteCodes.{AreFourWords, IsPixelWord};
-ghost use Rattle.sixel_palette.specs.inside.PaletteCounts.{AreCounts, IsRankingOf};
-ghost use Rattle.sixel_palette.specs.inside.PalettePositions.{ArePageStarts, ArePositions};
-ghost use Rattle.sixel_palette.specs.inside.PalettePositions.{HasPosition, HaveAllPositions};
-ghost use Rattle.sixel_palette.specs.inside.PalettePositions.{HavePositions, IsPositionOf};
+ghost use Rattle.sixel_palette.specs.inside.PaletteCounts.{AreCounts, HasPosition};
+ghost use Rattle.sixel_palette.specs.inside.PaletteCounts.{IsPositionOf, IsRankingOf};
+ghost use Rattle.sixel_palette.specs.inside.PaletteRanks.{IsRankBitmap};
 
-use crate::palette::color_positions::{ColorPositions, page_starts};
 use crate::palette::color_set::rank_bitmap::RankBitmap;
 use crate::palette::colors::{are_four_of, pixel_word};
 use crate::palette::indices::{are_opaque, four_words};
 use std::alloc::{AllocError, Global};
 
-/// The pixels of each distinct color, and the position of each pixel's color.
+/// The pixels of each distinct color, and the ranks of the colors.
 #[derive(Drop)]
 pub struct Counts {
     /// The number of opaque pixels of each color.
     pub counts: Vec<u32>,
-    /// The position of each opaque pixel's color in the list of codes.
-    pub positions: ColorPositions,
+    /// The position of each color's code in the list of codes.
+    pub ranks: RankBitmap,
 }
 
 /// The codes of the distinct colors in order, and their ranks.
@@ -34,7 +33,7 @@ struct Ranking<'a> {
     ranks: &'a RankBitmap,
 }
 
-/// The counts of the colors of an image and their positions, from the colors' codes.
+/// The counts and the ranks of the colors of an image, from the colors' codes.
 pub fn counts_of(alloc: Global, pixels: &[u8], codes: &[u32]) -> Result<Counts, AllocError>
     requires area { length pixels.now / 4 ≤ area_limit }
     requires ascending { IsStrictlyIncreasing codes.now }
@@ -42,22 +41,16 @@ pub fn counts_of(alloc: Global, pixels: &[u8], codes: &[u32]) -> Result<Counts, 
     requires listed { (c : List ℕ) → IsShown pixels.now c → IsListed codes.now c }
     ensures counts { IfOk result (λ counted.
         AreCounts pixels.now codes.now counted.counts.items (length pixels.now / 4)) }
-    ensures positions { IfOk result (λ counted.
-        HaveAllPositions pixels.now codes.now counted.positions) }
+    ensures ranks { IfOk result (λ counted. IsRankBitmap codes.now counted.ranks) }
 {
     let mut counts = vec![in alloc; 0; codes.len()]?;
-    let mut low_bits = vec![in alloc; 0; pixels.len() / 4]?;
-    let starts = page_starts(alloc, codes)?;
     let ranks = RankBitmap::new(alloc, codes)?;
     let ranking = Ranking {
         codes,
         ranks: &ranks,
     };
-    ranking.count_pixels(&mut counts, &mut low_bits, pixels);
-    Ok(Counts {
-        counts,
-        positions: ColorPositions { starts, low_bits },
-    })
+    ranking.count_pixels(&mut counts, pixels);
+    Ok(Counts { counts, ranks })
 }
 
 /// The sum of the counts.
@@ -74,19 +67,15 @@ pub fn total_of(counts: &[u32]) -> u64
 }
 
 impl Ranking<'_> {
-    /// Counts the opaque pixels of each color, and stores the low bits of the colors' positions.
+    /// Counts the opaque pixels of each color.
     ///
     /// Four pixels that are equal to the one before them are counted without a search.
     #[inline(never)]
-    fn count_pixels(&self, counts: &mut [u32], low_bits: &mut [u16], pixels: &[u8])
+    fn count_pixels(&self, counts: &mut [u32], pixels: &[u8])
         requires area { length pixels.now / 4 ≤ area_limit }
         requires ranking { IsRankingOf pixels.now self.now }
         requires none { AreCounts pixels.now self.now.codes.now counts.old 0 }
-        requires size { length low_bits.old ≡ length pixels.now / 4 }
-        ensures counts { AreCounts pixels.now self.now.codes.now counts.new
-            (length pixels.now / 4) }
-        ensures positions { (starts : List ℕ) → ArePageStarts self.now.codes.now starts
-            → HavePositions pixels.now self.now.codes.now starts (length pixels.now / 4) low_bits.new }
+        ensures { AreCounts pixels.now self.now.codes.now counts.new (length pixels.now / 4) }
     {
         let count = pixels.len() / 4;
         let mut last = 0;
@@ -94,38 +83,27 @@ impl Ranking<'_> {
         for four in 0..count / 4 {
             if !are_four_of(pixels, 4 * four, last) {
                 let words = four_words(pixels, 4 * four);
-                let positions = self.count_four(counts, pixels, 4 * four, words);
-                store_four(low_bits, 4 * four, positions);
                 last = words[3];
-                position = positions[3];
+                position = self.count_four(counts, pixels, 4 * four, words);
             } else if last % 256 >= 128 {
                 counts[position] += 4;
-                store_four(low_bits, 4 * four, [position; 4]);
             }
         }
         for pixel in count / 4 * 4..count {
-            let word = pixel_word(pixels, pixel);
-            let position = self.count_word(counts, pixels, pixel, word);
-            low_bits[pixel] = (position % 65536) as u16;
+            self.count_word(counts, pixels, pixel, pixel_word(pixels, pixel));
         }
     }
 
-    /// Counts four pixels of these words, and returns the positions of their colors.
+    /// Counts four pixels of these words, and returns the position of the last one's color.
     #[inline(always)]
-    fn count_four(
-        &self,
-        counts: &mut [u32],
-        pixels: &[u8],
-        pixel: usize,
-        words: [u32; 4],
-    ) -> [usize; 4]
+    fn count_four(&self, counts: &mut [u32], pixels: &[u8], pixel: usize, words: [u32; 4]) -> usize
         requires area { length pixels.now / 4 ≤ area_limit }
         requires within { pixel + 4 ≤ length pixels.now / 4 }
         requires words { AreFourWords pixels.now pixel words }
         requires ranking { IsRankingOf pixels.now self.now }
         requires counts { AreCounts pixels.now self.now.codes.now counts.old pixel }
         ensures counts { AreCounts pixels.now self.now.codes.now counts.new (pixel + 4) }
-        ensures positions { ArePositions self.now.codes.now words result }
+        ensures position { HasPosition self.now.codes.now (slice_index words 3) result }
     {
         if are_opaque(words) {
             // The positions come first, so that no look-up waits for a count.
@@ -137,33 +115,26 @@ impl Ranking<'_> {
             self.count_at(counts, pixels, pixel + 1, second);
             self.count_at(counts, pixels, pixel + 2, third);
             self.count_at(counts, pixels, pixel + 3, fourth);
-            return [first, second, third, fourth];
+            return fourth;
         }
         self.count_each(counts, pixels, pixel, words)
     }
 
     /// Counts the same pixels one after the other, because some may be transparent.
     #[inline(never)]
-    fn count_each(
-        &self,
-        counts: &mut [u32],
-        pixels: &[u8],
-        pixel: usize,
-        words: [u32; 4],
-    ) -> [usize; 4]
+    fn count_each(&self, counts: &mut [u32], pixels: &[u8], pixel: usize, words: [u32; 4]) -> usize
         requires area { length pixels.now / 4 ≤ area_limit }
         requires within { pixel + 4 ≤ length pixels.now / 4 }
         requires words { AreFourWords pixels.now pixel words }
         requires ranking { IsRankingOf pixels.now self.now }
         requires counts { AreCounts pixels.now self.now.codes.now counts.old pixel }
         ensures counts { AreCounts pixels.now self.now.codes.now counts.new (pixel + 4) }
-        ensures positions { ArePositions self.now.codes.now words result }
+        ensures position { HasPosition self.now.codes.now (slice_index words 3) result }
     {
-        let first = self.count_word(counts, pixels, pixel, words[0]);
-        let second = self.count_word(counts, pixels, pixel + 1, words[1]);
-        let third = self.count_word(counts, pixels, pixel + 2, words[2]);
-        let fourth = self.count_word(counts, pixels, pixel + 3, words[3]);
-        [first, second, third, fourth]
+        self.count_word(counts, pixels, pixel, words[0]);
+        self.count_word(counts, pixels, pixel + 1, words[1]);
+        self.count_word(counts, pixels, pixel + 2, words[2]);
+        self.count_word(counts, pixels, pixel + 3, words[3])
     }
 
     /// Counts a pixel of this word, if it is opaque, and returns the position of its color.
@@ -195,19 +166,5 @@ impl Ranking<'_> {
         ensures { AreCounts pixels.now self.now.codes.now counts.new (pixel + 1) }
     {
         counts[position] += 1;
-    }
-}
-
-/// Stores the low bits of four pixels' positions.
-#[inline(always)]
-fn store_four(low_bits: &mut [u16], pixel: usize, positions: [usize; 4])
-    requires { pixel + 4 ≤ length low_bits.old }
-    ensures { (pixels codes starts words : List ℕ) → IsStrictlyIncreasing codes
-        → ArePageStarts codes starts → AreFourWords pixels pixel words
-        → ArePositions codes words positions → HavePositions pixels codes starts pixel low_bits.old
-        → HavePositions pixels codes starts (pixel + 4) low_bits.new }
-{
-    for lane in 0..4 {
-        low_bits[pixel + lane] = (positions[lane] % 65536) as u16;
     }
 }

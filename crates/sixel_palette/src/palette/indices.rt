@@ -9,6 +9,7 @@ ghost use Rattle.sixel_palette.specs.inside.PaletteCodes.{AreFourWords, IsPixelW
 ghost use Rattle.sixel_palette.specs.inside.PaletteNearest.{AreNearest, IsIndexOf};
 ghost use Rattle.sixel_palette.specs.inside.PaletteNearest.{IsIndex, AreIndicesTo};
 ghost use Rattle.sixel_palette.specs.inside.PaletteLookUp.{IsLookUp, HasColorsOf, FindsNearest};
+ghost use Rattle.sixel_palette.specs.inside.PaletteRanks.{IsRankBitmap};
 
 use crate::palette::color_set::rank_bitmap::RankBitmap;
 use crate::palette::colors::{are_four_of, pixel_word};
@@ -31,10 +32,30 @@ pub fn indices_of(
         → AreIndices pixels.now entries indices.items) }
 {
     let ranks = RankBitmap::new(alloc, codes)?;
+    Ok(indices_by(alloc, pixels, codes, &ranks, color_indices)?)
+}
+
+/// The palette index of each pixel, from those of the colors in use and the colors' ranks.
+pub fn indices_by(
+    alloc: Global,
+    pixels: &[u8],
+    codes: &[u32],
+    ranks: &RankBitmap,
+    color_indices: &[u8],
+) -> Result<Vec<u8>, AllocError>
+    requires same { length codes.now ≡ length color_indices.now }
+    requires ascending { IsStrictlyIncreasing codes.now }
+    requires ranks { IsRankBitmap codes.now ranks.now }
+    requires listed { (c : List ℕ) → IsShown pixels.now c → IsListed codes.now c }
+    ensures { IfOk result (λ indices. (entries : List (List ℕ)) (squares : List ℕ)
+        → AreNearest entries codes.now squares color_indices.now
+        → ((c : List ℕ) → IsShown pixels.now c → nearest entries c < no_entry)
+        → AreIndices pixels.now entries indices.items) }
+{
     let mut indices = vec![in alloc; 0; pixels.len() / 4]?;
     let look_up = LookUp {
         codes,
-        ranks: &ranks,
+        ranks,
         color_indices,
     };
     fill_indices(&mut indices, pixels, &look_up);
@@ -207,7 +228,7 @@ fn fill_pixel(indices: &mut [u8], pixels: &[u8], pixel: usize, word: u32, look_u
 
 /// Stores the palette indices of four pixels, after those of earlier pixels.
 #[inline(always)]
-pub fn fill_four_with(indices: &mut [u8], pixels: &[u8], pixel: usize, four: [u8; 4])
+fn fill_four_with(indices: &mut [u8], pixels: &[u8], pixel: usize, four: [u8; 4])
     requires size { length indices.old ≡ length pixels.now / 4 }
     requires within { pixel + 4 ≤ length pixels.now / 4 }
     ensures size { length indices.new ≡ length pixels.now / 4 }
@@ -224,7 +245,7 @@ pub fn fill_four_with(indices: &mut [u8], pixels: &[u8], pixel: usize, four: [u8
 
 /// Stores a pixel's palette index, after those of the pixels before it.
 #[inline(always)]
-pub fn fill_one(indices: &mut [u8], pixels: &[u8], pixel: usize, index: u8)
+fn fill_one(indices: &mut [u8], pixels: &[u8], pixel: usize, index: u8)
     requires size { length indices.old ≡ length pixels.now / 4 }
     requires within { pixel < length pixels.now / 4 }
     ensures size { length indices.new ≡ length pixels.now / 4 }

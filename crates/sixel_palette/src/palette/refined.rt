@@ -19,11 +19,12 @@ ghost use Rattle.sixel_palette.specs.inside.PaletteRefinement.{AreRefinedEntries
 use crate::palette::assignment::{Assignment, assign, summed};
 use crate::palette::bins::{Bin, bins_of};
 use crate::palette::color_counts::{counts_of, total_of};
-use crate::palette::color_positions::ColorPositions;
+use crate::palette::color_set::rank_bitmap::RankBitmap;
 use crate::palette::colors::{color_of, shown_codes};
 use crate::palette::distance::distance;
 use crate::palette::farthest_on_top::{Topped, add_farthest};
 use crate::palette::gain_cut::{box_colors, boxes_of, is_final};
+use crate::palette::indices::indices_by;
 use crate::palette::lloyd::improve;
 use crate::palette::nearest_entry::squared_to_nearest;
 use crate::palette::register_color::register_color;
@@ -66,11 +67,12 @@ pub struct RefinedEntries {
 
 /// A refined palette of an image whose pixels have no indices yet.
 ///
-/// They are looked up by the positions of the pixels' colors.
+/// They are looked up by the codes of the image's colors and the ranks of these.
 #[derive(Drop)]
 pub struct Refinement {
     pub entries: RefinedEntries,
-    pub positions: ColorPositions,
+    pub codes: Vec<u32>,
+    pub ranks: RankBitmap,
 }
 
 /// The entries before the rounds, and each color's nearest one after them.
@@ -166,7 +168,8 @@ impl Refinement {
         let entries = refined_entries(alloc, &codes, &counted.counts, room)?;
         Ok(Refinement {
             entries,
-            positions: counted.positions,
+            codes,
+            ranks: counted.ranks,
         })
     }
 
@@ -176,7 +179,13 @@ impl Refinement {
         ensures { IfOk result
             (λ indices. AreIndices pixels.now self.now.entries.colors.items indices.items) }
     {
-        self.positions.indices(alloc, pixels, &self.entries.indices)
+        indices_by(
+            alloc,
+            pixels,
+            &self.codes,
+            &self.ranks,
+            &self.entries.indices,
+        )
     }
 }
 

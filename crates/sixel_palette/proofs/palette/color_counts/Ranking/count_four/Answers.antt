@@ -1,12 +1,9 @@
-use Rattle.std.proofs.Common.{◌≡◌, ℕ, ◌+◌, ◌/◌, ◌%◌, ◌<◌, ◌≤◌, List, [], ◌∷◌, length, get_or}
-use Rattle.std.proofs.Common.{arith}
+use Rattle.std.proofs.Common.{◌≡◌, ℕ, ◌+◌, ◌/◌, ◌%◌, ◌<◌, ◌≤◌, List, length, get_or, arith}
 use Rattle.std.specs.Prelude.{Contains}
-use Rattle.sixel_palette.specs.inside.PaletteCounts.{IsRankingOf}
-use Rattle.sixel_palette.specs.inside.PalettePositions.{HasPosition, IsPositionOf}
+use Rattle.sixel_palette.specs.inside.PaletteCounts.{IsPositionOf, IsRankingOf}
 use Rattle.sixel_palette.specs.inside.PaletteCodes.{AreFourWords}
 use Rattle.sixel_palette.specs.declared.palette.color_counts.Ranking.{Ranking}
 use Rattle.sixel_palette.proofs.traversal.Farthest.{Contains-word}
-use Rattle.sixel_palette.proofs.colors.Lists.{four_cases}
 use Rattle.sixel_palette.proofs.palette.color_counts.Ranking.count_four.Goals as goal
 
 -- the code of an opaque word is listed
@@ -78,16 +75,7 @@ count_at-requires-then-are_opaque-3-clause-position c =
     c.position_of-fourth.result c.requires.words (c.are_opaque.ensures c.if-are_opaque.true)
     (omega arith) position.within position.position
 
-pub returns-then-are_opaque-clause-positions : goal.returns-then-are_opaque-clause-positions
-returns-then-are_opaque-clause-positions c =
-    let first = c.position_of-first in
-    let second = c.position_of-second in
-    let third = c.position_of-third in
-    let fourth = c.position_of-fourth in
-    four_cases
-    (λ k. HasPosition c.args.self.now.codes.now (get_or c.args.words k 0)
-    (get_or (first.result ∷ second.result ∷ third.result ∷ fourth.result ∷ []) k 0))
-    (record { within = λ _. first.ensures.within; code = λ _. first.ensures.position })
-    (record { within = λ _. second.ensures.within; code = λ _. second.ensures.position })
-    (record { within = λ _. third.ensures.within; code = λ _. third.ensures.position })
-    (record { within = λ _. fourth.ensures.within; code = λ _. fourth.ensures.position })
+pub returns-then-are_opaque-clause-position : goal.returns-then-are_opaque-clause-position
+returns-then-are_opaque-clause-position c =
+    let position = c.position_of-fourth.ensures in
+    record { within = λ _. position.within; code = λ _. position.position }

@@ -3,10 +3,8 @@ use Rattle.std.proofs.lemmas.Result.{IfOk-weaker}
 use Rattle.sixel_palette.proofs.refinement.Refinement.{refinement-below}
 use Rattle.sixel_palette.proofs.palette.refined.Refinement.indices.Goals as goal
 
-pub indices-requires : goal.indices-requires
-indices-requires c =
-    let is = c.requires.1 in
-    (is.codes, is.positions, rw c.deref.ensures.value is.entries.same)
+pub indices_by-requires-clause-listed : goal.indices_by-requires-clause-listed
+indices_by-requires-clause-listed c = rw c.deref.ensures.value c.requires.1.codes.shown
 
 pub returns : goal.returns
 returns c =
@@ -14,7 +12,7 @@ returns c =
     let below =
     refinement-below c.args.pixels.now room c.args.self.now
     (λ k. omega (arith, c.type_inv.pixels k)) is in
-    IfOk-weaker c.indices.result _ _
-    (λ indices each. each is.codes c.args.self.now.entries.colors.items is.entries.squares
-    is.positions (rw c.deref.ensures.value is.entries.nearest) below)
-    c.indices.ensures
+    IfOk-weaker c.indices_by.result _ _
+    (λ indices each. each c.args.self.now.entries.colors.items is.entries.squares
+    (rw (c.deref.ensures.value, c.deref-2.ensures.value) is.entries.nearest) below)
+    c.indices_by.ensures

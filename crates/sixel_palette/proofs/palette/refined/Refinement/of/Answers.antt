@@ -13,9 +13,8 @@ refined_entries-requires-clause-weighed c =
 pub returns : goal.returns
 returns c = record {
   area = c.requires.area;
-  codes = c.in_ok-codes.codes.items;
-  are = c.in_ok-codes.ensures;
-  positions = rw c.deref.ensures.value at c.in_ok-counted.ensures.positions;
+  codes = c.in_ok-codes.ensures;
+  ranks = rw c.deref.ensures.value at c.in_ok-counted.ensures.ranks;
   counts = c.in_ok-counted.counted.counts.items;
   counted = rw c.deref.ensures.value at c.in_ok-counted.ensures.counts;
   entries =
