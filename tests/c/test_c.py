@@ -38,6 +38,20 @@ FEEDS = [
     ("2 release", b"!65535~-" + 160 * b"~-", 5_500_000),
 ]
 
+# What the code of a page uses of its host.
+HOSTS = {"xterm.md": """
+typedef struct { short r, g, b; } ColorRegister;
+typedef unsigned short RegisterNum;
+enum { MAX_COLOR_REGISTERS = 1024, COLOR_HOLE = 1028 };
+typedef struct {
+    RegisterNum *pixels;
+    ColorRegister *private_color_registers, *color_registers;
+    int max_width, max_height, actual_width, actual_height, private_colors;
+} Graphic;
+void update_color_register(Graphic *, unsigned, int, int, int);
+RegisterNum find_color_register(const ColorRegister *, int, int, int);
+"""}
+
 
 class TestC(unittest.TestCase):
     """The tests share a folder, in which each program is compiled once for each build."""
@@ -130,7 +144,7 @@ class TestC(unittest.TestCase):
         for page in (EXAMPLES / "hosts").glob("*.md"):
             with self.subTest(page=page.name):
                 blocks = re.findall(r"^```c\n(.*?)^```", page.read_text(), re.M | re.S)
-                code.write_text("".join(blocks))
+                code.write_text(HOSTS.get(page.name, "") + "".join(blocks))
                 self.succeeds(*C11, "-Wno-unused-function", "-Wno-pedantic", "-fsyntax-only", code)
 
     def preload(self):
