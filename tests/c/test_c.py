@@ -53,6 +53,12 @@ RegisterNum find_color_register(const ColorRegister *, int, int, int);
 """}
 
 
+def page_code(page):
+    """The code of a page for a host, after what it uses of that."""
+    blocks = re.findall(r"^```c\n(.*?)^```", page.read_text(), re.M | re.S)
+    return HOSTS.get(page.name, "") + "".join(blocks)
+
+
 class TestC(unittest.TestCase):
     """The tests share a folder, in which each program is compiled once for each build."""
 
@@ -143,8 +149,7 @@ class TestC(unittest.TestCase):
         code = self.folder / "page.c"
         for page in (EXAMPLES / "hosts").glob("*.md"):
             with self.subTest(page=page.name):
-                blocks = re.findall(r"^```c\n(.*?)^```", page.read_text(), re.M | re.S)
-                code.write_text(HOSTS.get(page.name, "") + "".join(blocks))
+                code.write_text(page_code(page))
                 self.succeeds(*C11, "-Wno-unused-function", "-Wno-pedantic", "-fsyntax-only", code)
 
     def preload(self):

@@ -172,11 +172,11 @@ class TestStreams(unittest.TestCase):
         texts = [it for it in payloads() if len(it) < 4096] + samples()
         return [mutant(chance, chance.choice(texts)) for _ in range(MUTANTS)]
 
-    def survives(self, program, *arguments, stdin=b""):
+    def survives(self, program, *arguments, stdin=b"", allowed=(0, 1)):
         """Runs a program with sanitizers, which report an error by a status of their own."""
         env = os.environ | {"UBSAN_OPTIONS": "exitcode=99", "ASAN_OPTIONS": "exitcode=99"}
         status, _, errors = run(program, *arguments, stdin=stdin, env=env)
-        self.assertIn(status, (0, 1), errors[-2000:].decode(errors="replace"))
+        self.assertIn(status, allowed, errors[-2000:].decode(errors="replace"))
 
     def test_mutants(self):
         """No mutated sample makes a program read or write outside of its memory, or leak."""
@@ -186,10 +186,24 @@ class TestStreams(unittest.TestCase):
                 program = self.compiled(ROOT / f"examples/{name}.c", *test_c.SANITIZERS)
                 self.survives(program, *arguments.split(), stdin=stdin)
 
-    def test_mutants_in_viewer(self):
-        """The same for the viewer."""
-        viewer = test_view.build(self.folder, *test_c.SANITIZERS)
+    def files(self):
+        """Files with the mutated samples."""
         files = [self.folder / f"{number}.six" for number in range(MUTANTS)]
         for file, text in zip(files, self.mutants()):
             file.write_bytes(text)
-        self.survives(viewer, "-w", "80", "-h", "80", *files)
+        return files
+
+    def test_mutants_in_hosts(self):
+        """The same for the code of each page for a host."""
+        for source in "foot", "xterm":
+            with self.subTest(page=source):
+                code = test_c.page_code(ROOT / f"examples/hosts/{source}.md")
+                (self.folder / "page.c").write_text(code)
+                options = *test_c.SANITIZERS, f"-I{self.folder}"
+                program = self.compiled(ROOT / f"tests/c/{source}.c", *options)
+                self.survives(program, *self.files(), allowed=[0])
+
+    def test_mutants_in_viewer(self):
+        """The same for the viewer."""
+        viewer = test_view.build(self.folder, *test_c.SANITIZERS)
+        self.survives(viewer, "-w", "80", "-h", "80", *self.files())
