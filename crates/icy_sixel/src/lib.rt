@@ -27,5 +27,6 @@ pub use sixel_canvas::channels::{ChannelOrder, RowLayout};
 pub use sixel_image::{BackgroundMode, PixelAspectRatio, SixelImage};
 pub use sixel_palette::palette;
 pub use sixel_palette::palette::{
-    PaletteChoice, RefinedPalette, choose_palette, refine_palette, witnesses_hold,
+    DistinctColors, PaletteChoice, RefinedPalette, choose_palette, count_colors, refine_palette,
+    witnesses_hold,
 };

@@ -38,6 +38,7 @@ use crate::palette::distance::is_apart_from;
 use crate::palette::farthest::choose;
 use crate::palette::indices::indices_of;
 pub use crate::palette::refined::{RefinedPalette, refine_palette};
+pub use crate::palette::register_color::{DistinctColors, count_colors};
 pub use crate::palette::spread::spread_palette;
 use sixel_base::{Result, SixelError};
 use std::alloc::{AllocError, Global};

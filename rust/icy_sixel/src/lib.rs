@@ -29,7 +29,10 @@ pub use encoder::{
     Tolerance, palette_indices, sixel_encode, sixel_encode_default, validate_encode_dimensions,
 };
 pub use error::{Result, SixelError};
-pub use palette::{PaletteChoice, RefinedPalette, choose_palette, refine_palette, witnesses_hold};
+pub use palette::{
+    DistinctColors, PaletteChoice, RefinedPalette, choose_palette, count_colors, refine_palette,
+    witnesses_hold,
+};
 use rattle::icy_sixel as proved;
 pub use receiver::{
     BandStatus, ChannelOrder, FailedFeed, Height, Received, ReceivedBand, ReceivedImage, RowLayout,

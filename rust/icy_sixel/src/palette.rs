@@ -3,7 +3,7 @@
 use crate::error::Result;
 use crate::rattle::rattle_std::alloc::Global;
 use crate::rattle::sixel_palette::palette;
-pub use crate::rattle::sixel_palette::palette::witnesses_hold;
+pub use crate::rattle::sixel_palette::palette::{DistinctColors, witnesses_hold};
 use alloc::vec::Vec;
 
 /// A palette, each pixel's palette index, and a certificate of the palette's error.
@@ -108,4 +108,26 @@ pub fn refine_palette(pixels: &[u8], max_colors: u16) -> Result<RefinedPalette> 
         witnesses: refined.witnesses.into_exact()?,
         apart: refined.apart,
     })
+}
+
+/// Counts the different colors of RGBA pixels, four bytes each.
+///
+/// ```
+/// use icy_sixel::palette::count_colors;
+///
+/// let pixels = [[255, 0, 0, 255], [51, 0, 0, 255], [1, 1, 1, 0]].concat();
+/// let distinct = count_colors(&pixels)?;
+/// assert!(distinct.count == 2 && distinct.are_exact);
+/// assert!(!count_colors(&[1, 0, 0, 255])?.are_exact);
+/// # Ok::<(), icy_sixel::SixelError>(())
+/// ```
+///
+/// Only opaque pixels count. If the colors are exact and at most 256, a refined palette of 256
+/// colors has them all, and a decoder shows the very pixels.
+///
+/// # Errors
+///
+/// `OutOfMemory` if an allocation fails.
+pub fn count_colors(pixels: &[u8]) -> Result<DistinctColors> {
+    Ok(palette::count_colors(Global, pixels)?)
 }

@@ -125,6 +125,10 @@ fn names_of_our_own() {
     let _: fn(&[u8], u16) -> Answer<palette::RefinedPalette> = palette::refine_palette;
     let _: fn(&[u8], u16) -> Answer<Palette> = icy_sixel::refine_palette;
     is_shared::<Palette>();
+    type Distinct = icy_sixel::DistinctColors;
+    let _: fn(&[u8]) -> Answer<palette::DistinctColors> = palette::count_colors;
+    let _: fn(&[u8]) -> Answer<Distinct> = icy_sixel::count_colors;
+    is_value::<Distinct>();
     type Dither = icy_sixel::Dither;
     type Form = icy_sixel::TextForm;
     is_value::<Dither>();

@@ -10,8 +10,8 @@ use icy_sixel::script::Status;
 use icy_sixel::{
     BackgroundMode, DcsSettings, EncodeOptions, PaletteChoice, PixelAspectRatio, Result,
     SixelDcsFeedStatus as Dcs, SixelDecoder, SixelFeedStatus as Payload, SixelImage,
-    choose_palette, sixel_decode, sixel_decode_from_dcs, sixel_encode, validate_encode_dimensions,
-    witnesses_hold,
+    choose_palette, count_colors, sixel_decode, sixel_decode_from_dcs, sixel_encode,
+    validate_encode_dimensions, witnesses_hold,
 };
 use std::path::PathBuf;
 use std::{env, fs};
@@ -391,7 +391,7 @@ fn sizes() {
     each_vector("sizes.tsv", |columns| {
         let bytes = bytes(columns[2]);
         let (call, shape) = columns[0].split_once(' ').unwrap_or((columns[0], "1:1"));
-        let (width, height) = if call == "choose_palette" { (0, 0) } else { size(columns[1]) };
+        let (width, height) = if columns[1] == "none" { (0, 0) } else { size(columns[1]) };
         let image = SixelImage::from_rgba(bytes.clone(), width, height);
         let image = image.with_aspect_ratio(ratio(shape));
         let result = match call {
@@ -401,6 +401,11 @@ fn sizes() {
             "choose_palette" => choose_palette(&bytes, 256).map(drop),
             "has_transparency" => {
                 return assert_eq!(image.has_transparency(), columns[3] == "yes");
+            }
+            "count_colors" => {
+                let colors = count_colors(&bytes).unwrap();
+                let kind = if colors.are_exact { "exact" } else { "other" };
+                return assert_eq!(format!("{} {kind}", colors.count), columns[3]);
             }
             "corrected_dimensions" => {
                 return assert_eq!(image.corrected_dimensions(), size(columns[3]));

@@ -1,5 +1,5 @@
 -- The refined palette: colors that registers show, and its certificate.
-use Rattle.std.proofs.Common.{ℕ, ◌<◌, List, [], length, arith}
+use Rattle.std.proofs.Common.{◌≡◌, ℕ, ◌<◌, List, [], length, arith}
 use Rattle.std.specs.List.{All}
 use Rattle.sixel_palette.specs.Palette.{nearest, IsShown, no_entry}
 use Rattle.sixel_palette.specs.PaletteBound.{AreApart, NoListIsBetter}
@@ -12,6 +12,10 @@ use Rattle.std.proofs.lemmas.Bool.Decides.{nat_tests}
 -- a register shows the color that it shows for a color
 pub register_color-shown : (c : List ℕ) → IsRegisterColor (register_color c)
 register_color-shown c = grind (arith, nat_tests)
+
+-- and a color that a register shows stays
+pub register_color-own : (c : List ℕ) → IsRegisterColor c → register_color c ≡ c
+register_color-own c is = grind (arith, nat_tests)
 
 -- what a register shows is a color
 IsColor-register : (c : List ℕ) → IsRegisterColor c → IsColor c

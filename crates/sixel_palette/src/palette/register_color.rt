@@ -1,8 +1,54 @@
 //! Colors that a register shows: each channel is the byte of a whole percentage.
 
-ghost use Rattle.std.specs.Prelude.{◌≡◌, ◌≤◌, ℕ, List};
+ghost use Rattle.std.specs.Prelude.{◌≡◌, ◌≤◌, ◌↔◌, ℕ, List, IfErr, IfOk, IsTrue, min};
 ghost use Rattle.sixel_base.specs.Color.{byte_of, rgb};
+ghost use Rattle.sixel_palette.specs.Palette.{HasSize, IsShown};
 ghost use Rattle.sixel_palette.specs.Refined.{IsRegisterColor, percentage, register_color};
+ghost use Rattle.sixel_palette.specs.inside.PaletteCodes.{AreColorCodes, IsListed};
+
+use crate::palette::colors::{code_of, color_of, shown_codes};
+use sixel_base::{Result, SixelError};
+use std::alloc::Global;
+
+/// The different colors of an image's opaque pixels.
+#[derive(Debug, Clone, Copy, PartialEq, Eq)]
+pub struct DistinctColors {
+    /// How many there are, where 257 means more than 256.
+    pub count: u16,
+    /// Whether a register shows each of them, because its channels are whole percentages.
+    pub are_exact: bool,
+}
+
+/// Counts the different colors of RGBA pixels, four bytes each.
+///
+/// Only opaque pixels count, those whose alpha is at least 128. If the colors are exact and at most
+/// 256, a refined palette of 256 colors has them all, and a decoder shows the very pixels.
+pub fn count_colors(alloc: Global, pixels: &[u8]) -> Result<DistinctColors>
+    ensures memory { IfErr result (λ e. e ≡ SixelError.OutOfMemory) }
+    ensures count { IfOk result (λ it. (n : ℕ)
+        → HasSize (IsShown pixels.now) n → it.count ≡ min n 257) }
+    ensures exact { IfOk result (λ it. IsTrue it.are_exact
+        ↔ ((c : List ℕ) → IsShown pixels.now c → IsRegisterColor c)) }
+{
+    let codes = shown_codes(alloc, pixels)?;
+    Ok(DistinctColors {
+        count: codes.len().min(257) as u16,
+        are_exact: are_exact(&codes),
+    })
+}
+
+/// Returns whether a register shows the color of each code.
+fn are_exact(codes: &[u32]) -> bool
+    requires { AreColorCodes codes.now }
+    ensures { IsTrue result ↔ ((c : List ℕ) → IsListed codes.now c → IsRegisterColor c) }
+{
+    for code in codes {
+        if code_of(register_color(color_of(*code))) != *code {
+            return false;
+        }
+    }
+    true
+}
 
 /// The color that a register shows for a color.
 pub fn register_color(color: [u8; 3]) -> [u8; 3]

@@ -8,8 +8,8 @@ use crate::vectors::notation::{
 };
 use crate::vectors::session::Form;
 use icy_sixel::{
-    DcsSettings, EncodeOptions, SixelDecoder, SixelError, SixelImage, choose_palette, sixel_encode,
-    sixel_encode_default, validate_encode_dimensions, witnesses_hold,
+    DcsSettings, EncodeOptions, SixelDecoder, SixelError, SixelImage, choose_palette, count_colors,
+    sixel_encode, sixel_encode_default, validate_encode_dimensions, witnesses_hold,
 };
 use std::alloc::Global;
 
@@ -120,6 +120,11 @@ pub fn write_size(alloc: Global, found: &mut String, columns: [&str; 4]) -> Resu
         ("has_transparency", _) => {
             let is_transparent = SixelImage::from_rgba(buffer, width, height).has_transparency();
             found.push_str(if is_transparent { "\tyes" } else { "\tno" })?;
+        }
+        ("count_colors", _) => {
+            let colors = count_colors(alloc, &buffer)?;
+            let kind = if colors.are_exact { "exact" } else { "other" };
+            write!(found, "\t{} {kind}", colors.count)?;
         }
         _ => match size_error(alloc, call, buffer, (width, height))? {
             Some(error) => push_error(found, &error)?,
