@@ -2,7 +2,6 @@ pub mod DiffusionLanes
 pub mod DiffusionLaws
 pub mod DiffusionVisit
 pub mod DitheredIndices
-pub mod ErrorLine
 pub mod GraySource
 pub mod KeptEntries
 pub mod PaletteError

@@ -14,7 +14,6 @@ pub mod PaletteBoxes
 pub mod PaletteSums
 pub mod PaletteBins
 pub mod Diffusion
-pub mod ErrorLine
 pub mod Mapped
 pub mod PaletteError
 pub mod SixteenEntries

@@ -21,7 +21,6 @@ ghost use Rattle.sixel_palette.specs.declared.palette.refined.RefinedPalette.{Re
 ghost use Rattle.sixel_palette.specs.inside.PaletteError.{HasNearest};
 
 mod diffusion;
-mod error_line;
 mod gray;
 pub mod mapped;
 mod nearest;

@@ -1,21 +1,21 @@
--- One visit of error diffusion: its target, its error, and what its pixel receives.
+-- One visit of error diffusion: its target, its error, what its pixel receives, and the line of the
+-- latest errors.
 use Rattle.std.proofs.Common.{◌≡◌, ℕ, ◌+◌, ◌*◌, ◌<◌, List, [], ◌∷◌, length, set, ap, sym, subst}
-use Rattle.std.proofs.Common.{◌∙◌, arith, zero, suc, ◌≤◌, refl, inl, inr}
+use Rattle.std.proofs.Common.{◌∙◌, arith, zero, suc, ◌≤◌, refl, inl, inr, replicate}
 use Rattle.std.specs.Prelude.{slice_index, slice_index_or, ◌/◌, ◌%◌}
 use Rattle.std.proofs.lemmas.Bool.Decides.{nat_tests}
-use Rattle.std.proofs.lemmas.List.{get_or-set_other, get_or-set_same}
-use Rattle.std.proofs.lemmas.List.{length-set}
+use Rattle.std.proofs.lemmas.List.{get_or-set_other, get_or-set_same, get_or-replicate}
+use Rattle.std.proofs.lemmas.List.{length-replicate, length-set}
 use Rattle.sixel_palette.specs.Palette.{IsOpaque}
 use Rattle.sixel_palette.specs.declared.dithering.mapped.MappedImage.{MappedImage}
 use Rattle.sixel_palette.specs.declared.dithering.mapped.Place.{Place}
 use Rattle.sixel_palette.specs.declared.dithering.diffusion.Neighbors.{Neighbors}
-use Rattle.sixel_palette.specs.Dithering.{IsIndex, Mapped}
-use Rattle.sixel_palette.specs.Dithering.{error_before, neighbor_of}
+use Rattle.sixel_palette.specs.Dithering.{IsIndex, Mapped, column_of_step, error_above}
+use Rattle.sixel_palette.specs.Dithering.{error_before, error_behind, error_beyond, neighbor_of}
 use Rattle.sixel_palette.specs.Dithering.{no_error, opaque_error, serpentine, target_of_visit}
-use Rattle.sixel_palette.specs.Dithering.{visit_error, errors_of}
-use Rattle.sixel_palette.specs.inside.Diffusion.{AreReceived, AreSixteenths, AreErrors}
-use Rattle.sixel_palette.specs.inside.ErrorLine.{received_above}
-use Rattle.sixel_palette.specs.inside.Diffusion.{IsVisit, channels, color_error}
+use Rattle.sixel_palette.specs.Dithering.{visit_error, error_back, errors_of}
+use Rattle.sixel_palette.specs.inside.Diffusion.{AreReceived, AreSixteenths, AreErrors, IsBeyond}
+use Rattle.sixel_palette.specs.inside.Diffusion.{IsLine, IsVisit, channels, color_error}
 use Rattle.sixel_palette.specs.inside.Diffusion.{received_of, rounded_color, AreVisited}
 use Rattle.sixel_palette.specs.inside.Diffusion.{no_error_lanes}
 use Rattle.sixel_palette.specs.inside.Mapped.{IsIndexAt, IsMappable, IsPlace, mapped_value}
@@ -23,7 +23,7 @@ use Rattle.sixel_palette.proofs.mapped_images.DitheredIndices.{HasTarget-set, Is
 use Rattle.sixel_palette.proofs.mapped_images.DitheredIndices.{IsIndexAt-light}
 use Rattle.sixel_palette.proofs.mapped_images.DitheredIndices.{HasTarget-same}
 use Rattle.std.proofs.lemmas.Bool.{cases_lt}
-use Rattle.sixel_palette.proofs.mapped_images.Serpentine.{serpentine-apart}
+use Rattle.sixel_palette.proofs.mapped_images.Serpentine.{column-apart, column-lt, serpentine-apart}
 
 -- an element that is written, and the others
 ruleset writes = (length-set, get_or-set_same, get_or-set_other)
@@ -67,7 +67,27 @@ AreVisited-more m old new error n some visited is = λ k l.
       | inr last ↦ let same : k ≡ n = omega arith in rw (kept, same) is.target
     ]
 
--- ---- a pixel
+-- ---- the line
+
+-- an error that is one visit further back
+error_back-suc : (m : Mapped) (error : List ℕ) (errors : List (List ℕ)) (k j : ℕ) → k ≡ suc j
+    → error_back m (error ∷ errors) k ≡ error_back m errors j
+error_back-suc m error errors k j same = ap (error_back m (error ∷ errors)) same
+
+-- the line after a step has its error
+pub IsLine-more : (m : Mapped) (errors line : List (List ℕ)) (row step : ℕ) (error : List ℕ)
+    → step < m.width → AreErrors error → IsLine m errors row step line
+    → IsLine m (channels error ∷ errors) row (step + 1)
+    (set line (column_of_step m.width row step) error)
+IsLine-more m errors line row step error inside lanes is =
+    grind (arith, writes, column-lt, column-apart, error_back-suc)
+
+-- before the first row there is no error
+pub IsLine-none : (m : Mapped) (indices : List ℕ) (line : List (List ℕ))
+    → line ≡ replicate m.width (no_error_lanes m.strength)
+    → AreErrors (no_error_lanes m.strength) → IsLine m (errors_of m indices 0) 0 0 line
+unfolding errors_of
+IsLine-none m indices line same lanes = grind (arith, length-replicate, get_or-replicate, column-lt)
 
 -- the error of an opaque pixel is that of its entry
 pub visit_error-opaque : (m : Mapped) (indices : List ℕ) (errors : List (List ℕ)) (n : ℕ)
@@ -145,21 +165,43 @@ IsVisit-stored image errors place index numbers values target old new error whol
 
 -- ---- what a pixel receives
 
+-- the error above the next pixel
+pub beyond-line : (m : Mapped) (errors line : List (List ℕ)) (row step : ℕ) (error : List ℕ)
+    → step < m.width → IsLine m errors row step line → IsBeyond m line row step error
+    → channels error ≡ error_beyond m errors step
+beyond-line m errors line row step error inside is beyond = grind (arith, nat_tests)
+
+pub AreErrors-beyond : (m : Mapped) (line : List (List ℕ)) (row step : ℕ) (error : List ℕ)
+    → step < m.width → AreErrors (no_error_lanes m.strength)
+    → ((k : ℕ) → k < m.width → AreErrors (slice_index_or line k []))
+    → IsBeyond m line row step error → AreErrors error
+AreErrors-beyond m line row step error inside none lanes beyond =
+    grind (arith, nat_tests, column-lt)
+
 -- a channel is that of its lane
 lane-channel : (lanes error : List ℕ) → channels lanes ≡ error → (k : ℕ) → k < 3
     → slice_index lanes k ≡ slice_index error k
 lane-channel lanes error same k l = grind (arith, nat_tests)
 
--- from the pixel before, and from the row above
+-- all four
 pub AreReceived-neighbors : (m : Mapped) (errors : List (List ℕ)) (n step : ℕ)
     (neighbors : Neighbors) → n % m.width ≡ step
     → channels neighbors.before ≡ error_before m errors step
-    → ((k : ℕ) → k < 3 → slice_index neighbors.above k ≡ received_above m errors step step k)
+    → channels neighbors.behind ≡ error_behind m errors step
+    → channels neighbors.above ≡ error_above m errors step
+    → channels neighbors.beyond ≡ error_beyond m errors step
     → AreReceived m errors n (received_of neighbors)
-AreReceived-neighbors m errors n step neighbors at before above =
+AreReceived-neighbors m errors n step neighbors at before behind above beyond =
     grind (arith, nat_tests, lane-channel)
 
--- the error before the next step is the newest
+-- ---- the next step
+
+-- the error before it is the newest
 pub before-more : (m : Mapped) (errors : List (List ℕ)) (step : ℕ) (error : List ℕ)
     → error ≡ error_before m (error ∷ errors) (step + 1)
 before-more m errors step error = grind (arith, nat_tests)
+
+-- the error behind it was the one above
+pub behind-more : (m : Mapped) (errors : List (List ℕ)) (step : ℕ) (error : List ℕ)
+    → error_above m errors step ≡ error_behind m (error ∷ errors) (step + 1)
+behind-more m errors step error = grind (arith, nat_tests)

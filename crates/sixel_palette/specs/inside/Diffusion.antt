@@ -1,16 +1,16 @@
--- The state of error diffusion between two visits: which pixels have their index, and what the
--- next one receives.
-use Rattle.std.specs.Prelude.{◌≡◌, ◌≢◌, ℕ, ◌+◌, ◌*◌, ◌%◌, ◌<◌, ◌≤◌}
-use Rattle.std.specs.Prelude.{List, [], ◌∷◌, length, slice_index, slice_index_or}
+-- The state of error diffusion between two visits: which pixels have their index, and the line of
+-- the latest errors, one a column. It only saves space: the definitions list all errors.
+use Rattle.std.specs.Prelude.{◌≡◌, ◌≢◌, ℕ, ◌+◌, ◌-◌, ◌*◌, ◌%◌, ◌<◌, ◌≤◌, ◌==◌}
+use Rattle.std.specs.Prelude.{if◌then◌else◌, List, [], ◌∷◌, length, slice_index, slice_index_or}
 use Rattle.std.specs.Prelude.{Some}
 use Rattle.sixel_palette.specs.declared.dithering.mapped.MappedImage.{MappedImage}
 use Rattle.sixel_palette.specs.inside.PaletteKeys.{IsSearchOf}
 use Rattle.sixel_palette.specs.declared.dithering.diffusion.Entries.{Entries}
 use Rattle.sixel_palette.specs.declared.dithering.diffusion.Neighbors.{Neighbors}
 use Rattle.sixel_palette.specs.declared.dithering.sixteen_entries.SixteenEntries.{SixteenEntries}
-use Rattle.sixel_palette.specs.Dithering.{Mapped, HasTarget}
-use Rattle.sixel_palette.specs.Dithering.{errors_of, next_share}
-use Rattle.sixel_palette.specs.Dithering.{passed_on, received}
+use Rattle.sixel_palette.specs.Dithering.{Mapped, HasTarget, before_share, below_share}
+use Rattle.sixel_palette.specs.Dithering.{column_of_step, error_back, errors_of, next_share}
+use Rattle.sixel_palette.specs.Dithering.{passed_on, received, rest_share}
 use Rattle.sixel_palette.specs.Dithering.{rounded_sixteenths, serpentine, target_of_visit}
 use Rattle.sixel_palette.specs.Dithering.{visit_error, with_received}
 use Rattle.sixel_palette.specs.inside.SixteenEntries.{AreSixteen}
@@ -42,15 +42,40 @@ abbrev pub no_error_lanes : ℕ → List ℕ
 no_error_lanes strength =
     512 * strength ∷ 512 * strength ∷ 512 * strength ∷ 512 * strength ∷ []
 
--- what a pixel receives in a channel, from its neighbors
+-- Before a step of a row the line has the errors of this row's earlier steps, and in the other
+-- columns those of the row above.
+pub record IsLine (m : Mapped) (errors : List (List ℕ)) (row step : ℕ) (line : List (List ℕ))
+    : Type 0 where
+  pub whole : length line ≡ m.width
+  pub this : (j : ℕ) → j < step
+      → channels (slice_index_or line (column_of_step m.width row j) [])
+      ≡ error_back m errors (step - 1 - j)
+  pub above : (j : ℕ) → step ≤ j → j < m.width
+      → channels (slice_index_or line (column_of_step m.width row j) [])
+      ≡ error_back m errors (step + j)
+  pub lanes : (k : ℕ) → k < m.width → AreErrors (slice_index_or line k [])
+
+-- the error is that above the next pixel of the row, in a line
+abbrev pub IsBeyond : Mapped → List (List ℕ) → ℕ → ℕ → List ℕ → Type 0
+IsBeyond m line row step error =
+    error
+    ≡ (if step + 1 == m.width then no_error_lanes m.strength
+    else slice_index_or line (column_of_step m.width row (step + 1)) [])
+
+-- what neighbors pass on in a channel
 abbrev pub received_of : Neighbors → ℕ → ℕ
 received_of neighbors channel =
-    next_share (slice_index neighbors.before channel) + slice_index neighbors.above channel
+    next_share (slice_index neighbors.before channel)
+    + before_share (slice_index neighbors.behind channel)
+    + below_share (slice_index neighbors.above channel)
+    + rest_share (slice_index neighbors.beyond channel)
 
--- no number of the neighbors is above the limit of errors
+-- the errors of all neighbors are errors
 pub record HaveErrors (neighbors : Neighbors) : Type 0 where
   pub before : AreErrors neighbors.before
+  pub behind : AreErrors neighbors.behind
   pub above : AreErrors neighbors.above
+  pub beyond : AreErrors neighbors.beyond
 
 -- these are received by the pixel of a visit
 abbrev pub AreReceived : Mapped → List (List ℕ) → ℕ → (ℕ → ℕ) → Type 0

@@ -9,14 +9,12 @@ ghost use Rattle.sixel_palette.specs.Dithering.{AreMapped, entry_before, errors_
 ghost use Rattle.sixel_palette.specs.Dithering.{target_of_visit};
 ghost use Rattle.sixel_palette.specs.inside.Diffusion.{AreErrors, AreLanes, AreParts};
 ghost use Rattle.sixel_palette.specs.inside.Diffusion.{ArePrepared, AreReceived, HaveErrors};
-ghost use Rattle.sixel_palette.specs.inside.Diffusion.{AreSixteenths, AreVisited};
+ghost use Rattle.sixel_palette.specs.inside.Diffusion.{AreSixteenths, AreVisited, IsBeyond, IsLine};
 ghost use Rattle.sixel_palette.specs.inside.Diffusion.{IsVisit, channels, color_error};
 ghost use Rattle.sixel_palette.specs.inside.Diffusion.{no_error_lanes, received_of};
 ghost use Rattle.sixel_palette.specs.inside.Diffusion.{IsPart, rounded_color};
-ghost use Rattle.sixel_palette.specs.inside.ErrorLine.{IsLine};
 ghost use Rattle.sixel_palette.specs.inside.Mapped.{AreEntries, IsMappable, IsPlace, mapped_value};
 
-use crate::dithering::error_line::{ErrorLine, PixelError};
 use crate::dithering::mapped::{MappedImage, Place, column_of_step};
 use crate::dithering::sixteen_entries::SixteenEntries;
 use crate::palette::colors::is_opaque;
@@ -37,11 +35,14 @@ pub fn diffused_indices(alloc: Global, image: &MappedImage<'_>) -> Result<Vec<u8
         return Ok(Vec::new(alloc));
     }
     let mut indices = vec![in alloc; 0; image.pixels.len() / 4]?;
-    let mut line = image.error_line(alloc)?;
+    let mut line = vec![in alloc; image.no_error(); image.width]?;
     let mut entries = image.entries(alloc)?;
     image.diffuse_rows(&mut indices, &mut line, &mut entries)?;
     Ok(indices)
 }
+
+/// An error of each channel, in sixteenths above the lowest one. The fourth lane has no meaning.
+type PixelError = u16x4;
 
 /// What is added to sixteenths, so that their limit is that of numbers of 16 bits.
 const LOWEST: u16 = u16::MAX - 4080;
@@ -84,26 +85,11 @@ impl MappedImage<'_> {
         lanes.cast::<u16>() * u16x4::splat(strength)
     }
 
-    /// Returns a line without an error.
-    fn error_line(&self, alloc: Global) -> Result<ErrorLine, AllocError>
-        requires image { IsMappable self.now }
-        requires some { 0 < length self.now.pixels.now }
-        ensures { IfOk result (λ line. (indices : List ℕ)
-            → IsLine (mapped_value self.now) (errors_of (mapped_value self.now) indices 0) 0 0
-            line) }
-    {
-        let none = 512 * u16::from(self.strength);
-        Ok(ErrorLine {
-            errors: vec![in alloc; none; 4 * self.width + 8]?,
-            received: vec![in alloc; 0; 4 * self.width]?,
-        })
-    }
-
     /// Visits the pixels of all rows. The line has no errors before the first one.
     fn diffuse_rows(
         &self,
         indices: &mut [u8],
-        line: &mut ErrorLine,
+        line: &mut [PixelError],
         entries: &mut Entries,
     ) -> Result<(), AllocError>
         requires image { IsMappable self.now }
@@ -129,7 +115,7 @@ impl MappedImage<'_> {
     fn diffuse_row(
         &self,
         indices: &mut [u8],
-        line: &mut ErrorLine,
+        line: &mut [PixelError],
         entries: &mut Entries,
         row: usize,
     ) -> Result<(), AllocError>
@@ -150,10 +136,10 @@ impl MappedImage<'_> {
             (row + 1) 0 line.new) }
         ensures prepared { OnOk result (ArePrepared self.now entries.new) }
     {
-        line.receive(row);
         // A copy stays in registers, since no store to a slice can change it.
         let image = *self;
         let mut before = image.no_error();
+        let mut behind = image.no_error();
         let mut entry = None;
         for step in 0..image.width {
             let column = column_of_step(image.width, row, step);
@@ -162,16 +148,35 @@ impl MappedImage<'_> {
                 step,
                 pixel: row * image.width + column,
             };
+            let above = line[column];
             let neighbors = Neighbors {
                 entry,
                 before,
-                above: line.received(column),
+                behind,
+                above,
+                beyond: image.error_beyond(line, row, step),
             };
             image.visit(indices, entries, place, neighbors, &mut before)?;
             entry = image.entry_at(indices, place.pixel);
-            line.set(column, before);
+            line[column] = before;
+            behind = above;
         }
         Ok(())
+    }
+
+    /// Returns the error above the next pixel of a row, if there is one.
+    #[inline(always)]
+    fn error_beyond(&self, line: &[PixelError], row: usize, step: usize) -> PixelError
+        requires image { IsMappable self.now }
+        requires step { step < self.now.width }
+        requires line { length line.now ≡ self.now.width }
+        ensures { IsBeyond (mapped_value self.now) line.now row step result }
+    {
+        if step + 1 == self.width {
+            self.no_error()
+        } else {
+            line[column_of_step(self.width, row, step + 1)]
+        }
     }
 
     /// Stores the index and the error of a place with these neighbors.
@@ -272,7 +277,12 @@ impl MappedImage<'_> {
         ensures target { channels result.1 ≡ rounded_color result.0 }
     {
         let none = 512 * u16::from(self.strength);
-        let known = color_lanes(self.pixels, pixel) * u16x4::splat(16) + neighbors.above;
+        let color = color_lanes(self.pixels, pixel);
+        let below_before = share(neighbors.behind, 3);
+        let below = share(neighbors.above, 5);
+        let whole = neighbors.beyond;
+        let rest = whole - share(whole, 7) - share(whole, 3) - share(whole, 5);
+        let known = color * u16x4::splat(16) + below_before + below + rest;
         let raised = known.saturating_add(u16x4::splat(LOWEST - none));
         let sum = raised.saturating_add(next_share(neighbors.before));
         (sum.saturating_sub(u16x4::splat(LOWEST)), rounded(sum))
@@ -289,15 +299,19 @@ impl MappedImage<'_> {
     }
 }
 
-/// What a pixel gets of its neighbors: an entry, an error, and what the row above passes on.
+/// What a pixel gets of its neighbors: an entry, and the errors of those that pass something on.
 #[derive(Clone, Copy)]
 pub struct Neighbors {
     /// The entry of the pixel before it in its row.
     pub entry: Option<u8>,
     /// The error of that pixel.
     pub before: PixelError,
-    /// What it receives from the row above, in each channel.
-    pub above: u16x4,
+    /// The one of the pixel above that.
+    pub behind: PixelError,
+    /// The one of the pixel above it.
+    pub above: PixelError,
+    /// The one of the pixel above the next one.
+    pub beyond: PixelError,
 }
 
 /// Returns the bytes of a pixel: its channels, and then its alpha.
@@ -308,6 +322,16 @@ fn color_lanes(pixels: &[u8], pixel: usize) -> u16x4
     ensures small { (k : ℕ) → k < 4 → slice_index result k < 256 }
 {
     u8x4::from_slice(&pixels[4 * pixel..]).cast::<u16>()
+}
+
+/// Returns `part` sixteenths of an error.
+#[inline(always)]
+fn share(error: u16x4, part: u16) -> u16x4
+    requires error { AreErrors error }
+    requires part { part ≤ 7 }
+    ensures { AreLanes result (λ k. part * slice_index error k / 16) }
+{
+    (error * u16x4::splat(part)) >> u16x4::splat(4)
 }
 
 /// Returns seven sixteenths of an error, by a difference that takes less time than a product.

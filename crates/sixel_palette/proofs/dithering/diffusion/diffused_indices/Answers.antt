@@ -2,6 +2,7 @@ use Rattle.std.proofs.Common.{◌≡◌, ◌++◌, ℕ, List, sym, subst, length
 use Rattle.std.proofs.lemmas.List.{take_at, get_or-replicate, get_or_past, length-replicate}
 use Rattle.sixel_palette.specs.Dithering.{AreMapped, errors_of, target_of_visit}
 use Rattle.sixel_palette.specs.inside.Mapped.{mapped_value}
+use Rattle.sixel_palette.proofs.mapped_images.DiffusionVisit.{IsLine-none}
 use Rattle.std.proofs.lemmas.Bool.Decides.{nat_tests}
 use Rattle.std.proofs.lemmas.Bool.{cases_lt}
 use Rattle.sixel_palette.proofs.dithering.diffusion.diffused_indices.Goals as goal
@@ -15,6 +16,12 @@ pub diffuse_rows-requires-clause-entries : goal.diffuse_rows-requires-clause-ent
 diffuse_rows-requires-clause-entries c =
     rw c.deref_mut.ensures.value
     (grind (arith, nat_tests, cases_lt, get_or-replicate, get_or_past, length-replicate))
+
+pub diffuse_rows-requires-clause-line : goal.diffuse_rows-requires-clause-line
+diffuse_rows-requires-clause-line c =
+    rw c.deref_mut-2.ensures.value (IsLine-none (mapped_value c.args.image.now) _ _
+    (grind (arith, nat_tests, c.no_error.ensures.value))
+    (rw c.no_error.ensures.value at c.no_error.ensures.lanes))
 
 pub returns : goal.returns
 returns c =

@@ -1,16 +1,14 @@
-use Rattle.std.proofs.Common.{◌≡◌, ℕ, ◌<◌, ◌+◌, ◌*◌, get_or, ap, refl, sym, ◌∙◌, arith}
+use Rattle.std.proofs.Common.{◌≡◌, ◌+◌, ◌*◌, [], get_or, ap, refl, sym, ◌∙◌, arith}
 use Rattle.std.proofs.lemmas.Nat.{mod-mul-add}
 use Rattle.sixel_palette.specs.declared.dithering.diffusion.Neighbors.{Neighbors}
-use Rattle.sixel_palette.specs.Dithering.{column_of_step, entry_of}
+use Rattle.sixel_palette.specs.Dithering.{column_of_step, entry_of, error_above, error_back}
 use Rattle.sixel_palette.specs.Dithering.{errors_of}
 use Rattle.sixel_palette.specs.inside.Diffusion.{channels}
-use Rattle.sixel_palette.specs.inside.ErrorLine.{received_above}
 use Rattle.sixel_palette.specs.inside.Mapped.{mapped_value}
-use Rattle.sixel_palette.proofs.mapped_images.DiffusionVisit.{AreReceived-neighbors}
-use Rattle.sixel_palette.proofs.mapped_images.DiffusionVisit.{AreVisited-more, before-more}
+use Rattle.sixel_palette.proofs.mapped_images.DiffusionVisit.{AreErrors-beyond, AreReceived-neighbors}
+use Rattle.sixel_palette.proofs.mapped_images.DiffusionVisit.{AreVisited-more, IsLine-more}
+use Rattle.sixel_palette.proofs.mapped_images.DiffusionVisit.{before-more, behind-more, beyond-line}
 use Rattle.sixel_palette.proofs.mapped_images.DiffusionVisit.{errors_of-more}
-use Rattle.sixel_palette.proofs.mapped_images.ErrorLine.{AreReceivedBy-more, IsLine-more}
-use Rattle.sixel_palette.proofs.mapped_images.DiffusionLanes.{small-lanes}
 use Rattle.sixel_palette.proofs.mapped_images.Serpentine.{column-next_row, serpentine-step}
 use Rattle.sixel_palette.proofs.mapped_images.KeptEntries.{before-none, before-some}
 use Rattle.std.proofs.lemmas.Bool.Decides.{nat_tests}
@@ -20,17 +18,17 @@ pub loop-step-init : goal.loop-step-init
 loop-step-init c =
     let m = mapped_value c.args.self.now in
     let first : c.args.row * m.width + 0 ≡ c.args.row * m.width = omega arith in
-    let received = c.receive.ensures m _ c.requires.line in
     record {
       size = c.requires.indices;
       entries = c.requires.entries;
       visited = rw first c.requires.visited;
-      line = rw first received.0;
-      received = rw first received.1;
+      line = rw first c.requires.line;
       entry = λ some. sym (before-none m c.args.indices.now c.args.row 0 some refl);
       inside = λ index is. absurd cc;
       before = ap channels c.no_error-before.ensures.value;
+      behind = ap channels c.no_error-behind.ensures.value;
       lanes_before = c.no_error-before.ensures.lanes;
+      lanes_behind = c.no_error-behind.ensures.lanes;
       prepared = c.requires.prepared;
     }
 
@@ -49,31 +47,30 @@ loop-step-preserved c =
     let inside = c.loop-step-test.true in
     let column = c.column_of_step-column.result in
     let same = c.column_of_step-column.ensures.value in
+    let above : channels (get_or line column []) ≡ error_above m errors step =
+    ap (λ k. channels (get_or line k [])) same
+    ∙ (h.line.above step (omega arith) inside ∙ ap (error_back m errors) (omega arith)) in
+    let beyond =
+    beyond-line m errors line row step c.error_beyond.result inside h.line c.error_beyond.ensures in
     let neighbors : Neighbors = record {
       entry = c.loop-step.entry;
       before = c.loop-step.before;
-      above = c.received.result;
+      behind = c.loop-step.behind;
+      above = get_or line column [];
+      beyond = c.error_beyond.result;
     } in
-    let above : (k : ℕ) → k < 3 → get_or neighbors.above k 0 ≡ received_above m errors step step k =
-    λ k l. c.received.ensures.each k (omega arith)
-    ∙ (ap (λ n. get_or line.received.items (4 * n + k) 0) same
-    ∙ h.received.each step k (omega arith) inside l) in
     let visit =
     c.in_ok-visit.ensures.visit errors
     (AreReceived-neighbors m errors n step neighbors (mod-mul-add row m.width step inside) h.before
-    above) in
+    h.behind above beyond) in
     let wide = c.requires.image.whole.wide in
     let next : n + 1 ≡ row * m.width + (step + 1) = omega arith in
-    let stored = rw same at c.set.ensures in
     let more = rw next at (errors_of-more m old new error n wide visit) in
     record {
       size = c.in_ok-visit.ensures.indices;
       entries = c.in_ok-visit.ensures.entries;
       visited = rw next at (AreVisited-more m old new error n wide h.visited visit);
-      line = rw more (IsLine-more m errors line c.set.new.self row step error inside visit.lanes
-          stored h.line);
-      received = rw more (AreReceivedBy-more m errors line c.set.new.self row step
-          (channels error) stored.received h.received);
+      line = rw (more, same) (IsLine-more m errors line row step error inside visit.lanes h.line);
       entry = λ later.
           c.entry_at-entry.ensures.value
           ∙ (ap (λ k. entry_of m.pixels new (row * m.width + k))
@@ -81,7 +78,9 @@ loop-step-preserved c =
           ∙ sym (before-some m new row (step + 1) later (omega arith)));
       inside = λ index is. c.entry_at-entry.ensures.inside index c.in_ok-visit.ensures.entries is;
       before = rw more (before-more m errors step (channels error));
+      behind = rw more (above ∙ behind-more m errors step (channels error));
       lanes_before = visit.lanes;
+      lanes_behind = h.line.lanes column c.column_of_step-column.ensures.within;
       prepared = c.in_ok-visit.ensures.prepared;
     }
 
@@ -96,6 +95,12 @@ returns c =
       column-next_row,
     )
 
+pub error_beyond-requires-clause-image : goal.error_beyond-requires-clause-image
+error_beyond-requires-clause-image c = c.requires.image
+
+pub error_beyond-requires-clause-line : goal.error_beyond-requires-clause-line
+error_beyond-requires-clause-line c = c.loop-step.invariant.line.whole
+
 pub visit-requires : goal.visit-requires
 visit-requires c =
     let m = mapped_value c.args.self.now in
@@ -109,10 +114,12 @@ visit-requires c =
       inside = h.inside;
       errors = record {
         before = h.lanes_before;
-        above = record {
-          four = c.received.ensures.four;
-          small = small-lanes _ _ _ c.received.ensures (λ k l. h.received.small _);
-        };
+        behind = h.lanes_behind;
+        above = h.line.lanes c.column_of_step-column.result c.column_of_step-column.ensures.within;
+        beyond = AreErrors-beyond m c.loop-step.line c.args.row c.loop-step.step
+            c.error_beyond.result c.loop-step-test.true
+            (rw c.no_error-before.ensures.value at c.no_error-before.ensures.lanes) h.line.lanes
+            c.error_beyond.ensures;
       };
       prepared = h.prepared;
     }

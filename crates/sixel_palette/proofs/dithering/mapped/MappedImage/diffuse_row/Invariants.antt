@@ -1,8 +1,8 @@
 use Rattle.std.proofs.Common.{◌≡◌, ℕ, ◌+◌, ◌*◌, ◌<◌, length}
 use Rattle.std.specs.Prelude.{◌/◌, Some}
-use Rattle.sixel_palette.specs.Dithering.{entry_before, error_before, errors_of}
-use Rattle.sixel_palette.specs.inside.Diffusion.{AreErrors, ArePrepared, AreVisited, channels}
-use Rattle.sixel_palette.specs.inside.ErrorLine.{AreReceivedBy, IsLine}
+use Rattle.sixel_palette.specs.Dithering.{entry_before, error_before, error_behind, errors_of}
+use Rattle.sixel_palette.specs.inside.Diffusion.{AreErrors, ArePrepared, AreVisited, IsLine}
+use Rattle.sixel_palette.specs.inside.Diffusion.{channels}
 use Rattle.sixel_palette.specs.inside.Mapped.{AreEntries, mapped_value}
 use Rattle.sixel_palette.proofs.dithering.mapped.MappedImage.diffuse_row.Given as goal
 
@@ -14,15 +14,16 @@ invariant-loop-step l = record {
   line : IsLine (mapped_value l.self)
       (errors_of (mapped_value l.self) l.indices (l.row * l.self.width + l.step)) l.row l.step
       l.line;
-  received : AreReceivedBy (mapped_value l.self)
-      (errors_of (mapped_value l.self) l.indices (l.row * l.self.width + l.step)) l.row l.step
-      l.line;
   entry : l.step < l.self.width → l.entry
       ≡ entry_before (mapped_value l.self) l.indices (l.row * l.self.width + l.step);
   inside : (index : ℕ) → l.entry ≡ Some index → index < length l.self.colors.now;
   before : channels l.before
       ≡ error_before (mapped_value l.self)
       (errors_of (mapped_value l.self) l.indices (l.row * l.self.width + l.step)) l.step;
+  behind : channels l.behind
+      ≡ error_behind (mapped_value l.self)
+      (errors_of (mapped_value l.self) l.indices (l.row * l.self.width + l.step)) l.step;
   lanes_before : AreErrors l.before;
+  lanes_behind : AreErrors l.behind;
   prepared : ArePrepared l.self l.entries;
 }

@@ -3,7 +3,6 @@ use Rattle.std.proofs.Common.{arith}
 use Rattle.std.specs.Prelude.{slice_index}
 use Rattle.std.proofs.lemmas.Nat.{mul-le}
 use Rattle.sixel_palette.proofs.colors.Distance.{below_three}
-use Rattle.sixel_palette.proofs.colors.Lists.{four_cases}
 use Rattle.sixel_palette.proofs.mapped_images.DiffusionLanes.{lanes, lanes-cast, lanes-splat}
 use Rattle.sixel_palette.proofs.colors.Lists.{four_cases}
 use Rattle.sixel_palette.proofs.mapped_images.DiffusionLanes.{lanes-times, small-lanes}
