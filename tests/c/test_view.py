@@ -222,6 +222,13 @@ class TestView(unittest.TestCase):
         self.assertEqual(self.shown("-w 1", TWO_PPM), placed(RED))
         self.assertEqual(self.shown("- /dev/stdin", RED_PPM), 2 * placed(RED))
 
+    def test_files(self):
+        """A SIXEL file, and a photograph that is turned or shown as it is stored."""
+        images = ("", HIGH, HIGH_RED), ("", jpeg(), TURNED), ("-o off", jpeg(), STORED)
+        for arguments, stdin, image in images:
+            with self.subTest(arguments=arguments, stdin=stdin[:20]):
+                self.assertEqual(self.shown(arguments, stdin), placed(image))
+
     def test_question(self):
         """SIXEL and the size are asked for at once. Answers can come in parts, and after typing."""
         size = {"size": (24, 80, 0, 0)}
