@@ -17,23 +17,38 @@ impl<T, I: SliceIndex<[T]>> Index<Proved<I>> for [T] {
 
     #[inline(always)]
     fn index(&self, Proved(index): Proved<I>) -> &I::Output {
-        if IS_CHECKED { &self[index] } else { unsafe { self.get_unchecked(index) } }
+        if IS_CHECKED {
+            self.get(index).unwrap_or_else(|| out_of_range())
+        } else {
+            unsafe { self.get_unchecked(index) }
+        }
     }
 }
 
 impl<T, I: SliceIndex<[T]>> IndexMut<Proved<I>> for [T] {
     #[inline(always)]
     fn index_mut(&mut self, Proved(index): Proved<I>) -> &mut I::Output {
-        if IS_CHECKED { &mut self[index] } else { unsafe { self.get_unchecked_mut(index) } }
+        if IS_CHECKED {
+            self.get_mut(index).unwrap_or_else(|| out_of_range())
+        } else {
+            unsafe { self.get_unchecked_mut(index) }
+        }
     }
 }
 
 /// Checks a condition that is proved to hold, or lets the compiler rely on it.
 #[inline(always)]
 pub fn proved(condition: bool) {
-    if IS_CHECKED {
-        assert!(condition);
-    } else {
+    if !IS_CHECKED {
         unsafe { assert_unchecked(condition) }
+    } else if !condition {
+        out_of_range();
     }
+}
+
+/// Panics. Without arguments, the checks of a function share one call.
+#[cold]
+#[inline(never)]
+fn out_of_range() -> ! {
+    panic!("index out of range")
 }

@@ -3,7 +3,7 @@
 extern crate std;
 
 use super::alloc::Global;
-use super::prelude::{String, Vec};
+use super::prelude::{Proved, String, Vec};
 use super::simd::{Choice, Lane, Mask, Simd};
 use std::vec::Vec as Items;
 
@@ -123,6 +123,15 @@ where
 fn lanes_are_extracted() {
     let lanes = Simd::<u8, 8>::from_array([1, 2, 3, 4, 5, 6, 7, 8]);
     assert_eq!(lanes.extract::<4, 4>().to_array(), [5, 6, 7, 8]);
+}
+
+/// An index out of range panics, where indices are checked.
+#[cfg(any(not(feature = "unchecked"), debug_assertions))]
+#[test]
+#[should_panic(expected = "index out of range")]
+fn indices_are_checked() {
+    let items: &[u8] = &[1, 2];
+    let _ = items[Proved(items.len())];
 }
 
 /// A vector of more bytes than there are fails, and is as it was.

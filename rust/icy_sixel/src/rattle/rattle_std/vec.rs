@@ -81,12 +81,6 @@ impl<T> Vec<T> {
         &self.0
     }
 
-    /// The items, which can be changed.
-    #[inline]
-    pub fn as_mut_slice(&mut self) -> &mut [T] {
-        &mut self.0
-    }
-
     /// The address of the first item.
     #[inline]
     pub fn as_mut_ptr(&mut self) -> *mut T {
@@ -166,12 +160,6 @@ impl<T> Vec<T> {
         Ok(())
     }
 
-    /// Removes and returns the last item.
-    #[inline]
-    pub fn pop(&mut self) -> Option<T> {
-        self.0.pop()
-    }
-
     /// Drops the items from this number on.
     #[inline]
     pub fn truncate(&mut self, len: usize) {
@@ -182,12 +170,6 @@ impl<T> Vec<T> {
     #[inline]
     pub fn clear(&mut self) {
         self.0.clear();
-    }
-
-    /// Removes and returns an item, whose place the last one gets.
-    #[inline]
-    pub fn swap_remove(&mut self, at: usize) -> T {
-        self.0.swap_remove(at)
     }
 
     /// Removes and returns an item. Those after it move up.
@@ -269,25 +251,5 @@ impl<'a, T> IntoIterator for &'a Vec<T> {
     #[inline]
     fn into_iter(self) -> slice::Iter<'a, T> {
         self.0.iter()
-    }
-}
-
-impl<'a, T> IntoIterator for &'a mut Vec<T> {
-    type Item = &'a mut T;
-    type IntoIter = slice::IterMut<'a, T>;
-
-    #[inline]
-    fn into_iter(self) -> slice::IterMut<'a, T> {
-        self.0.iter_mut()
-    }
-}
-
-impl<T> IntoIterator for Vec<T> {
-    type Item = T;
-    type IntoIter = vec::IntoIter<T>;
-
-    #[inline]
-    fn into_iter(self) -> vec::IntoIter<T> {
-        self.0.into_iter()
     }
 }
