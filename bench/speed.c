@@ -55,18 +55,21 @@ int main(int argc, char **argv)
     double *times = calloc(turns, sizeof *times);
     if (bytes == NULL || times == NULL || (*kind && is_raw != (chunk == 0)))
         return fputs("usage: speed FILE TURNS [COLORS [CHUNK | KIND]]\n", stderr), 2;
-    size_t text = length;
     icysixel handle = {0};
+    icysixel_bytes text = {0};
     want(icysixel_new(&handle));
     for (size_t turn = 0; turn < turns; turn++) {
+        if (is_raw) icysixel_free_bytes(&text);
         double begun = now();
         if (is_raw)
-            want(icysixel_encode_image(&handle, bytes, length, &encoding, &text));
+            want(icysixel_encode(bytes, length, &encoding, &text));
         else
             decode(&handle, bytes, length, chunk, &shape);
         times[turn] = now() - begun;
     }
-    report(is_raw ? "encode" : "decode", times, turns, shape.width * shape.height, text);
+    report(is_raw ? "encode" : "decode", times, turns, shape.width * shape.height,
+           is_raw ? text.length : length);
+    icysixel_free_bytes(&text);
     icysixel_free(&handle);
     free(times);
     free(bytes);

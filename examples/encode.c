@@ -9,18 +9,13 @@ int main(void)
     uint8_t pixels[4 * WIDTH * HEIGHT];
     for (size_t i = 0; i < sizeof pixels; i++) pixels[i] = i % 4 == 0 || i % 4 == 3 ? 255 : 0;
 
-    icysixel handle = {0};
-    size_t length = 0;
     icysixel_encoding encoding = {.width = WIDTH, .height = HEIGHT, .max_colors = 16};
     encoding.dithering.kind = ICYSIXEL_DITHER_DIFFUSION;
     encoding.tolerance = ICYSIXEL_AUTO;
     encoding.form = ICYSIXEL_FORM_COMPACT;
-    uint32_t code = icysixel_new(&handle);
-    if (code == ICYSIXEL_OK)
-        code = icysixel_encode_image(&handle, pixels, sizeof pixels, &encoding, &length);
-
     icysixel_bytes text = {0};
-    if (code == ICYSIXEL_OK) code = icysixel_take_text(&handle, &text);
+    uint32_t code = icysixel_encode(pixels, sizeof pixels, &encoding, &text);
+
     if (code == ICYSIXEL_OK) {
         fwrite(text.data, 1, text.length, stdout);
     } else {
@@ -29,6 +24,5 @@ int main(void)
         fprintf(stderr, "%s\n", message);
     }
     icysixel_free_bytes(&text);
-    icysixel_free(&handle);
     return code == ICYSIXEL_OK ? 0 : 1;
 }

@@ -61,16 +61,13 @@ static int write_image(icysixel *decoder, const icysixel_shape *shape)
 {
     icysixel_encoding encoding = {.width = shape->width, .height = shape->height};
     icysixel_bytes pixels = {0}, text = {0};
-    size_t length;
     encoding.pixel_height = (uint8_t)shape->pixel_height;
     if (shape->p2 != 1) encoding.background = ICYSIXEL_BACKGROUND_OPAQUE;
     encoding.palette = ICYSIXEL_PALETTE_FARTHEST;
     encoding.form = ICYSIXEL_FORM_COMPACT;
     if (shape->bytes == 0) return 1;
-    if (icysixel_take_pixels(decoder, ICYSIXEL_ORDER_RGBA, &pixels) == ICYSIXEL_OK &&
-        icysixel_encode_image(decoder, pixels.data, pixels.length, &encoding, &length) ==
-            ICYSIXEL_OK)
-        icysixel_take_text(decoder, &text);
+    if (icysixel_take_pixels(decoder, ICYSIXEL_ORDER_RGBA, &pixels) == ICYSIXEL_OK)
+        icysixel_encode(pixels.data, pixels.length, &encoding, &text);
     int is_written = text.data != NULL;
     if (is_written) fwrite(text.data, 1, text.length, stdout);
     icysixel_free_bytes(&pixels);

@@ -10,7 +10,6 @@
 struct sixel_output {
     sixel_write_function write;
     void *data;
-    icysixel encoder;
 };
 
 struct sixel_dither {
@@ -28,11 +27,7 @@ SIXELSTATUS sixel_output_new(sixel_output_t **output, sixel_write_function write
     return SIXEL_OK;
 }
 
-void sixel_output_unref(sixel_output_t *output)
-{
-    if (output != NULL) icysixel_free(&output->encoder);
-    free(output);
-}
+void sixel_output_unref(sixel_output_t *output) { free(output); }
 
 void sixel_output_set_encode_policy(sixel_output_t *output, int policy)
 {
@@ -77,19 +72,14 @@ SIXELSTATUS sixel_encode(unsigned char *pixels, int width, int height, int depth
 {
     icysixel_encoding encoding = {.width = (size_t)width, .height = (size_t)height};
     icysixel_bytes text = {0};
-    size_t length;
     (void)depth;
     if (width <= 0 || height <= 0) return SIXEL_BAD_ARGUMENT;
     encoding.format = ICYSIXEL_FORMAT_RGB;
     encoding.background = ICYSIXEL_BACKGROUND_OPAQUE;
     encoding.palette = ICYSIXEL_PALETTE_FARTHEST;
     encoding.max_colors = dither->max_colors;
-    uint32_t code = ICYSIXEL_OK;
-    if (icysixel_is_empty(&output->encoder)) code = icysixel_new(&output->encoder);
-    if (code == ICYSIXEL_OK)
-        code = icysixel_encode_image(&output->encoder, pixels,
-                                     3 * encoding.width * encoding.height, &encoding, &length);
-    if (code == ICYSIXEL_OK) code = icysixel_take_text(&output->encoder, &text);
+    size_t length = 3 * encoding.width * encoding.height;
+    uint32_t code = icysixel_encode(pixels, length, &encoding, &text);
     if (code == ICYSIXEL_OK) output->write((char *)text.data, (int)text.length, output->data);
     icysixel_free_bytes(&text);
     return code == ICYSIXEL_OK ? SIXEL_OK : SIXEL_BAD_INPUT;

@@ -45,8 +45,7 @@ static void encode(struct recorder *it, icysixel_bytes pixels, const icysixel_sh
     encoding.pixel_height = (uint8_t)shape->pixel_height;
     if (shape->p2 != 1) encoding.background = ICYSIXEL_BACKGROUND_OPAQUE;
     encoding.form = ICYSIXEL_FORM_COMPACT;
-    check(icysixel_encode_image(&it->stream, pixels.data, pixels.length, &encoding, &text->length));
-    check(icysixel_take_text(&it->stream, text));
+    check(icysixel_encode(pixels.data, pixels.length, &encoding, text));
 }
 
 /* Writes the image that has ended, and compares what the stream and the recording show. */

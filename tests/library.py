@@ -44,11 +44,8 @@ def call(name, *arguments):
 
 def encoded(pixels, encoding):
     """The SIXEL output of pixels, given as bytes."""
-    handle, size = (ctypes.c_void_p * 2)(), ctypes.c_size_t()
-    call("icysixel_new", handle)
-    source = pixels, len(pixels), ctypes.byref(encoding)
-    call("icysixel_encode_image", handle, *source, ctypes.byref(size))
-    text = ctypes.create_string_buffer(size.value)
-    call("icysixel_copy_text", handle, text, size.value, ctypes.byref(size))
-    ctypes.CDLL(str(SHARED)).icysixel_free(handle)
-    return text.raw
+    text = (ctypes.c_size_t * 3)()
+    call("icysixel_encode", pixels, len(pixels), ctypes.byref(encoding), text)
+    encoded = ctypes.string_at(text[0], text[1])
+    ctypes.CDLL(str(SHARED)).icysixel_free_bytes(text)
+    return encoded

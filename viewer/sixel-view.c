@@ -30,7 +30,7 @@ static const char help[] =
 static const char *const kinds[] = {"none", "diffusion", "ordered", NULL}; /* icysixel_dither */
 static int colors = 256, dither = -1, max_width, max_height, is_looping, is_unturned;
 static int is_terminal, is_tmux, cell_height; /* of the screen */
-static icysixel codec;
+static icysixel decoder;
 
 /* What each exit path undoes, also that of a signal. */
 static struct termios usual;
@@ -184,8 +184,7 @@ static void show(GdkPixbuf *image, icysixel_encoding encoding)
     encoding.tolerance = ICYSIXEL_AUTO;
     encoding.form = ICYSIXEL_FORM_COMPACT;
     const uint8_t *pixels = gdk_pixbuf_read_pixels(image);
-    check(icysixel_encode_image(&codec, pixels, length, &encoding, &length));
-    check(icysixel_take_text(&codec, &text));
+    check(icysixel_encode(pixels, length, &encoding, &text));
     draw(&text, (int)encoding.height);
     icysixel_free_bytes(&text);
     g_object_unref(image);
@@ -253,13 +252,13 @@ static void show_sixel(const char *bytes, size_t length, GError **error)
 {
     icysixel_shape shape = {0};
     icysixel_bytes pixels = {0};
-    if (icysixel_decode(&codec, (const uint8_t *)bytes, length, &shape) == ICYSIXEL_OUT_OF_MEMORY)
+    if (icysixel_decode(&decoder, (const uint8_t *)bytes, length, &shape) == ICYSIXEL_OUT_OF_MEMORY)
         stop("out of memory");
     if (shape.bytes == 0) {
         g_set_error(error, GDK_PIXBUF_ERROR, GDK_PIXBUF_ERROR_CORRUPT_IMAGE, "no SIXEL image");
         return;
     }
-    check(icysixel_take_pixels(&codec, ICYSIXEL_ORDER_RGBA, &pixels));
+    check(icysixel_take_pixels(&decoder, ICYSIXEL_ORDER_RGBA, &pixels));
     GdkPixbuf *image = gdk_pixbuf_new_from_data(pixels.data, GDK_COLORSPACE_RGB, TRUE, 8,
                                                 (int)shape.width, (int)shape.height,
                                                 4 * (int)shape.width, NULL, NULL);
@@ -335,16 +334,16 @@ int main(int count, char **words)
     static const int signals[] = {SIGINT, SIGTERM, SIGHUP, SIGQUIT, SIGABRT, SIGTRAP};
     int status = 0;
     read_options(count, words);
-    check(icysixel_new(&codec));
-    icysixel_set_height(&codec, ICYSIXEL_HEIGHT_DRAWN);
-    icysixel_set_lenient(&codec, 1);
-    icysixel_set_transparent(&codec, 1);
+    check(icysixel_new(&decoder));
+    icysixel_set_height(&decoder, ICYSIXEL_HEIGHT_DRAWN);
+    icysixel_set_lenient(&decoder, 1);
+    icysixel_set_transparent(&decoder, 1);
     for (size_t it = 0; it < G_N_ELEMENTS(signals); it++)
         if (signal(signals[it], on_signal) == SIG_IGN) signal(signals[it], SIG_IGN);
     signal(SIGTSTP, SIG_IGN); /* a DCS sequence would not go on after Ctrl-Z */
     measure();
     for (int word = optind; word < count; word++) status |= show_file(words[word]);
     if (optind == count) status = show_file("-");
-    icysixel_free(&codec);
+    icysixel_free(&decoder);
     return status;
 }

@@ -16,6 +16,10 @@ class Shape(c.Structure):
     _fields_ += [(name, c.c_uint8) for name in ("p1", "p2", "is_complete", "is_empty")]
 
 
+class Bytes(c.Structure):
+    _fields_ = [("data", c.c_void_p), ("length", c.c_size_t), ("capacity", c.c_size_t)]
+
+
 class Layout(c.Structure):
     _fields_ = [("stride", c.c_size_t), ("columns", c.c_size_t), ("order", c.c_uint8)]
 
@@ -33,12 +37,12 @@ RGB = 2
 
 
 library = c.CDLL("libicysixel.so.0")
-handle, size = c.byref(Handle()), c.c_size_t()
+handle = c.byref(Handle())
 
 
 def call(name, *arguments):
-    """Calls a function on the handle. Its result is a code, which is 0 if all is well."""
-    code = library[name](handle, *arguments)
+    """Calls a function whose result is a code, which is 0 if all is well."""
+    code = library[name](*arguments)
     if code:
         text = c.create_string_buffer(80)
         library.icysixel_strerror(code, text, c.c_size_t(80))
@@ -48,10 +52,10 @@ def call(name, *arguments):
 def decode(data):
     """The PPM file of a DCS sequence. Transparent pixels become black."""
     shape = Shape()
-    call("icysixel_decode", data, c.c_size_t(len(data)), c.byref(shape))
+    call("icysixel_decode", handle, data, c.c_size_t(len(data)), c.byref(shape))
     rgba = c.create_string_buffer(shape.bytes)
     rows, layout = (c.c_size_t(0), c.c_size_t(shape.height)), c.byref(Layout())
-    call("icysixel_copy_pixels", *rows, layout, rgba, c.c_size_t(shape.bytes))
+    call("icysixel_copy_pixels", handle, *rows, layout, rgba, c.c_size_t(shape.bytes))
     pixels = b"".join(rgba.raw[at : at + 3] for at in range(0, shape.bytes, 4))
     return b"P6\n%d %d\n255\n" % (shape.width, shape.height) + pixels
 
@@ -60,14 +64,14 @@ def encode(ppm):
     """The DCS sequence of a PPM file without comments, whose channels have one byte."""
     width, height, data = re.fullmatch(rb"P6\s+(\d+)\s+(\d+)\s+255\s(.*)", ppm, re.S).groups()
     encoding = Encoding(width=int(width), height=int(height), format=RGB)
-    source = data, c.c_size_t(len(data)), c.byref(encoding)
-    call("icysixel_encode_image", *source, c.byref(size))
-    text = c.create_string_buffer(size.value)
-    call("icysixel_copy_text", text, c.c_size_t(size.value), c.byref(size))
-    return text.raw
+    text = Bytes()
+    call("icysixel_encode", data, c.c_size_t(len(data)), c.byref(encoding), c.byref(text))
+    encoded = c.string_at(text.data, text.length)
+    library.icysixel_free_bytes(c.byref(text))
+    return encoded
 
 
-call("icysixel_new")
+call("icysixel_new", handle)
 convert = {"decode": decode, "encode": encode}[sys.argv[1]]
 sys.stdout.buffer.write(convert(sys.stdin.buffer.read()))
 library.icysixel_free(handle)

@@ -132,17 +132,18 @@ static const icysixel_encoding encodings[] = {
     [CLEAR] = {COLUMNS(1), TWO, .format = ICYSIXEL_FORMAT_INDEXED_TRANSPARENT, .transparent = 0},
 };
 
-/* Encodes the columns and copies the stored text. After an error there is none. */
+/* Encodes the columns and copies the text. After an error there is none. */
 static uint32_t make_text(icysixel *h, int kind, struct bytes *made)
 {
     static const uint8_t indices[32 * 40] = {1};
-    size_t length = 0, wanted;
+    icysixel_bytes text = {0};
+    (void)h;
     uint32_t code = kind >= INDEXED
-        ? icysixel_encode_image(h, indices, sizeof indices, &encodings[kind], &length)
-        : icysixel_encode_image(h, pixels, sizeof pixels, &encodings[kind], &length);
-    if (code == ICYSIXEL_OK) *made = (struct bytes){malloc(length), length};
-    CHECK(icysixel_copy_text(h, made->at, made->length, &wanted)
-          == (code == ICYSIXEL_OK ? ICYSIXEL_OK : ICYSIXEL_NO_TEXT));
+        ? icysixel_encode(indices, sizeof indices, &encodings[kind], &text)
+        : icysixel_encode(pixels, sizeof pixels, &encodings[kind], &text);
+    CHECK((code == ICYSIXEL_OK) == (text.length > 0));
+    append(made, text.data, text.length);
+    icysixel_free_bytes(&text);
     return code;
 }
 
@@ -189,19 +190,14 @@ static const struct call calls[] = {
     CALL(palette, NEAREST), CALL(palette, ORDERED), CALL(palette, DIFFUSED), CALL(new, NEW),
 };
 
-/* A pixel in a palette of its own. */
-static const icysixel_encoding one = {.width = 1, .height = 1};
-
-/* A decoder with a register that no new one has, an image and a text. */
+/* A decoder with a register that no new one has, and an image. */
 static icysixel full_decoder(void)
 {
     icysixel h = {0};
     icysixel_shape shape;
-    size_t length;
     OK(icysixel_new(&h));
     icysixel_set_register(&h, 200, 1, 2, 3);
     OK(icysixel_decode(&h, (const uint8_t *)"#1;2;9;9;9!9~", 13, &shape));
-    OK(icysixel_encode_image(&h, pixels, 4, &one, &length));
     return h;
 }
 
@@ -240,17 +236,17 @@ static void test_each_allocation(const struct call *call)
 }
 
 /* Sizes and buffers are rejected before anything is allocated. */
-static void test_rejected(icysixel *h)
+static void test_rejected(void)
 {
     icysixel_color colors[3];
     icysixel_palette chosen;
     icysixel_refined refined;
-    size_t length;
+    icysixel_bytes text;
     icysixel_encoding none = {.height = 4}, four = {.width = 2, .height = 2};
     icysixel_encoding all = {.width = SIZE_MAX, .height = 2};
-    CHECK(icysixel_encode_image(h, pixels, 0, &none, &length) == ICYSIXEL_BAD_DIMENSIONS);
-    CHECK(icysixel_encode_image(h, pixels, 9, &four, &length) == ICYSIXEL_BUFFER_MISMATCH);
-    CHECK(icysixel_encode_image(h, pixels, 0, &all, &length) == ICYSIXEL_OVERFLOW);
+    CHECK(icysixel_encode(pixels, 0, &none, &text) == ICYSIXEL_BAD_DIMENSIONS);
+    CHECK(icysixel_encode(pixels, 9, &four, &text) == ICYSIXEL_BUFFER_MISMATCH);
+    CHECK(icysixel_encode(pixels, 0, &all, &text) == ICYSIXEL_OVERFLOW);
     CHECK(icysixel_choose_palette(pixels, 3, 2, colors, 2, colors, 3, NULL, 0, &chosen)
           == ICYSIXEL_BUFFER_MISMATCH);
     CHECK(icysixel_refine_palette(pixels, 3, 2, colors, 2, colors, 3, NULL, 0, &refined)
@@ -259,7 +255,7 @@ static void test_rejected(icysixel *h)
           == ICYSIXEL_COLOR_COUNT);
 }
 
-/* Makes the calls on a decoder with an image and a text, while every allocation fails. */
+/* Makes the calls on a decoder with an image, while every allocation fails. */
 static void test_no_allocation(void)
 {
     icysixel h = full_decoder();
@@ -269,11 +265,9 @@ static void test_no_allocation(void)
     icysixel_color color;
     icysixel_bytes block = {0};
     uint8_t buffer[512];
-    size_t wanted;
     subject = "calls that do not allocate", line_number = 0;
     memory.requests = 0, memory.all_fail = true;
     OK(icysixel_copy_pixels(&h, 0, 1, &(icysixel_layout){.columns = 1}, buffer, sizeof buffer));
-    OK(icysixel_copy_text(&h, buffer, sizeof buffer, &wanted));
     icysixel_set_register(&h, 1, 1, 2, 3);
     OK(icysixel_get_register(&h, 1, &color));
     icysixel_reset_registers(&h), icysixel_set_registers(&h, 2, &color, 1);
@@ -290,7 +284,7 @@ static void test_no_allocation(void)
     OK(icysixel_feed(&h, (const uint8_t *)"!65536", 6, &fed));
     CHECK(icysixel_feed(&h, (const uint8_t *)"~", 1, &fed) == ICYSIXEL_MALFORMED);
     CHECK(icysixel_strerror(ICYSIXEL_MALFORMED, (char *)buffer, sizeof buffer) == 20);
-    test_rejected(&h);
+    test_rejected();
     icysixel_discard_image(&h);
     CHECK(memory.requests == 0);
     memory.all_fail = false;
@@ -298,11 +292,6 @@ static void test_no_allocation(void)
     OK(icysixel_decode(&h, string, sizeof string - 1, &shape));
     memory.requests = 0, memory.all_fail = true;
     OK(icysixel_take_pixels(&h, 0, &block)), CHECK(block.length == shape.bytes);
-    icysixel_free_bytes(&block);
-    memory.all_fail = false;
-    OK(icysixel_encode_image(&h, pixels, 4, &one, &wanted));
-    memory.requests = 0, memory.all_fail = true;
-    OK(icysixel_take_text(&h, &block)), CHECK(block.length == wanted);
     icysixel_free(&h);
     icysixel_free_bytes(&block);
     CHECK(memory.requests == 0 && memory.blocks == 0 && memory.bytes == 0);

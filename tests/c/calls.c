@@ -14,7 +14,7 @@ _Static_assert(sizeof(icysixel) == 16 && sizeof(icysixel_fed) == 16 && sizeof(ic
 #define BYTES(text) (const uint8_t *)(text), strlen(text)
 #define DECODE(text) icysixel_decode(h, BYTES(text), &shape)
 #define FEED(text) icysixel_feed(h, BYTES(text), &fed)
-#define ENCODE(pixels) icysixel_encode_image(h, SIZED(pixels), &e, &length)
+#define ENCODE(pixels) encode(SIZED(pixels), &e)
 #define HAS_IMAGE                                                                                  \
     (icysixel_copy_pixels(h, 0, 0, &(icysixel_layout){0}, NULL, 0) != ICYSIXEL_NO_IMAGE)
 #define RED "\377\0\0\377"
@@ -38,13 +38,17 @@ static icysixel_fed fed;
 static icysixel_shape shape;
 static icysixel_size size;
 static icysixel_color color;
-static size_t wanted, length;
-
-/* A pixel in a palette of its own. */
-static const icysixel_encoding one = {.width = 1, .height = 1};
+static icysixel_bytes text;
 
 /* Twelve columns of six red pixels, and four bytes that are not part of the image. */
 static const char red[] = "\033P9;1q#1;2;100;0;0!12~\033\\more";
+
+/* Encodes pixels, and frees the text before. */
+static uint32_t encode(const uint8_t *pixels, size_t length, const icysixel_encoding *encoding)
+{
+    icysixel_free_bytes(&text);
+    return icysixel_encode(pixels, length, encoding, &text);
+}
 
 /* The red of register 1: 51 in a new decoder. */
 static uint8_t red_of_1(void)
@@ -71,13 +75,13 @@ static void make_silent_calls(void)
     icysixel_set_clip(h, 1, 1);
 }
 
-/* On an empty handle each call reports that, and writes nothing but a length of 0. */
+/* On an empty handle each call reports that, and writes nothing. */
 static void test_empty_handle(void)
 {
     icysixel_bytes block = {&(uint8_t){7}, 7, 7};
     icysixel_layout layout = {4, 1, ICYSIXEL_ORDER_RGBA};
     uint8_t buffer[4] = {7, 7, 7, 7};
-    fed.consumed = shape.width = shape.bytes = size.width = length = color.red = 7;
+    fed.consumed = shape.width = shape.bytes = size.width = color.red = 7;
     make_silent_calls();
     CHECK(icysixel_is_empty(h) == 1);
     const uint32_t codes[] = {
@@ -86,15 +90,12 @@ static void test_empty_handle(void)
         icysixel_copy_rows(h, 0, 1, &layout, buffer, 4),
         DECODE(red), icysixel_decode_payload(h, BYTES("~"), 9, 1, &shape),
         icysixel_copy_pixels(h, 0, 1, &layout, buffer, 4), icysixel_take_pixels(h, 0, &block),
-        icysixel_take_text(h, &block),
         icysixel_get_register(h, 1, &color), icysixel_get_registers(h, 1, &color, 1),
         icysixel_get_clip(h, &size),
-        icysixel_encode_image(h, BYTES("rgba"), &one, &length),
     };
     EACH(code, codes) CHECK(*code == ICYSIXEL_NO_HANDLE);
     CHECK(fed.consumed == 7 && shape.width == 7 && shape.bytes == 7 && size.width == 7);
-    CHECK(block.length == 7 && color.red == 7 && length == 7 && memcmp(buffer, "\7\7\7\7", 4) == 0);
-    CHECK(icysixel_copy_text(h, NULL, 0, &length) == ICYSIXEL_NO_HANDLE && length == 0);
+    CHECK(block.length == 7 && color.red == 7 && memcmp(buffer, "\7\7\7\7", 4) == 0);
     CHECK((icysixel_is_receiving(h) | icysixel_in_payload(h) | icysixel_get_canvas_paints(h)
            | icysixel_get_drawn_height(h) | icysixel_get_rows_so_far(h) | icysixel_get_height(h)
            | icysixel_get_lenient(h) | icysixel_get_transparent(h) | icysixel_get_limit(h)) == 0);
@@ -422,16 +423,14 @@ static void test_take_no_pixels(void)
     icysixel_set_height(h, ICYSIXEL_HEIGHT_BANDS);
 }
 
-/* A new decoder replaces one in any state: with an open image, an image, a text. */
+/* A new decoder replaces one in any state: with an open image, and an image. */
 static void test_new_on_full_handle(void)
 {
     for (line_number = 0; line_number < 3; line_number++) {
         CHECK(icysixel_new(h) == OK && icysixel_is_empty(h) == 0 && red_of_1() == 51);
         CHECK(icysixel_is_receiving(h) == 0);
-        RETURNS(NO_TEXT, icysixel_copy_text(h, NULL, 0, &wanted));
         CHECK(!HAS_IMAGE && icysixel_get_limit(h) == 67108864 && icysixel_get_height(h) == 0);
         CHECK(DECODE(red) == OK && red_of_1() == 255);
-        RETURNS(OK, icysixel_encode_image(h, BYTES("rgb\377"), &one, &length));
         icysixel_set_limit(h, 99), icysixel_set_height(h, 1);
         icysixel_begin_payload(h, 9, 1);
         if (line_number > 0) RETURNS(OK, FEED("!7~"));
@@ -573,40 +572,32 @@ static void test_settings(void)
     CHECK(size.width == 1000000 && size.height == 1000000);
 }
 
-/* Whether a call with this code has stored a text of these two parts. The text is released. */
+/* Whether a call with this code has transferred a text of these two parts. */
 static bool has_text(uint32_t code, const char *start, const char *end)
 {
-    if (code != ICYSIXEL_OK) return false;
-    struct bytes text = text_of(h, length);
     size_t at = strlen(start);
-    bool has_parts = length == at + strlen(end) && memcmp(text.at, start, at) == 0
-        && memcmp(text.at + at, end, length - at) == 0;
-    free(text.at);
-    return has_parts;
+    return code == ICYSIXEL_OK && text.length == at + strlen(end)
+        && memcmp(text.data, start, at) == 0 && memcmp(text.data + at, end, text.length - at) == 0;
 }
 
-/* Pixels that do not fit are rejected. Rows may be apart. A text is copied once, where it fits. */
+/* Pixels that do not fit are rejected, and write nothing. Rows may be apart. The library's own
+ * block of a text belongs to the caller. */
 static void test_encode(void)
 {
     static const uint8_t rgba[] = {255, 0, 0, 255, 7, 7, 7, 7, 7, 0, 0, 255, 255};
     static const char expected[] = "\033P9;1;0q\"1;1;1;2#0;2;0;0;100#1;2;100;0;0#0A$#1@$-\033\\";
     icysixel_encoding e = {
         .width = 1, .height = 2, .stride = 3, .palette = ICYSIXEL_PALETTE_FARTHEST};
-    uint8_t text[64];
-    CHECK(icysixel_copy_text(h, NULL, 0, &wanted) == ICYSIXEL_NO_TEXT && wanted == 0);
-    length = 7;
-    RETURNS(BAD_STRIDE, ENCODE(rgba));
+    text = (icysixel_bytes){&(uint8_t){7}, 7, 7};
+    RETURNS(BAD_STRIDE, icysixel_encode(SIZED(rgba), &e, &text));
     e.stride = 10;
-    RETURNS(BUFFER_MISMATCH, ENCODE(rgba));
-    CHECK(length == 7);
+    RETURNS(BUFFER_MISMATCH, icysixel_encode(SIZED(rgba), &e, &text));
+    CHECK(*text.data == 7 && text.length == 7 && text.capacity == 7);
     e.stride = 9;
-    RETURNS(OK, ENCODE(rgba));
-    RETURNS(BUFFER_TOO_SMALL, icysixel_copy_text(h, text, length - 1, &wanted));
-    CHECK(wanted == length && has_text(OK, expected, ""));
-    CHECK(icysixel_copy_text(h, text, sizeof text, &wanted) == ICYSIXEL_NO_TEXT && wanted == 0);
-    RETURNS(OK, icysixel_encode_image(h, rgba, 4, &one, &length));
-    icysixel_discard_image(h);
-    RETURNS(NO_TEXT, icysixel_copy_text(h, text, sizeof text, &wanted));
+    RETURNS(OK, icysixel_encode(SIZED(rgba), &e, &text));
+    CHECK(has_text(OK, expected, "") && text.capacity >= text.length);
+    icysixel_free_bytes(&text);
+    CHECK(text.data == NULL && text.length == 0 && text.capacity == 0);
 }
 
 /* The shape of a pixel and the background are those of P1, P2 and the raster attributes. */
@@ -618,29 +609,11 @@ static void test_shapes(void)
         {5, 0, "\033P2;1;0q\"5;1;1;1"}, {4, 0, "\033P9;1;0q\"1;1;1;1"},
     };
     EACH(it, shapes) {
-        icysixel_encoding e = one;
-        e.pixel_height = it->height, e.background = it->background;
-        uint32_t code = icysixel_encode_image(h, (const uint8_t *)RED, 4, &e, &length);
+        icysixel_encoding e = {.width = 1, .height = 1, .pixel_height = it->height};
+        e.background = it->background;
+        uint32_t code = encode((const uint8_t *)RED, 4, &e);
         CHECK(has_text(code, it->start, "#0;2;100;0;0#0@$-\033\\"));
     }
-}
-
-/* The library's own block of a text belongs to the caller, and outlives the handle. */
-static void test_take_text(void)
-{
-    icysixel_bytes text = {&(uint8_t){7}, 7, 7};
-    RETURNS(NO_TEXT, icysixel_take_text(h, &text));
-    CHECK(text.length == 7 && text.capacity == 7);
-    CHECK(DECODE(red) == OK);
-    RETURNS(OK, icysixel_encode_image(h, (const uint8_t *)RED, 4, &one, &length));
-    RETURNS(OK, icysixel_take_text(h, &text));
-    CHECK(text.length == length && text.capacity >= length && HAS_IMAGE);
-    RETURNS(NO_TEXT, icysixel_copy_text(h, NULL, 0, &wanted));
-    icysixel_free(h);
-    CHECK(memcmp(text.data, "\033P9;1;0q\"1;1;1;1#0;2;100;0;0#0@$-\033\\", 35) == 0);
-    icysixel_free_bytes(&text);
-    CHECK(text.data == NULL && text.length == 0 && text.capacity == 0);
-    RETURNS(OK, icysixel_new(h));
 }
 
 /* Black, 10 of 255 red and white, and the text of a row of them in black and white. */
@@ -673,11 +646,9 @@ static void test_encodings(void)
     CHECK(has_text(ENCODE(others), BLACK_WHITE, "#0?@?$#1@?@$-\033\\"));
     e.format = CLEAR, e.transparent = 2;
     CHECK(has_text(ENCODE(above), BLACK_WHITE, "#0@??$#1??@$-\033\\"));
-    RETURNS(OK, ENCODE(above));
-    length = 7;
     e.transparent = 1;
     RETURNS(INDEX_RANGE, ENCODE(above));
-    RETURNS(NO_TEXT, icysixel_copy_text(h, NULL, 0, &wanted));
+    CHECK(text.data == NULL && text.length == 0);
     e.format = OPAQUE;
     RETURNS(INDEX_RANGE, ENCODE(above));
     static const struct {
@@ -703,8 +674,7 @@ static void test_encodings(void)
     };
     EACH(it, wrong) {
         e = (icysixel_encoding){.width = it->width, .height = it->height, .stride = it->stride};
-        length = 7;
-        CHECK(ENCODE(row) == it->code && length == 7);
+        CHECK(ENCODE(row) == it->code && text.data == NULL);
     }
 }
 
@@ -757,14 +727,11 @@ static void test_formats(void)
                 struct bytes picture = picture_in(format, gap, has_holes);
                 e.format = format, e.palette = palette;
                 e.stride = gap > 0 ? (picture.length + gap) / ROWS : 0;
-                RETURNS(OK, icysixel_encode_image(h, picture.at, picture.length, &e, &length));
-                struct bytes text = text_of(h, length);
-                if (expected.at == NULL) expected = text;
-                CHECK(length == expected.length && memcmp(text.at, expected.at, length) == 0);
-                if (text.at != expected.at) free(text.at);
-                picture.length--;
-                RETURNS(BUFFER_MISMATCH,
-                        icysixel_encode_image(h, picture.at, picture.length, &e, &length));
+                RETURNS(OK, encode(picture.at, picture.length, &e));
+                if (expected.at == NULL) append(&expected, text.data, text.length);
+                CHECK(text.length == expected.length
+                      && memcmp(text.data, expected.at, text.length) == 0);
+                RETURNS(BUFFER_MISMATCH, encode(picture.at, picture.length - 1, &e));
                 free(picture.at);
             }
         }
@@ -903,7 +870,8 @@ static void test_code_texts(void)
         uint32_t code = (uint32_t)line_number;
         size_t length = icysixel_strerror(code, buffer, sizeof buffer);
         CHECK(length > 0 && length < sizeof buffer && strlen(buffer) == length);
-        CHECK((strcmp(buffer, "unknown code") == 0) == (code > ICYSIXEL_ROWS_RELEASED));
+        bool is_code = code <= ICYSIXEL_ROWS_RELEASED && code != 5;
+        CHECK((strcmp(buffer, "unknown code") == 0) == !is_code);
         CHECK(icysixel_strerror(code, buffer, length) == length && buffer[0] == 0);
         CHECK(icysixel_strerror(code, buffer, length + 1) == length && strlen(buffer) == length);
     }
@@ -925,11 +893,12 @@ int main(void)
         TEST(lenient), TEST(transparent), TEST(cropped_rows), TEST(pixels), TEST(errors),
         TEST(drawn_height), TEST(raster_size), TEST(take_pixels), TEST(new_on_full_handle),
         TEST(take_no_pixels),
-        TEST(registers), TEST(settings), TEST(encode), TEST(shapes), TEST(take_text),
+        TEST(registers), TEST(settings), TEST(encode), TEST(shapes),
         TEST(encodings), TEST(formats), TEST(widest), TEST(palettes), TEST(indices),
         TEST(tolerance), TEST(code_texts), TEST(version),
     };
     for (size_t i = 0; i < COUNT_OF(tests); i++) subject = tests[i].name, tests[i].test();
+    icysixel_free_bytes(&text);
     icysixel_free(h);
     test_empty_handle();
     return 0;

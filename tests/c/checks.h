@@ -50,12 +50,11 @@ static inline icysixel new_handle(void)
     return handle;
 }
 
-/* The stored text, which has this length. */
-static inline struct bytes text_of(icysixel *handle, size_t length)
+/* The text of these pixels. */
+static inline icysixel_bytes text_of(struct bytes pixels, const icysixel_encoding *encoding)
 {
-    struct bytes text = {malloc(length), length};
-    size_t wanted = 0;
-    CHECK(icysixel_copy_text(handle, text.at, length, &wanted) == ICYSIXEL_OK && wanted == length);
+    icysixel_bytes text = {0};
+    CHECK(icysixel_encode(pixels.at, pixels.length, encoding, &text) == ICYSIXEL_OK);
     return text;
 }
 

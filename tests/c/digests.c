@@ -78,19 +78,18 @@ static void decode(struct bytes text, size_t image, const int settings[5])
 /* Encodes an image by these settings, and decodes the text by many. */
 static void encode(const uint8_t *pixels, size_t image, const int settings[5])
 {
-    icysixel handle = new_handle();
     icysixel_encoding encoding = {.width = WIDTH, .height = HEIGHT};
-    size_t length = 0;
+    icysixel_bytes text = {0};
     encoding.palette = (uint8_t)settings[0], encoding.max_colors = (uint16_t)settings[1];
     encoding.form = (uint8_t)settings[2], encoding.dithering.kind = (uint8_t)settings[3];
     encoding.tolerance = settings[4] ? ICYSIXEL_AUTO : 0;
-    CHECK(icysixel_encode_image(&handle, pixels, 4 * PIXELS, &encoding, &length) == ICYSIXEL_OK);
-    struct bytes text = text_of(&handle, length);
-    add(text.at, text.length);
+    CHECK(icysixel_encode(pixels, 4 * PIXELS, &encoding, &text) == ICYSIXEL_OK);
+    add(text.data, text.length);
     write_line("encode", image, settings);
     for (int i = 0; settings[2] == ICYSIXEL_FORM_PLAIN && settings[3] == 0 && i < 72; i++)
-        decode(text, image, (int[5]){i % 3, i / 3 % 3, i / 9 % 2, i / 18 % 2, i / 36});
-    free(text.at), icysixel_free(&handle);
+        decode((struct bytes){text.data, text.length}, image,
+               (int[5]){i % 3, i / 3 % 3, i / 9 % 2, i / 18 % 2, i / 36});
+    icysixel_free_bytes(&text);
 }
 
 /* Chooses both palettes with their certificates. */

@@ -82,10 +82,9 @@ static size_t peak_of(int way, struct bytes pixels, icysixel_size size, struct b
         icysixel_encoding encoding = {.width = size.width, .height = size.height};
         encoding.max_colors = way == ENCODE_16 ? 16 : 256;
         encoding.palette = ICYSIXEL_PALETTE_FARTHEST;
-        CHECK(icysixel_encode_image(&h, pixels.at, pixels.length, &encoding, &text->length)
-              == ICYSIXEL_OK);
-        free(text->at);
-        *text = text_of(&h, text->length);
+        icysixel_bytes made = text_of(pixels, &encoding);
+        free(text->at), *text = (struct bytes){0};
+        append(text, made.data, made.length), icysixel_free_bytes(&made);
     }
     CHECK(shape.width == size.width && shape.height == size.height);
     icysixel_free(&h);

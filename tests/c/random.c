@@ -185,7 +185,6 @@ static void try_pixels(icysixel *h)
     icysixel_color entries[256], witnesses[257];
     icysixel_palette palette = {0};
     icysixel_shape shape = {0};
-    size_t length;
     for (uint32_t left = width * height; left > 0; left--) {
         uint8_t rgba[4];
         for (int i = 0; i < 4; i++) rgba[i] = (uint8_t)(below(levels) * 255 / (levels - 1));
@@ -200,12 +199,11 @@ static void try_pixels(icysixel *h)
     encoding.max_colors = colors > 0 ? colors : 1;
     encoding.palette = ICYSIXEL_PALETTE_FARTHEST;
     encoding.pixel_height = (uint8_t)below(6), encoding.background = (uint8_t)below(2);
-    CHECK(icysixel_encode_image(h, pixels.at, pixels.length, &encoding, &length) == ICYSIXEL_OK);
-    struct bytes text = text_of(h, length);
-    add(text.at, text.length);
-    CHECK(icysixel_decode(h, text.at, text.length, &shape) == ICYSIXEL_OK);
+    icysixel_bytes text = text_of(pixels, &encoding);
+    add(text.data, text.length);
+    CHECK(icysixel_decode(h, text.data, text.length, &shape) == ICYSIXEL_OK);
     struct outcome outcome = add_outcome(h, ICYSIXEL_OK, shape);
-    free(pixels.at), free(indices.at), free(text.at), free(outcome.pixels);
+    free(pixels.at), free(indices.at), icysixel_free_bytes(&text), free(outcome.pixels);
 }
 
 /* Makes a case. The handle may have been used for another one. */

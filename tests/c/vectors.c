@@ -138,25 +138,21 @@ static void try_sessions(const struct vector *vector, const struct registers *af
 /* Encodes pixels, and checks the output or the error. */
 static void encode(const struct vector *vector)
 {
-    icysixel encoder = new_handle();
     icysixel_shape shape = vector->shape;
     struct bytes pixels = vector->pixels;
-    size_t length = 0;
+    icysixel_bytes text = {0};
     icysixel_encoding encoding = {.width = shape.width, .height = shape.height};
     encoding.max_colors = (uint16_t)(vector->colors > 0 ? vector->colors : 1);
     encoding.palette = ICYSIXEL_PALETTE_FARTHEST;
     encoding.pixel_height = (uint8_t)shape.pixel_height, encoding.background = !shape.p2;
-    uint32_t code = icysixel_encode_image(&encoder, pixels.at, pixels.length, &encoding, &length);
+    uint32_t code = icysixel_encode(pixels.at, pixels.length, &encoding, &text);
     /* Bytes after the last row are no error in C. */
     bool is_longer = code == ICYSIXEL_OK && vector->error.length > 0;
     CHECK(code_of(vector) == (is_longer ? ICYSIXEL_BUFFER_MISMATCH : code));
     CHECK(!is_longer || pixels.length > 4 * shape.width * shape.height);
-    if (vector->error.length == 0) {
-        struct bytes text = text_of(&encoder, length);
-        CHECK(length == vector->data.length && memcmp(text.at, vector->data.at, length) == 0);
-        free(text.at);
-    }
-    icysixel_free(&encoder);
+    CHECK(vector->error.length > 0 || (text.length == vector->data.length
+          && memcmp(text.data, vector->data.at, text.length) == 0));
+    icysixel_free_bytes(&text);
 }
 
 int main(int argc, char **argv)

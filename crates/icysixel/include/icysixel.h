@@ -13,10 +13,10 @@
  * address between calls.
  *
  * Ownership. icysixel_free frees all memory behind a handle. The library stores no pointer that the
- * caller passes. It copies input, and it copies pixels and text to the caller's buffers. Only
- * icysixel_take_pixels and icysixel_take_text transfer a block of memory to the caller. A pointer
- * to bytes may be null if their number is 0. Other pointers must not be null. The arguments of a
- * call must not overlap.
+ * caller passes. It copies input, and it copies pixels to the caller's buffers. Only
+ * icysixel_take_pixels and icysixel_encode transfer a block of memory to the caller. A pointer to
+ * bytes may be null if their number is 0. Other pointers must not be null. The arguments of a call
+ * must not overlap.
  *
  * Threads. Different handles can be used by different threads at the same time, because the library
  * has no global state. Calls on one handle must not overlap in time. No function is safe in a
@@ -42,12 +42,11 @@
  *
  * Results. A function that returns uint32_t returns an enum icysixel_code, except for
  * icysixel_version. With ICYSIXEL_OK it has written to each output argument. With an error it
- * leaves them unchanged, except for `wanted` and the result of a feed.
+ * leaves them unchanged, except for the result of a feed.
  *
- * Stored image and text. An image is stored by icysixel_finish, icysixel_decode and
- * icysixel_decode_payload. Each error of these calls drops an image that was stored before, and
- * each error of icysixel_encode_image drops a text. icysixel_new drops both. No error of another
- * call drops either.
+ * Stored image. An image is stored by icysixel_finish, icysixel_decode and icysixel_decode_payload.
+ * Each error of these calls drops an image that was stored before, and so does icysixel_new. No
+ * error of another call drops it.
  */
 #ifndef ICYSIXEL_H
 #define ICYSIXEL_H
@@ -176,9 +175,8 @@ enum icysixel_code {
     ICYSIXEL_NO_SESSION = 2, /* no image is open: begin one */
     ICYSIXEL_NO_SIZE = 3,    /* the payload has not begun, or an earlier feed failed */
     ICYSIXEL_NO_IMAGE = 4,   /* no image is stored */
-    ICYSIXEL_NO_TEXT = 5,    /* no text is stored */
     /* about the caller's buffers */
-    ICYSIXEL_BUFFER_TOO_SMALL = 6, /* the buffer is smaller than `wanted` or the documented size */
+    ICYSIXEL_BUFFER_TOO_SMALL = 6, /* the buffer is smaller than the documented size */
     ICYSIXEL_BAD_STRIDE = 7,       /* it is shorter than a row */
     /* about memory and sizes */
     ICYSIXEL_OUT_OF_MEMORY = 8,
@@ -412,7 +410,7 @@ uint32_t icysixel_take_pixels(icysixel *handle, uint8_t order, icysixel_bytes *p
  * may have written to its data, but not to `length` or `capacity`. */
 void icysixel_free_bytes(icysixel_bytes *bytes);
 
-/* Frees the stored image, and a stored text too. */
+/* Frees the stored image. */
 void icysixel_discard_image(icysixel *handle);
 
 /* -- Registers and settings -- */
@@ -492,9 +490,9 @@ void icysixel_set_clip(icysixel *handle, size_t width, size_t height);
 
 /* -- Encoding -- */
 
-/* Encodes pixels as a DCS sequence, stores this text and writes its length. It replaces a text that
- * is stored. `length` is the number of bytes at `pixels`. They may continue after the last row.
- * Pixels of other formats than RGBA, and rows with gaps, are copied first.
+/* Encodes pixels as a DCS sequence and transfers this text to the caller. The text has no zero at
+ * its end. The call needs no handle. `length` is the number of bytes at `pixels`. They may continue
+ * after the last row. Pixels of other formats than RGBA, and rows with gaps, are copied first.
  *
  * - A refined palette has at most max_colors entries. A decoder shows them without rounding.
  * - A farthest palette has at most max_colors entries, where 1 is taken as 2 and a number above 256
@@ -520,19 +518,10 @@ void icysixel_set_clip(icysixel *handle, size_t width, size_t height);
  * - ICYSIXEL_INDEX_RANGE if the index of an opaque pixel is not below color_count;
  * - ICYSIXEL_OUT_OF_MEMORY, which can come before the last two if pixels are copied.
  *
- * After an error no text is stored. */
-uint32_t icysixel_encode_image(icysixel *handle, const uint8_t *pixels, size_t length,
-                               const icysixel_encoding *encoding, size_t *text_length);
-
-/* Copies the stored text to `buf` and releases it. The text has no zero at its end. `wanted` is the
- * length of the text, also with ICYSIXEL_BUFFER_TOO_SMALL. With another error it is 0. After an
- * error the text is still stored. It does not allocate. */
-uint32_t icysixel_copy_text(icysixel *handle, uint8_t *buf, size_t size, size_t *wanted);
-
-/* Transfers the stored text to the caller without a copy, as icysixel_take_pixels does with pixels.
- * icysixel_free_bytes frees the block. The text has no zero at its end. The error is
- * ICYSIXEL_NO_TEXT. The call does not allocate, and does not free an earlier block in `text`. */
-uint32_t icysixel_take_text(icysixel *handle, icysixel_bytes *text);
+ * The call does not free an earlier block in `text`. icysixel_free_bytes frees the block, and so
+ * does free(text->data) with the default memory functions. */
+uint32_t icysixel_encode(const uint8_t *pixels, size_t length, const icysixel_encoding *encoding,
+                         icysixel_bytes *text);
 
 /* -- Palettes -- */
 

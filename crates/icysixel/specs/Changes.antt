@@ -2,8 +2,11 @@
 use Rattle.std.specs.Prelude.{◌≡◌, Option, Some, is_some}
 use Rattle.sixel_base.specs.declared.state.DecoderState.{DecoderState}
 use Rattle.icy_sixel.specs.Receiver.{Receiver, Reception}
-use Rattle.icysixel.specs.Kept.{AreKept}
 use Rattle.icysixel.specs.declared.state.State.{State}
+
+-- neither the stored image changes, nor where images end
+abbrev pub AreKept : State → State → Type 0
+AreKept before after = (after.image ≡ before.image) × (after.height ≡ before.height)
 
 -- what it does to a state
 abbrev pub Acts : (State → State → Type 0) → Option State → Option State → Type 0

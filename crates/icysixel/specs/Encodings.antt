@@ -1,7 +1,6 @@
--- How C says that an image is encoded, and what the call does that encodes one and stores its text.
--- The numbers are this library's own, and include/icysixel.h names them.
+-- How C says that an image is encoded, and what the call does that encodes one. The numbers are this library's own, and include/icysixel.h names them.
 use Rattle.std.specs.Prelude.{◌≡◌, ◌≢◌, ◌*◌, ◌<◌, ◌≤◌, ◌==◌, ◌||◌, not, if◌then◌else◌, ℕ, nat_lt}
-use Rattle.std.specs.Prelude.{List, [], length, take, Bool, Option, Some, None, is_some, IsTrue}
+use Rattle.std.specs.Prelude.{List, [], length, take, Bool, Option, Some, None, IsTrue}
 use Rattle.std.specs.Prelude.{◌⊎◌, Result, Err, IfOk, IfErr, IsErrAnd, MatchResult, String}
 use Rattle.std.specs.Prelude.{string_bytes}
 use Rattle.std.specs.Option.{option_or}
@@ -29,6 +28,7 @@ use Rattle.sixel_palette.specs.declared.mapping.Tolerance.TheVariants.{Auto, Squ
 use Rattle.icysixel.specs.Code.{IsCallCode, IsCodeOf}
 use Rattle.icysixel.specs.Formats.{is_rgba, pixel_len, rgba_pixels}
 use Rattle.icysixel.specs.Rows.{has_gaps, rows_of, stride_of, wanted}
+use Rattle.icysixel.specs.declared.bytes.Bytes.{Bytes}
 use Rattle.icysixel.specs.declared.encoding.Dithering.{Dithering}
 use Rattle.icysixel.specs.declared.encoding.Encoding.{Encoding}
 use Rattle.icysixel.specs.declared.encoding.PaletteMode.{PaletteMode}
@@ -36,7 +36,6 @@ use Rattle.icysixel.specs.declared.encoding.PaletteMode.TheVariants.{Refined, Fa
 use Rattle.icysixel.specs.declared.encoding.PaletteMode.TheVariants.{Indexed}
 use Rattle.icysixel.specs.declared.format.Format.{Format}
 use Rattle.icysixel.specs.declared.format.Format.TheVariants as format
-use Rattle.icysixel.specs.declared.state.State.{State}
 
 -- ---- numbers
 
@@ -191,24 +190,11 @@ pub record IsEncoded (encoding : Encoding) (pixels : List ℕ)
   pub text : IfOk result (λ text.
       IsRowsText encoding (dense_rows encoding pixels) (string_bytes text))
 
--- A text is stored with code 0, and its length written. An error is returned and stores none.
-abbrev pub IsTextStored : Result (String Global) ℕ → Option (String Global) → ℕ → ℕ → ℕ → Type 0
-IsTextStored result stored code old_length new_length =
-    MatchResult result
-    (λ text. (code ≡ 0) × (stored ≡ Some text) × (new_length ≡ length (string_bytes text)))
-    (λ error. (code ≡ error) × (stored ≡ None) × (new_length ≡ old_length))
-
--- A call encodes these pixels, stores their text and writes the text's length.
-pub record HasEncoded (old new : State) (encoding : Encoding) (pixels : List ℕ)
-    (code old_length new_length : ℕ) : Type 0 where
+-- A call encodes these pixels and transfers their text, or changes nothing and returns a code.
+pub record IsEncodeCall (encoding : Encoding) (pixels : List ℕ) (old new : Bytes) (code : ℕ)
+    : Type 0 where
   pub result : Result (String Global) ℕ
   pub encoded : IsEncoded encoding pixels result
-  pub stored : IsTextStored result new.text code old_length new_length
-  pub rest : new ≡ record old { text = new.text }
-
-pub record IsEncodeCall (before after : Option State) (encoding : Encoding) (pixels : List ℕ)
-    (code old_length new_length : ℕ) : Type 0 where
-  pub handle : is_some after ≡ is_some before
-  pub no_handle : before ≡ None → (code ≡ 1) × (new_length ≡ old_length)
-  pub encoded : (old new : State) → before ≡ Some old → after ≡ Some new
-      → HasEncoded old new encoding pixels code old_length new_length
+  pub transferred : MatchResult result
+      (λ text. (code ≡ 0) × (new.items ≡ string_bytes text))
+      (λ error. (code ≡ error) × (new ≡ old))

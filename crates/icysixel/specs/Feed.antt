@@ -9,8 +9,8 @@ use Rattle.icy_sixel.specs.ReceiverCalls.{received}
 use Rattle.icy_sixel.specs.ReceiverCalls as receivers
 use Rattle.icy_sixel.specs.declared.receiver.FailedFeed.{FailedFeed}
 use Rattle.sixel_decoder.specs.declared.received.Received.{Received}
+use Rattle.icysixel.specs.Changes.{AreKept}
 use Rattle.icysixel.specs.Code.{IsCodeOf, status_code, status_byte}
-use Rattle.icysixel.specs.Kept.{AreKept}
 use Rattle.icysixel.specs.declared.state.State.{State}
 use Rattle.icysixel.specs.declared.sessions.Fed.{Fed}
 

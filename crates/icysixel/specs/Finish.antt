@@ -34,7 +34,6 @@ pub record IsFinished (before after : State) (now : Shape) (code : ℕ) : Type 0
       → after.receiver.decoder ≡ before.receiver.decoder
   pub settings : AreSettingsKept before.receiver after.receiver
   pub closed : after.receiver.image ≡ no_image
-  pub text : after.text ≡ before.text
   pub height : after.height ≡ before.height
   pub opened : is_open before.receiver.image.form ≡ true → IsClosed before after now code
 
@@ -43,6 +42,5 @@ pub record IsDecoded (before after : State) (payload : Found) (now : Shape) (cod
     : Type 0 where
   pub result : Result ReceivedImage SixelError
   pub decoded : receivers.IsDecoded before.receiver after.receiver payload result
-  pub text : after.text ≡ before.text
   pub height : after.height ≡ before.height
   pub stored : IsStored before.height true result after.image now code

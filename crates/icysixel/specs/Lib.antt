@@ -8,7 +8,6 @@ pub mod RowMemory
 pub mod Finish
 pub mod Formats
 pub mod Heights
-pub mod Kept
 pub mod RefinedOutput
 pub mod Rows
 pub mod Shape

@@ -17,7 +17,7 @@ use Rattle.icy_sixel.specs.declared.receiver.received_image.ReceivedImage.{Recei
 use Rattle.sixel_canvas.specs.Layout.{in_order, pixel_at}
 use Rattle.sixel_canvas.specs.declared.channels.ChannelOrder.{ChannelOrder}
 use Rattle.sixel_canvas.specs.declared.channels.ChannelOrder.TheVariants.{Rgba, Bgra}
-use Rattle.icysixel.specs.Kept.{AreKept}
+use Rattle.icysixel.specs.Changes.{AreKept}
 use Rattle.icysixel.specs.Rows.{stride_of}
 use Rattle.icysixel.specs.declared.buffer_layout.BufferLayout.{BufferLayout}
 use Rattle.icysixel.specs.declared.state.State.{State}

@@ -23,8 +23,6 @@ pub enum Code {
     NoSize = 3,
     /// No image is stored.
     NoImage = 4,
-    /// No text is stored.
-    NoText = 5,
     /// A buffer is too small.
     BufferTooSmall = 6,
     /// The stride is shorter than a row.

@@ -116,8 +116,6 @@ pub extern "C" fn icysixel_take_pixels(
     ensures same { result ≢ 0 → slot.new.handle.state ≡ slot.old.handle.state }
     ensures decoder { (before after : State) → slot.old.handle.state ≡ Some before
         → slot.new.handle.state ≡ Some after → after.receiver ≡ before.receiver }
-    ensures text { (before after : State) → slot.old.handle.state ≡ Some before
-        → slot.new.handle.state ≡ Some after → after.text ≡ before.text }
     ensures height { (before after : State) → slot.old.handle.state ≡ Some before
         → slot.new.handle.state ≡ Some after → after.height ≡ before.height }
 {
@@ -139,7 +137,6 @@ fn transfer(alloc: Global, state: &mut State, order: u8, bytes: &mut Bytes) -> u
     ensures taken { state.new.image ≡ None }
     ensures same { result ≢ 0 → state.new ≡ state.old }
     ensures receiver { state.new.receiver ≡ state.old.receiver }
-    ensures text { state.new.text ≡ state.old.text }
     ensures height { state.new.height ≡ state.old.height }
 {
     let Some(image) = state.image.take() else {
@@ -159,17 +156,14 @@ pub extern "C" fn icysixel_free_bytes(alloc: Global, bytes: &mut Bytes)
     mem::replace(bytes, none).free(&alloc);
 }
 
-/// Frees the stored image and the stored text.
+/// Frees the stored image.
 #[unsafe(no_mangle)]
 pub extern "C" fn icysixel_discard_image(slot: &mut Slot)
     ensures { Acts (λ old new.
-        (new.image ≡ None) × ((new.text ≡ None)
-        × ((new.receiver ≡ old.receiver) × (new.height ≡ old.height))))
+        (new.image ≡ None) × ((new.receiver ≡ old.receiver) × (new.height ≡ old.height)))
         slot.old.handle.state slot.new.handle.state }
 {
     if slot.is_held() {
-        let state = slot.state();
-        state.image = None;
-        state.text = None;
+        slot.state().image = None;
     }
 }

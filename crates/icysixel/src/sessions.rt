@@ -51,8 +51,6 @@ pub extern "C" fn icysixel_new(alloc: Global, slot: &mut Slot) -> u32
         → state.receiver ≡ idle new_decoder }
     ensures no_image { (state : State) → slot.new.handle.state ≡ Some state
         → state.image ≡ None }
-    ensures no_text { (state : State) → slot.new.handle.state ≡ Some state
-        → state.text ≡ None }
     ensures height { (state : State) → slot.new.handle.state ≡ Some state
         → state.height ≡ Bands }
     ensures refused { result ≢ 0 → slot.new.handle.state ≡ None }

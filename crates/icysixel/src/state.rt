@@ -1,10 +1,9 @@
-//! The state behind a handle: a receiver, the stored image and the stored text.
+//! The state behind a handle: a receiver and the stored image.
 
 ghost use Rattle.std.specs.Prelude.{◌≡◌, ◌≢◌, None};
 ghost use Rattle.sixel_base.specs.Decoder.{new_decoder};
 ghost use Rattle.icy_sixel.specs.Receiver.{idle};
 ghost use Rattle.icy_sixel.specs.declared.receiver.received_image.Height.TheVariants.{Bands};
-ghost use Rattle.icysixel.specs.Encodings.{IsTextStored};
 ghost use Rattle.icysixel.specs.Heights.{IsStored};
 
 use crate::code::{Code, code_of};
@@ -12,14 +11,13 @@ use crate::shape::Shape;
 use icy_sixel::receiver::SixelReceiver;
 use icy_sixel::{Height, ReceivedImage, SixelError};
 
-/// A receiver, and the last image and the last text until the caller takes them.
+/// A receiver, and the last image until the caller takes it.
 #[derive(Drop)]
 pub struct State {
     pub receiver: SixelReceiver,
     /// Where images end that are finished or decoded.
     pub height: Height,
     pub image: Option<ReceivedImage>,
-    pub text: Option<String>,
 }
 
 impl State {
@@ -28,13 +26,11 @@ impl State {
         ensures receiver { result.receiver ≡ idle new_decoder }
         ensures height { result.height ≡ Bands }
         ensures image { result.image ≡ None }
-        ensures text { result.text ≡ None }
     {
         State {
             receiver: SixelReceiver::new(),
             height: Height::Bands,
             image: None,
-            text: None,
         }
     }
 
@@ -64,35 +60,6 @@ impl State {
                 self.image = None;
                 code_of(&error)
             }
-        }
-    }
-
-    /// Stores an encoded text and writes its length, or returns the error.
-    pub fn store_encoded(&mut self, encoded: Result<String, u32>, bytes: &mut usize) -> u32
-        ensures stored { IsTextStored encoded self.new.text result bytes.old bytes.new }
-        ensures rest { self.new ≡ record self.old { text = self.new.text } }
-    {
-        match encoded {
-            Ok(text) => {
-                *bytes = text.len();
-                self.text = Some(text);
-                Code::Success as u32
-            }
-            Err(code) => {
-                self.text = None;
-                code
-            }
-        }
-    }
-
-    /// Discards the stored text if this code is success.
-    pub fn leave_text(&mut self, code: u32)
-        ensures done { code ≡ 0 → self.new.text ≡ None }
-        ensures same { code ≢ 0 → self.new ≡ self.old }
-        ensures rest { self.new ≡ record self.old { text = self.new.text } }
-    {
-        if code == Code::Success as u32 {
-            self.text = None;
         }
     }
 }

@@ -1,4 +1,4 @@
-//! The SIXEL output of pixels in the caller's memory.
+//! The call that encodes pixels in the caller's memory.
 
 ghost use Rattle.std.specs.Prelude.{◌≡◌, ◌≢◌, ◌*◌, ◌<◌, ◌≤◌, ℕ, Some, None, not, length};
 ghost use Rattle.std.specs.Prelude.{Ok, OnOk, IfOk, IfErr, IsErrAnd, false, string_bytes};
@@ -10,12 +10,14 @@ ghost use Rattle.sixel_encoder.specs.IndexedDrawing.{index_count_fault};
 ghost use Rattle.icysixel.specs.Code.{IsCodeOf};
 ghost use Rattle.icysixel.specs.Encodings.{IsRowsText, IsTextIn, bytes_of, colors_fault, copies};
 ghost use Rattle.icysixel.specs.Encodings.{dense_rows, format_of, image_of, mode_of, row_len};
-ghost use Rattle.icysixel.specs.Encodings.{FailsByCode, IsEncoded, row_stride, rows_fault};
+ghost use Rattle.icysixel.specs.Encodings.{FailsByCode, IsEncodeCall, IsEncoded, row_stride};
+ghost use Rattle.icysixel.specs.Encodings.{rows_fault};
 ghost use Rattle.icysixel.specs.Formats.{is_rgba, rgba_pixels};
 ghost use Rattle.icysixel.specs.Rows.{extent};
 ghost use Rattle.icysixel.specs.declared.encoding.PaletteMode.TheVariants.{Indexed};
 ghost use Rattle.icysixel.specs.inside.Encoded.{rows_layout};
 
+use crate::bytes::Bytes;
 use crate::code::{Code, code_of};
 use crate::encoding::{Encoding, PaletteMode};
 use crate::rows::{Layout, stride_of};
@@ -24,6 +26,27 @@ use sixel_encoder::{
     Source, encode_in_palette, encode_refined, encode_source, encode_with_indices,
 };
 use std::alloc::Global;
+
+/// Encodes pixels and transfers the block of the text to the caller.
+#[tactic(auto, using(std::proofs::lemmas::Bool::Decides::nat_tests))]
+#[unsafe(no_mangle)]
+pub extern "C" fn icysixel_encode(
+    alloc: Global,
+    pixels: &[u8],
+    encoding: &Encoding,
+    text: &mut Bytes,
+) -> u32
+    ensures encoded { IsEncodeCall encoding.now pixels.now text.old text.new result }
+    ensures capacity { text.new.len ≤ text.new.capacity }
+{
+    match encoding.text_of(alloc, pixels) {
+        Ok(encoded) => {
+            *text = Bytes::of(alloc, encoded.into_bytes());
+            Code::Success as u32
+        }
+        Err(code) => code,
+    }
+}
 
 impl Encoding {
     /// The SIXEL output of pixels, or the code of the error.
