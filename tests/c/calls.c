@@ -870,7 +870,7 @@ static void test_code_texts(void)
         uint32_t code = (uint32_t)line_number;
         size_t length = icysixel_strerror(code, buffer, sizeof buffer);
         CHECK(length > 0 && length < sizeof buffer && strlen(buffer) == length);
-        bool is_code = code <= ICYSIXEL_ROWS_RELEASED && code != 5;
+        bool is_code = code <= ICYSIXEL_ROWS_RELEASED && code != 5 && code != 18 && code != 19;
         CHECK((strcmp(buffer, "unknown code") == 0) == !is_code);
         CHECK(icysixel_strerror(code, buffer, length) == length && buffer[0] == 0);
         CHECK(icysixel_strerror(code, buffer, length + 1) == length && strlen(buffer) == length);

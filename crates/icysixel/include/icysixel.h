@@ -190,8 +190,6 @@ enum icysixel_code {
     ICYSIXEL_BAD_HEADER = 15,        /* the header has an invalid byte: another DCS sequence */
     ICYSIXEL_MISSING_COMMAND = 16,   /* the data end in the header; from icysixel_decode only */
     ICYSIXEL_INCOMPLETE = 17,        /* the DCS sequence has no terminator yet */
-    ICYSIXEL_STREAM_FAILED = 18,     /* no call returns it */
-    ICYSIXEL_DCS_STREAM_FAILED = 19, /* no call returns it */
     /* about palettes */
     ICYSIXEL_COLOR_COUNT = 20, /* the number of colors is not 1 to 256 */
     ICYSIXEL_INDEX_RANGE = 21, /* the palette index of an opaque pixel is past the palette */

@@ -16,7 +16,7 @@ use Rattle.sixel_base.specs.declared.status.SixelDcsFeedStatus.TheVariants as st
 use Rattle.sixel_decoder.specs.declared.received.Status.{Status}
 use Rattle.sixel_decoder.specs.declared.received.Status.TheVariants.{Payload, Dcs}
 
--- the code of a fault of data
+-- the code of a fault of data; no call of C returns the two of a stream that has failed
 abbrev pub fault_code : Fault → ℕ
 fault_code Overflow = 9
 fault_code NoIntroducer = 12
@@ -25,8 +25,8 @@ fault_code TooLarge = 14
 fault_code BadHeader = 15
 fault_code MissingCommand = 16
 fault_code Incomplete = 17
-fault_code StreamFailed = 18
-fault_code DcsStreamFailed = 19
+fault_code StreamFailed = 2
+fault_code DcsStreamFailed = 2
 
 -- a code that can be returned for a fault: its own, or out of memory if the call may allocate
 abbrev pub IsTold : ℕ → Bool → Option Fault → Type 0

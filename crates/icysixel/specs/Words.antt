@@ -21,8 +21,6 @@ words code =
     else if code == 15 then codes "invalid SIXEL DCS header"
     else if code == 16 then codes "missing SIXEL DCS command"
     else if code == 17 then codes "incomplete SIXEL DCS sequence"
-    else if code == 18 then codes "stream decoder has failed"
-    else if code == 19 then codes "DCS stream decoder has failed"
     else if code == 20 then codes "number of colors is not 1 to 256"
     else if code == 21 then codes "palette index out of range"
     else if code == 22 then codes "rows are not final"

@@ -47,10 +47,6 @@ pub enum Code {
     MissingCommand = 16,
     /// The DCS sequence has not ended.
     Incomplete = 17,
-    /// An earlier feed of the payload failed.
-    StreamFailed = 18,
-    /// An earlier feed of the DCS sequence failed.
-    DcsStreamFailed = 19,
     /// The number of colors is not 1 to 256.
     ColorCount = 20,
     /// A palette index is past the palette.
@@ -126,8 +122,7 @@ fn data_code(text: &str) -> u32
         error::BAD_HEADER => Code::BadHeader as u32,
         error::MISSING_COMMAND => Code::MissingCommand as u32,
         error::INCOMPLETE => Code::Incomplete as u32,
-        error::STREAM_FAILED => Code::StreamFailed as u32,
-        error::DCS_STREAM_FAILED => Code::DcsStreamFailed as u32,
+        error::STREAM_FAILED | error::DCS_STREAM_FAILED => Code::NoSession as u32,
         _ => Code::Malformed as u32,
     }
 }

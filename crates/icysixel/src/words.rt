@@ -60,8 +60,6 @@ fn words(code: u32) -> &'static str
         15 => error::BAD_HEADER,
         16 => error::MISSING_COMMAND,
         17 => error::INCOMPLETE,
-        18 => error::STREAM_FAILED,
-        19 => error::DCS_STREAM_FAILED,
         20 => error::COLOR_COUNT,
         21 => error::INDEX_RANGE,
         22 => error::ROWS_NOT_FINAL,
