@@ -70,7 +70,7 @@ static void make_silent_calls(void)
 {
     icysixel_begin_dcs(h), icysixel_begin_payload(h, 9, 1), icysixel_abort(h);
     icysixel_discard_image(h), icysixel_set_register(h, 1, 2, 3, 4);
-    icysixel_set_registers(h, 1, &color, 1), icysixel_reset_registers(h), icysixel_set_height(h, 1);
+    icysixel_set_registers(h, 1, &color, 1), icysixel_reset_registers(h);
     icysixel_set_lenient(h, 1), icysixel_set_transparent(h, 1), icysixel_set_limit(h, 1);
     icysixel_set_clip(h, 1, 1);
 }
@@ -91,7 +91,7 @@ static void test_empty_handle(void)
         DECODE(red), icysixel_decode_payload(h, BYTES("~"), 9, 1, &shape),
         icysixel_copy_pixels(h, 0, 1, &layout, buffer, 4), icysixel_take_pixels(h, 0, &block),
         icysixel_get_register(h, 1, &color), icysixel_get_registers(h, 1, &color, 1),
-        icysixel_get_clip(h, &size),
+        icysixel_get_clip(h, &size), icysixel_set_height(h, 9),
     };
     EACH(code, codes) CHECK(*code == ICYSIXEL_NO_HANDLE);
     CHECK(fed.consumed == 7 && shape.width == 7 && shape.bytes == 7 && size.width == 7);
@@ -191,7 +191,8 @@ static void test_bands(void)
 static void test_copied_rows(void)
 {
     enum { NOT_FINAL = ICYSIXEL_ROWS_NOT_FINAL };
-    static const icysixel_layout rgba = {12, 2, ICYSIXEL_ORDER_RGBA}, bgra = {12, 2, 9};
+    static const icysixel_layout rgba = {12, 2, ICYSIXEL_ORDER_RGBA};
+    static const icysixel_layout bgra = {12, 2, ICYSIXEL_ORDER_BGRA};
     static const struct { uint32_t code; size_t first, rows, size; icysixel_layout to; } wrong[] = {
         {NOT_FINAL, 1, 6, 72, {12, 2, 0}}, {NOT_FINAL, SIZE_MAX, 1, 72, {12, 2, 0}},
         {STRIDE, 0, 1, 72, {7, 2, 0}}, {STRIDE, 0, 1, 72, {3, 0, 0}},
@@ -467,7 +468,7 @@ static void test_drawn_height(void)
         {"\"1;1;20;12AAAAAAAAAA-@@@@@@@@@@", 0, 99, 12, 7}, {"@", 0, 99, 6, 1},
         {"", 2, 99, 0, 0}, {"?-???", 2, 99, 0, 0}, {"~-B", 2, 99, 8, 8}, {"~-B", 2, 7, 7, 7},
         {"\"1;1;1;3~", 2, 99, 6, 6}, {"\"1;1;1;9~", 2, 99, 9, 6}, {"\"1;1;1;9", 2, 4, 4, 0},
-        {"\"1;1;1;9~-?", 2, 99, 9, 6}, {"~\"1;1;1;3", 3, 99, 6, 6}, {"?-", 1, 99, 6, 0},
+        {"\"1;1;1;9~-?", 2, 99, 9, 6}, {"~\"1;1;1;3", 2, 99, 6, 6}, {"?-", 1, 99, 6, 0},
     };
     EACH(row, images) {
         icysixel_set_height(h, row->end), icysixel_set_clip(h, 999, row->rows);
@@ -548,10 +549,12 @@ static void test_registers(void)
 static void test_settings(void)
 {
     static const size_t limits[][2] = {{71, 71}, {0, 1}, {SIZE_MAX, 67108864}};
-    for (int height = 3; height >= 0; height--) {
-        icysixel_set_height(h, (uint8_t)height);
-        CHECK(icysixel_get_height(h) == (height > 2 ? 2 : height));
+    for (uint8_t height = 0; height <= ICYSIXEL_HEIGHT_DRAWN; height++) {
+        RETURNS(OK, icysixel_set_height(h, height));
+        CHECK(icysixel_get_height(h) == height);
     }
+    RETURNS(BAD_OPTION, icysixel_set_height(h, 3));
+    CHECK(icysixel_get_height(h) == 2 && icysixel_set_height(h, 0) == OK);
     CHECK(icysixel_get_lenient(h) == 0);
     EACH(row, limits) {
         icysixel_set_limit(h, (*row)[0]);
@@ -605,7 +608,7 @@ static void test_shapes(void)
 {
     static const struct { uint8_t height, background; const char *start; } shapes[] = {
         {0, 0, "\033P9;1;0q\"1;1;1;1"}, {1, 1, "\033P9;0;0q\"1;1;1;1"},
-        {2, 0, "\033P0;1;0q\"2;1;1;1"}, {3, 7, "\033P3;0;0q\"3;1;1;1"},
+        {2, 0, "\033P0;1;0q\"2;1;1;1"}, {3, 1, "\033P3;0;0q\"3;1;1;1"},
         {5, 0, "\033P2;1;0q\"5;1;1;1"}, {4, 0, "\033P9;1;0q\"1;1;1;1"},
     };
     EACH(it, shapes) {
@@ -642,7 +645,7 @@ static void test_encodings(void)
         for (e.format = OPAQUE, e.palette = 0; e.palette <= GIVEN; e.palette++)
             CHECK(has_text(ENCODE(nearest), BLACK_WHITE, ends[e.form]));
     }
-    e.form = ICYSIXEL_FORM_PLAIN;
+    e.form = ICYSIXEL_FORM_PLAIN, e.palette = GIVEN;
     CHECK(has_text(ENCODE(others), BLACK_WHITE, "#0?@?$#1@?@$-\033\\"));
     e.format = CLEAR, e.transparent = 2;
     CHECK(has_text(ENCODE(above), BLACK_WHITE, "#0@??$#1??@$-\033\\"));
@@ -659,7 +662,7 @@ static void test_encodings(void)
         {0, REFINED, 257, 0, COLORS}, {0, REFINED, 256, 0, OK}, {0, REFINED, 1, 0, OK},
         {0, FARTHEST, 1, 0, OK}, {0, FARTHEST, 65535, 0, OK}, {0, GIVEN, 0, 0, COLORS},
         {0, GIVEN, 0, 1, OK}, {0, GIVEN, 0, 256, OK}, {0, GIVEN, 0, 257, COLORS},
-        {6, REFINED, 0, 0, OK}, {0, 9, 0, 0, OK}, {OPAQUE, REFINED, 9, 0, COLORS},
+        {OPAQUE, REFINED, 9, 0, COLORS},
         {OPAQUE, REFINED, 9, 257, COLORS},
     };
     EACH(it, counts) {
@@ -676,6 +679,29 @@ static void test_encodings(void)
         e = (icysixel_encoding){.width = it->width, .height = it->height, .stride = it->stride};
         CHECK(ENCODE(row) == it->code && text.data == NULL);
     }
+}
+
+/* A number above those of an enum is rejected before any other error. */
+static void test_options(void)
+{
+    icysixel_encoding e = {.format = 6};
+    const uint32_t of_encoding[] = {
+        ENCODE(row), (e.format = 0, e.background = 2, ENCODE(row)),
+        (e.background = 0, e.palette = 3, ENCODE(row)),
+        (e.palette = 0, e.dithering.kind = 3, ENCODE(row)),
+        (e.dithering.kind = 0, e.form = 2, ENCODE(row)),
+    };
+    EACH(code, of_encoding) CHECK(*code == ICYSIXEL_BAD_OPTION);
+    e.form = 0;
+    RETURNS(BAD_DIMENSIONS, ENCODE(row));
+    icysixel_layout layout = {.order = 2};
+    icysixel_bytes block = {&(uint8_t){7}, 7, 7};
+    uint8_t buffer[4] = {7};
+    RETURNS(BAD_OPTION, icysixel_copy_rows(h, 0, 1, &layout, buffer, 0));
+    RETURNS(OK, DECODE(red));
+    RETURNS(BAD_OPTION, icysixel_copy_pixels(h, 0, 99, &layout, buffer, 4));
+    RETURNS(BAD_OPTION, icysixel_take_pixels(h, 2, &block));
+    CHECK(buffer[0] == 7 && block.length == 7 && HAS_IMAGE);
 }
 
 /* The bytes of a pixel in a format. Index 9 is transparent. */
@@ -789,12 +815,14 @@ static void test_indices(void)
 {
     static const uint8_t gray[] = {100, 100, 100, 255, 100, 100, 100, 255, 100, 100, 100, 255};
     static const struct { icysixel_dithering dithering; uint8_t indices[4]; } found[] = {
-        {{ICYSIXEL_DITHER_DIFFUSION, 8}, {0, 1, 0, 7}}, {{9, 8}, {0, 0, 0, 7}},
+        {{ICYSIXEL_DITHER_DIFFUSION, 8}, {0, 1, 0, 7}}, {{0, 8}, {0, 0, 0, 7}},
         {{ICYSIXEL_DITHER_ORDERED, 255}, {0, 0, 1, 7}}, {{0, 0}, {0, 0, 0, 7}},
     };
     const icysixel_dithering *off = &(icysixel_dithering){0};
     const icysixel_color *two = black_white;
     uint8_t i[4] = {7, 7, 7, 7};
+    const icysixel_dithering *unknown = &(icysixel_dithering){3, 0};
+    RETURNS(BAD_OPTION, icysixel_palette_indices(gray, 12, 3, two, 2, unknown, 0, i, 2));
     RETURNS(BUFFER_TOO_SMALL, icysixel_palette_indices(gray, 12, 3, two, 2, off, 0, i, 2));
     RETURNS(BAD_DIMENSIONS, icysixel_palette_indices(gray, 12, 0, two, 2, off, 0, i, 4));
     RETURNS(BUFFER_MISMATCH, icysixel_palette_indices(gray, 12, 2, two, 2, off, 0, i, 4));
@@ -870,7 +898,7 @@ static void test_code_texts(void)
         uint32_t code = (uint32_t)line_number;
         size_t length = icysixel_strerror(code, buffer, sizeof buffer);
         CHECK(length > 0 && length < sizeof buffer && strlen(buffer) == length);
-        bool is_code = code <= ICYSIXEL_ROWS_RELEASED && code != 5 && code != 18 && code != 19;
+        bool is_code = code <= ICYSIXEL_ROWS_RELEASED && code != 18 && code != 19;
         CHECK((strcmp(buffer, "unknown code") == 0) == !is_code);
         CHECK(icysixel_strerror(code, buffer, length) == length && buffer[0] == 0);
         CHECK(icysixel_strerror(code, buffer, length + 1) == length && strlen(buffer) == length);
@@ -894,7 +922,7 @@ int main(void)
         TEST(drawn_height), TEST(raster_size), TEST(take_pixels), TEST(new_on_full_handle),
         TEST(take_no_pixels),
         TEST(registers), TEST(settings), TEST(encode), TEST(shapes),
-        TEST(encodings), TEST(formats), TEST(widest), TEST(palettes), TEST(indices),
+        TEST(encodings), TEST(options), TEST(formats), TEST(widest), TEST(palettes), TEST(indices),
         TEST(tolerance), TEST(code_texts), TEST(version),
     };
     for (size_t i = 0; i < COUNT_OF(tests); i++) subject = tests[i].name, tests[i].test();

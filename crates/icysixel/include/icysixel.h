@@ -42,7 +42,8 @@
  *
  * Results. A function that returns uint32_t returns an enum icysixel_code, except for
  * icysixel_version. With ICYSIXEL_OK it has written to each output argument. With an error it
- * leaves them unchanged, except for the result of a feed.
+ * leaves them unchanged, except for the result of a feed. A number that the enum of a member or an
+ * argument does not have is rejected with ICYSIXEL_BAD_OPTION.
  *
  * Stored image. An image is stored by icysixel_finish, icysixel_decode and icysixel_decode_payload.
  * Each error of these calls drops an image that was stored before, and so does icysixel_new. No
@@ -136,7 +137,7 @@ typedef struct {
 /* How each pixel gets an entry of the palette. Zeros mean the nearest entry. An amount of 0 is 7
  * for diffusion, and for the pattern the square root of the palette's mean squared error. */
 typedef struct {
-    uint8_t kind;   /* an enum icysixel_dither; any other number is ICYSIXEL_DITHER_OFF */
+    uint8_t kind;   /* an enum icysixel_dither */
     uint8_t amount; /* diffusion: eighths of the error; ordered: the amplitude in levels; or 0 */
 } icysixel_dithering;
 
@@ -150,12 +151,12 @@ typedef struct {
     uint32_t tolerance;   /* of runs, a squared distance, or ICYSIXEL_AUTO */
     uint16_t max_colors;  /* entries of a refined or farthest palette at most, or 0 for 256 */
     uint16_t color_count; /* colors at `colors` */
-    uint8_t format;       /* an enum icysixel_format; numbers above 5 are RGBA, too */
+    uint8_t format;       /* an enum icysixel_format */
     uint8_t pixel_height; /* the displayed height of a pixel of width 1: 2, 3 or 5, else 1 */
-    uint8_t background;   /* an enum icysixel_background; numbers above 1 are opaque, too */
-    uint8_t palette;      /* an enum icysixel_palette_mode; numbers above 2 are refined, too */
+    uint8_t background;   /* an enum icysixel_background */
+    uint8_t palette;      /* an enum icysixel_palette_mode */
     icysixel_dithering dithering; /* for refined and given palettes */
-    uint8_t form;                 /* an enum icysixel_form; numbers above 1 are compact, too */
+    uint8_t form;                 /* an enum icysixel_form */
     uint8_t transparent;          /* the transparent index, if the format has one */
     icysixel_color colors[256];   /* the given palette */
 } icysixel_encoding;
@@ -164,7 +165,7 @@ typedef struct {
 typedef struct {
     size_t stride;  /* bytes from the start of a row to the next, or 0 for 4 * columns */
     size_t columns; /* pixels of a row that are written, or 0 for all of the image so far */
-    uint8_t order;  /* an enum icysixel_order; numbers above 1 are BGRA, too */
+    uint8_t order;  /* an enum icysixel_order */
 } icysixel_layout;
 
 /* Result codes. */
@@ -175,7 +176,8 @@ enum icysixel_code {
     ICYSIXEL_NO_SESSION = 2, /* no image is open: begin one */
     ICYSIXEL_NO_SIZE = 3,    /* the payload has not begun, or an earlier feed failed */
     ICYSIXEL_NO_IMAGE = 4,   /* no image is stored */
-    /* about the caller's buffers */
+    /* about the caller's numbers and buffers */
+    ICYSIXEL_BAD_OPTION = 5,       /* an enum of this header does not have the number */
     ICYSIXEL_BUFFER_TOO_SMALL = 6, /* the buffer is smaller than the documented size */
     ICYSIXEL_BAD_STRIDE = 7,       /* it is shorter than a row */
     /* about memory and sizes */
@@ -339,6 +341,7 @@ uint64_t icysixel_get_canvas_paints(icysixel *handle);
  * columns, all columns that the image has so far are copied, and it may become wider. Rows already
  * copied stay valid after a later error. It does not allocate. The errors, in this order, are:
  *
+ * - ICYSIXEL_BAD_OPTION;
  * - ICYSIXEL_NO_SESSION if no image is open;
  * - ICYSIXEL_ROWS_NOT_FINAL if first + rows is above icysixel_get_rows_so_far;
  * - ICYSIXEL_ROWS_RELEASED if rows from `first` on were released;
@@ -386,6 +389,7 @@ uint32_t icysixel_decode_payload(icysixel *handle, const uint8_t *bytes, size_t 
  * as wanted. With a zeroed layout all columns are copied, in RGBA and without gaps. Columns on the
  * right of the image are transparent. It does not allocate. The errors, in this order, are:
  *
+ * - ICYSIXEL_BAD_OPTION;
  * - ICYSIXEL_NO_IMAGE;
  * - ICYSIXEL_ROWS_NOT_FINAL if first + rows is above the height;
  * - ICYSIXEL_ROWS_RELEASED if `first` is less than `first_row` of the shape;
@@ -397,9 +401,9 @@ uint32_t icysixel_copy_pixels(icysixel *handle, size_t first, size_t rows,
                               const icysixel_layout *layout, uint8_t *buf, size_t size);
 
 /* Transfers the pixels of the stored rows to the caller, with stride 0 and without a copy. `order`
- * is an enum icysixel_order, and numbers above 1 are BGRA, too. Red and blue are exchanged in
- * place. The error is ICYSIXEL_NO_IMAGE. The call does not allocate, and does not free an earlier
- * block in `pixels`. Without a stored row `pixels` becomes zeros. The block stays valid after
+ * is an enum icysixel_order. Red and blue are exchanged in place. The errors are
+ * ICYSIXEL_BAD_OPTION and ICYSIXEL_NO_IMAGE. The call does not allocate, and does not free an
+ * earlier block in `pixels`. Without a stored row `pixels` becomes zeros. The block stays valid after
  * icysixel_free. icysixel_free_bytes frees it, and so does free(pixels->data) with the default
  * memory functions. */
 uint32_t icysixel_take_pixels(icysixel *handle, uint8_t order, icysixel_bytes *pixels);
@@ -438,12 +442,12 @@ void icysixel_reset_registers(icysixel *handle);
 uint8_t icysixel_get_height(icysixel *handle);
 
 /* Sets where images end that are finished or decoded afterwards. `height` is an enum
- * icysixel_height, and numbers above 2 are ICYSIXEL_HEIGHT_DRAWN, too. Most images have a height
- * that is no multiple of six. With ICYSIXEL_HEIGHT_BANDS they have background rows at the bottom.
- * ICYSIXEL_HEIGHT_DRAWN is the height of foot, xterm and libsixel: the greater of the raster height
- * and the drawn height. It is 0 for an empty image, which then has no rows. No row is added to an
- * image, and a clip ends it first. icysixel_get_size_so_far does not depend on this setting. */
-void icysixel_set_height(icysixel *handle, uint8_t height);
+ * icysixel_height; the error is ICYSIXEL_BAD_OPTION. Most images have a height that is no multiple
+ * of six. With ICYSIXEL_HEIGHT_BANDS they have background rows at the bottom. ICYSIXEL_HEIGHT_DRAWN
+ * is the height of foot, xterm and libsixel: the greater of the raster height and the drawn height.
+ * It is 0 for an empty image, which then has no rows. No row is added to an image, and a clip ends
+ * it first. icysixel_get_size_so_far does not depend on this setting. */
+uint32_t icysixel_set_height(icysixel *handle, uint8_t height);
 
 /* Returns 1 if images of this handle are lenient. */
 uint8_t icysixel_get_lenient(icysixel *handle);
@@ -505,6 +509,7 @@ void icysixel_set_clip(icysixel *handle, size_t width, size_t height);
  *
  * The errors, in this order, are:
  *
+ * - ICYSIXEL_BAD_OPTION;
  * - ICYSIXEL_BAD_DIMENSIONS for a zero size;
  * - ICYSIXEL_OVERFLOW if 4 * width * height overflows size_t;
  * - ICYSIXEL_BAD_DIMENSIONS for a size above the limits of the format;
@@ -585,6 +590,7 @@ uint32_t icysixel_refine_palette(const uint8_t *pixels, size_t length, uint16_t 
  * tolerance is that of icysixel_encoding. `indices` has a capacity of at least one byte for each
  * pixel, and the bytes after these are unchanged. The errors, in this order, are:
  *
+ * - ICYSIXEL_BAD_OPTION;
  * - ICYSIXEL_BUFFER_TOO_SMALL;
  * - ICYSIXEL_BAD_DIMENSIONS if `width` is 0;
  * - ICYSIXEL_BUFFER_MISMATCH if the pixels are not whole rows;

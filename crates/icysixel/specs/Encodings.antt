@@ -1,5 +1,6 @@
 -- How C says that an image is encoded, and what the call does that encodes one. The numbers are this library's own, and include/icysixel.h names them.
 use Rattle.std.specs.Prelude.{◌≡◌, ◌≢◌, ◌*◌, ◌<◌, ◌≤◌, ◌==◌, ◌||◌, not, if◌then◌else◌, ℕ, nat_lt}
+use Rattle.std.specs.Prelude.{nat_le, ◌&&◌}
 use Rattle.std.specs.Prelude.{List, [], length, take, Bool, Option, Some, None, IsTrue}
 use Rattle.std.specs.Prelude.{◌⊎◌, Result, Err, IfOk, IfErr, IsErrAnd, MatchResult, String}
 use Rattle.std.specs.Prelude.{string_bytes}
@@ -39,8 +40,8 @@ use Rattle.icysixel.specs.declared.format.Format.TheVariants as format
 
 -- ---- numbers
 
--- 1 is error diffusion, 2 an ordered pattern, and any other number no dithering. An amount of 0 is
--- 7 eighths of the error, or the amplitude of the palette.
+-- 0 is no dithering, 1 error diffusion, and 2 an ordered pattern. An amount of 0 is 7 eighths of
+-- the error, or the amplitude of the palette.
 abbrev pub dither_of : Dithering → Dither
 dither_of dithering =
     if dithering.kind == 1 then Diffusion (if dithering.amount == 0 then 7 else dithering.amount)
@@ -56,11 +57,11 @@ mapping_of dithering tolerance = record {
   tolerance = if tolerance == 0xffff_ffff then Auto else Squared tolerance;
 }
 
--- 0 is the plain form, and any other number the compact one
+-- 0 is the plain form, and 1 the compact one
 abbrev pub form_of : Encoding → TextForm
 form_of encoding = if encoding.form == 0 then Plain else Compact
 
--- 4 is a palette index, 5 one with a transparent index, and any number that is not named RGBA
+-- 0 is RGBA, 4 a palette index, and 5 one with a transparent index
 abbrev pub format_of : Encoding → Format
 format_of encoding =
     if encoding.format == 1 then format.Bgra
@@ -78,7 +79,7 @@ ratio_of encoding =
     else if encoding.pixel_height == 5 then Ratio5To1
     else Square
 
--- 0 is transparent, and any other number opaque
+-- 0 is transparent, and 1 opaque
 abbrev pub background_of : Encoding → BackgroundMode
 background_of encoding = if encoding.background == 0 then Transparent else Opaque
 
@@ -98,6 +99,16 @@ color_limit encoding = if encoding.max_colors == 0 then 256 else encoding.max_co
 abbrev pub given_colors : Encoding → List (List ℕ)
 given_colors encoding =
     if nat_lt 256 encoding.color_count then [] else take encoding.color_count encoding.colors
+
+-- whether the header names the kind of dithering
+abbrev pub is_kind : Dithering → Bool
+is_kind dithering = nat_le dithering.kind 2
+
+-- whether it names each number that stands for an option
+abbrev pub has_options : Encoding → Bool
+has_options encoding =
+    nat_le encoding.format 5 && nat_le encoding.background 1 && nat_le encoding.palette 2
+    && is_kind encoding.dithering && nat_le encoding.form 1
 
 -- ---- pixels
 
@@ -190,8 +201,8 @@ pub record IsEncoded (encoding : Encoding) (pixels : List ℕ)
   pub text : IfOk result (λ text.
       IsRowsText encoding (dense_rows encoding pixels) (string_bytes text))
 
--- A call encodes these pixels and transfers their text, or changes nothing and returns a code.
-pub record IsEncodeCall (encoding : Encoding) (pixels : List ℕ) (old new : Bytes) (code : ℕ)
+-- These pixels are encoded and their text is transferred, or nothing changes but the code.
+pub record IsTransferred (encoding : Encoding) (pixels : List ℕ) (old new : Bytes) (code : ℕ)
     : Type 0 where
   pub result : Result (String Global) ℕ
   pub encoded : IsEncoded encoding pixels result

@@ -1,7 +1,7 @@
 -- Where the images of C end: the height that is set, and an image that ends there. The numbers are
 -- this library's own, and include/icysixel.h names them.
 use Rattle.std.specs.Prelude.{ℕ, ◌≡◌, ◌≢◌, ◌==◌, if◌then◌else◌, Bool, Option, Some, None, Result}
-use Rattle.std.specs.Prelude.{MatchResult}
+use Rattle.std.specs.Prelude.{MatchResult, nat_le}
 use Rattle.sixel_base.specs.declared.error.SixelError.{SixelError}
 use Rattle.icy_sixel.specs.ReceivedImages.{IsCropped}
 use Rattle.icy_sixel.specs.declared.receiver.received_image.Height.{Height}
@@ -12,8 +12,12 @@ use Rattle.icysixel.specs.Code.{IsCodeOf}
 use Rattle.icysixel.specs.Shape.{shape_of}
 use Rattle.icysixel.specs.declared.shape.Shape.{Shape}
 
--- 0 is the end of the last band, 1 the height in raster attributes, and any other number that
--- height or the last row with a set pixel
+-- whether the header names a height
+abbrev pub is_height : ℕ → Bool
+is_height number = nat_le number 2
+
+-- 0 is the end of the last band, 1 the height in raster attributes, and 2 that height or the last
+-- row with a set pixel
 abbrev pub height_of : ℕ → Height
 height_of number = if number == 0 then Bands else if number == 1 then Raster else Drawn
 

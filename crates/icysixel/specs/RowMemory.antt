@@ -2,6 +2,7 @@
 -- calls do. The numbers are this library's own, and include/icysixel.h names them. The words for
 -- final rows are those of the receiver.
 use Rattle.std.specs.Prelude.{ℕ, ◌≡◌, ◌≢◌, ◌*◌, ◌/◌, ◌%◌, ◌<◌, ◌==◌, min, if◌then◌else◌, List}
+use Rattle.std.specs.Prelude.{Bool, nat_le}
 use Rattle.std.specs.Prelude.{length, slice_index, true, false, Option, Some, None, unwrap_or}
 use Rattle.std.specs.Prelude.{Result, MatchResult}
 use Rattle.sixel_base.specs.CallFault.{CallFault, IsCallFault, RowsNotFinal, RowsReleased}
@@ -22,7 +23,11 @@ use Rattle.icysixel.specs.Rows.{stride_of}
 use Rattle.icysixel.specs.declared.buffer_layout.BufferLayout.{BufferLayout}
 use Rattle.icysixel.specs.declared.state.State.{State}
 
--- 0 is RGBA, and any other number BGRA
+-- whether the header names an order of channels
+abbrev pub is_order : ℕ → Bool
+is_order order = nat_le order 1
+
+-- 0 is RGBA, and 1 BGRA
 abbrev pub order_of : ℕ → ChannelOrder
 order_of order = if order == 0 then Rgba else Bgra
 

@@ -9,6 +9,7 @@ words code =
     else if code == 2 then codes "no image is open"
     else if code == 3 then codes "the image has no size yet"
     else if code == 4 then codes "no image is stored"
+    else if code == 5 then codes "the option is unknown"
     else if code == 6 then codes "the buffer is too small"
     else if code == 7 then codes "stride is shorter than a row"
     else if code == 8 then codes "out of memory"

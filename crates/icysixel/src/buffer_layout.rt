@@ -1,7 +1,7 @@
 //! How rows lie in a buffer of the caller, and the codes of what is wrong with it.
 
 ghost use Rattle.std.specs.Prelude.{◌≡◌};
-ghost use Rattle.icysixel.specs.RowMemory.{IsRowsCode, layout_of, order_of};
+ghost use Rattle.icysixel.specs.RowMemory.{IsRowsCode, is_order, layout_of, order_of};
 
 use crate::code::Code;
 use crate::rows::stride_of;
@@ -16,7 +16,7 @@ pub struct BufferLayout {
     pub stride: usize,
     /// How many pixels of a row are written, or 0 for all pixels of the image.
     pub columns: usize,
-    /// 0 is RGBA, any other number BGRA.
+    /// 0 is RGBA, 1 BGRA.
     pub order: u8,
 }
 
@@ -36,6 +36,13 @@ impl BufferLayout {
             order: channel_order(self.order),
         }
     }
+}
+
+/// Whether the header names an order of channels.
+pub fn is_order(order: u8) -> bool
+    ensures { result ≡ is_order order }
+{
+    order <= 1
 }
 
 /// The order of a pixel's bytes.

@@ -23,6 +23,8 @@ pub enum Code {
     NoSize = 3,
     /// No image is stored.
     NoImage = 4,
+    /// A number is none that the header names.
+    BadOption = 5,
     /// A buffer is too small.
     BufferTooSmall = 6,
     /// The stride is shorter than a row.

@@ -1,7 +1,7 @@
 //! The call that encodes pixels in the caller's memory.
 
 ghost use Rattle.std.specs.Prelude.{◌≡◌, ◌≢◌, ◌*◌, ◌<◌, ◌≤◌, ℕ, Some, None, not, length};
-ghost use Rattle.std.specs.Prelude.{Ok, OnOk, IfOk, IfErr, IsErrAnd, false, string_bytes};
+ghost use Rattle.std.specs.Prelude.{Ok, OnOk, IfOk, IfErr, IsErrAnd, true, false, string_bytes};
 ghost use Rattle.sixel_base.specs.Size.{encode_fault};
 ghost use Rattle.sixel_base.specs.declared.error.SixelError.{SixelError};
 ghost use Rattle.sixel_base.specs.CallFault.{FailsBy};
@@ -10,8 +10,8 @@ ghost use Rattle.sixel_encoder.specs.IndexedDrawing.{index_count_fault};
 ghost use Rattle.icysixel.specs.Code.{IsCodeOf};
 ghost use Rattle.icysixel.specs.Encodings.{IsRowsText, IsTextIn, bytes_of, colors_fault, copies};
 ghost use Rattle.icysixel.specs.Encodings.{dense_rows, format_of, image_of, mode_of, row_len};
-ghost use Rattle.icysixel.specs.Encodings.{FailsByCode, IsEncodeCall, IsEncoded, row_stride};
-ghost use Rattle.icysixel.specs.Encodings.{rows_fault};
+ghost use Rattle.icysixel.specs.Encodings.{FailsByCode, IsEncoded, IsTransferred};
+ghost use Rattle.icysixel.specs.Encodings.{has_options, row_stride, rows_fault};
 ghost use Rattle.icysixel.specs.Formats.{is_rgba, rgba_pixels};
 ghost use Rattle.icysixel.specs.Rows.{extent};
 ghost use Rattle.icysixel.specs.declared.encoding.PaletteMode.TheVariants.{Indexed};
@@ -36,9 +36,15 @@ pub extern "C" fn icysixel_encode(
     encoding: &Encoding,
     text: &mut Bytes,
 ) -> u32
-    ensures encoded { IsEncodeCall encoding.now pixels.now text.old text.new result }
+    ensures option { has_options encoding.now ≡ false → result ≡ 5 }
+    ensures encoded { has_options encoding.now ≡ true
+        → IsTransferred encoding.now pixels.now text.old text.new result }
     ensures capacity { text.new.len ≤ text.new.capacity }
+    ensures same { result ≢ 0 → text.new ≡ text.old }
 {
+    if !encoding.has_options() {
+        return Code::BadOption as u32;
+    }
     match encoding.text_of(alloc, pixels) {
         Ok(encoded) => {
             *text = Bytes::of(alloc, encoded.into_bytes());

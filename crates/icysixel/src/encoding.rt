@@ -2,7 +2,8 @@
 
 ghost use Rattle.std.specs.Prelude.{◌≡◌};
 ghost use Rattle.icysixel.specs.Encodings.{background_of, color_limit, dither_of, form_of};
-ghost use Rattle.icysixel.specs.Encodings.{format_of, given_colors, mapping_of, mode_of, ratio_of};
+ghost use Rattle.icysixel.specs.Encodings.{format_of, given_colors, has_options, is_kind};
+ghost use Rattle.icysixel.specs.Encodings.{mapping_of, mode_of, ratio_of};
 
 use crate::format::Format;
 use icy_sixel::encoder::{Amplitude, Dither, Mapping, TextForm, Tolerance};
@@ -12,7 +13,7 @@ use icy_sixel::{BackgroundMode, PixelAspectRatio};
 #[repr(C)]
 #[derive(Clone, Copy)]
 pub struct Dithering {
-    /// 1 is error diffusion, 2 an ordered pattern, and any other number none.
+    /// 0 is none, 1 error diffusion, 2 an ordered pattern.
     pub kind: u8,
     /// The eighths of the error that are diffused, or the amplitude of the pattern.
     ///
@@ -21,6 +22,13 @@ pub struct Dithering {
 }
 
 impl Dithering {
+    /// Whether the header names the kind.
+    pub fn is_kind(&self) -> bool
+        ensures { result ≡ is_kind self.now }
+    {
+        self.kind <= 2
+    }
+
     /// How pixels get their entries, with this tolerance.
     pub fn mapping(&self, tolerance: u32) -> Mapping
         ensures { result ≡ mapping_of self.now tolerance }
@@ -83,16 +91,16 @@ pub struct Encoding {
     pub max_colors: u16,
     /// The number of colors that are given.
     pub color_count: u16,
-    /// 1 is BGRA, 2 RGB, 3 BGR, 4 indices, 5 indices with a transparent one. Any other is RGBA.
+    /// 0 is RGBA, 1 BGRA, 2 RGB, 3 BGR, 4 indices, 5 indices with a transparent one.
     pub format: u8,
     /// The height of a pixel of width 1: 2, 3 or 5. Any other number means 1.
     pub pixel_height: u8,
-    /// 0 is a transparent background, any other number one in the color of register 0.
+    /// 0 is a transparent background, 1 one in the color of register 0.
     pub background: u8,
-    /// 1 is a palette chosen farthest first, 2 the given one. Any other number is a refined one.
+    /// 0 is a refined palette, 1 one that is chosen farthest first, 2 the given one.
     pub palette: u8,
     pub dithering: Dithering,
-    /// 0 is the plain form, any other number the compact one.
+    /// 0 is the plain form, 1 the compact one.
     pub form: u8,
     /// The transparent index, if the format has one.
     pub transparent: u8,
@@ -100,6 +108,18 @@ pub struct Encoding {
 }
 
 impl Encoding {
+    /// Whether the header names each number that stands for an option.
+    #[tactic(auto, using(std::proofs::lemmas::Bool::Decides::nat_tests))]
+    pub fn has_options(&self) -> bool
+        ensures { result ≡ has_options self.now }
+    {
+        self.format <= 5
+            && self.background <= 1
+            && self.palette <= 2
+            && self.dithering.is_kind()
+            && self.form <= 1
+    }
+
     /// The format of the pixels.
     pub fn pixel_format(&self) -> Format
         ensures { result ≡ format_of self.now }

@@ -1,11 +1,12 @@
 //! The calls on final rows of the open image.
 
-ghost use Rattle.std.specs.Prelude.{◌≡◌, ◌≢◌, Some, None, is_some, length};
+ghost use Rattle.std.specs.Prelude.{◌≡◌, ◌≢◌, Some, None, is_some, true, false, length};
 ghost use Rattle.icy_sixel.specs.ReceivedRows.{rows_so_far};
-ghost use Rattle.icysixel.specs.RowMemory.{AreRowsCopied, AreRowsReleased, layout_of};
+ghost use Rattle.icysixel.specs.RowMemory.{AreRowsCopied, AreRowsReleased, is_order};
+ghost use Rattle.icysixel.specs.RowMemory.{layout_of};
 ghost use Rattle.icysixel.specs.declared.state.State.{State};
 
-use crate::buffer_layout::{BufferLayout, rows_code};
+use crate::buffer_layout::{BufferLayout, is_order, rows_code};
 use crate::code::Code;
 use crate::slot::Slot;
 use crate::state::State;
@@ -36,12 +37,18 @@ pub extern "C" fn icysixel_copy_rows(
 ) -> u32
     ensures same { slot.new.handle.state ≡ slot.old.handle.state }
     ensures none { slot.old.handle.state ≡ None → result ≡ 1 }
+    ensures option { is_some slot.old.handle.state ≡ true → is_order layout.now.order ≡ false
+        → result ≡ 5 }
     ensures copied { (state : State) → slot.old.handle.state ≡ Some state
+        → is_order layout.now.order ≡ true
         → AreRowsCopied state first rows layout.now buf.old buf.new result }
     ensures untouched { result ≢ 0 → buf.new ≡ buf.old }
 {
     if !slot.is_held() {
         return Code::NoHandle as u32;
+    }
+    if !is_order(layout.order) {
+        return Code::BadOption as u32;
     }
     copy_rows(slot.state(), first, rows, layout, buf)
 }

@@ -1,14 +1,14 @@
 //! The calls that finish an image, and copy, transfer and free its pixels.
 
-ghost use Rattle.std.specs.Prelude.{◌≡◌, ◌≢◌, ◌≤◌, Some, None, is_some, []};
+ghost use Rattle.std.specs.Prelude.{◌≡◌, ◌≢◌, ◌≤◌, Some, None, is_some, true, false, []};
 ghost use Rattle.icy_sixel.specs.declared.receiver.received_image.ReceivedImage.{ReceivedImage};
 ghost use Rattle.icysixel.specs.Blocks.{IsNoBlock};
 ghost use Rattle.icysixel.specs.Changes.{Acts};
-ghost use Rattle.icysixel.specs.RowMemory.{AreInOrder, ArePixelsCopied};
+ghost use Rattle.icysixel.specs.RowMemory.{AreInOrder, ArePixelsCopied, is_order};
 ghost use Rattle.icysixel.specs.Finish.{IsFinished};
 ghost use Rattle.icysixel.specs.declared.state.State.{State};
 
-use crate::buffer_layout::{BufferLayout, channel_order, rows_code};
+use crate::buffer_layout::{BufferLayout, channel_order, is_order, rows_code};
 use crate::bytes::Bytes;
 use crate::code::Code;
 use crate::shape::Shape;
@@ -60,12 +60,18 @@ pub extern "C" fn icysixel_copy_pixels(
 ) -> u32
     ensures same { slot.new.handle.state ≡ slot.old.handle.state }
     ensures none { slot.old.handle.state ≡ None → result ≡ 1 }
+    ensures option { is_some slot.old.handle.state ≡ true → is_order layout.now.order ≡ false
+        → result ≡ 5 }
     ensures copied { (state : State) → slot.old.handle.state ≡ Some state
+        → is_order layout.now.order ≡ true
         → ArePixelsCopied state first rows layout.now buf.old buf.new result }
     ensures untouched { result ≢ 0 → buf.new ≡ buf.old }
 {
     if !slot.is_held() {
         return Code::NoHandle as u32;
+    }
+    if !is_order(layout.order) {
+        return Code::BadOption as u32;
     }
     copy_pixels(slot.state(), first, rows, layout, buf)
 }
@@ -101,18 +107,20 @@ pub extern "C" fn icysixel_take_pixels(
 ) -> u32
     ensures held { is_some slot.new.handle.state ≡ is_some slot.old.handle.state }
     ensures none { slot.old.handle.state ≡ None → result ≡ 1 }
+    ensures option { is_some slot.old.handle.state ≡ true → is_order order ≡ false → result ≡ 5 }
     ensures no_image { (before : State) → slot.old.handle.state ≡ Some before
-        → before.image ≡ None → result ≡ 4 }
+        → is_order order ≡ true → before.image ≡ None → result ≡ 4 }
     ensures done { (before : State) (image : ReceivedImage) → slot.old.handle.state ≡ Some before
-        → before.image ≡ Some image → result ≡ 0 }
+        → is_order order ≡ true → before.image ≡ Some image → result ≡ 0 }
     ensures pixels { (before : State) (image : ReceivedImage)
-        → slot.old.handle.state ≡ Some before → before.image ≡ Some image
-        → AreInOrder order image.pixels.items bytes.new.items }
+        → slot.old.handle.state ≡ Some before → is_order order ≡ true
+        → before.image ≡ Some image → AreInOrder order image.pixels.items bytes.new.items }
     ensures capacity { bytes.new.len ≤ bytes.new.capacity }
     ensures empty { result ≡ 0 → bytes.new.items ≡ []
         → IsNoBlock bytes.new.at bytes.new.len bytes.new.capacity }
     ensures unwritten { result ≢ 0 → bytes.new ≡ bytes.old }
-    ensures taken { (after : State) → slot.new.handle.state ≡ Some after → after.image ≡ None }
+    ensures taken { (after : State) → slot.new.handle.state ≡ Some after
+        → is_order order ≡ true → after.image ≡ None }
     ensures same { result ≢ 0 → slot.new.handle.state ≡ slot.old.handle.state }
     ensures decoder { (before after : State) → slot.old.handle.state ≡ Some before
         → slot.new.handle.state ≡ Some after → after.receiver ≡ before.receiver }
@@ -121,6 +129,9 @@ pub extern "C" fn icysixel_take_pixels(
 {
     if !slot.is_held() {
         return Code::NoHandle as u32;
+    }
+    if !is_order(order) {
+        return Code::BadOption as u32;
     }
     transfer(alloc, slot.state(), order, bytes)
 }

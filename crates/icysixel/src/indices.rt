@@ -1,10 +1,11 @@
 //! The call that finds palette indices of pixels.
 
-ghost use Rattle.std.specs.Prelude.{◌≡◌, ◌≢◌, ◌/◌, ◌<◌, ◌≤◌, Some, None, drop, length, take};
+ghost use Rattle.std.specs.Prelude.{◌≡◌, ◌≢◌, ◌/◌, ◌<◌, ◌≤◌, Some, None, true, false};
+ghost use Rattle.std.specs.Prelude.{drop, length, take};
 ghost use Rattle.sixel_base.specs.CallFault.{CallFault};
 ghost use Rattle.sixel_palette.specs.Dithering.{AreDithered, indices_fault};
 ghost use Rattle.icysixel.specs.Code.{IsCallCode};
-ghost use Rattle.icysixel.specs.Encodings.{mapping_of};
+ghost use Rattle.icysixel.specs.Encodings.{is_kind, mapping_of};
 
 use crate::code::{Code, code_of};
 use crate::encoding::Dithering;
@@ -22,11 +23,14 @@ pub extern "C" fn icysixel_palette_indices(
     tolerance: u32,
     indices: &mut [u8],
 ) -> u32
-    ensures small { length indices.old < length pixels.now / 4 → result ≡ 6 }
-    ensures call { (fault : CallFault) → length pixels.now / 4 ≤ length indices.old
+    ensures option { is_kind dithering.now ≡ false → result ≡ 5 }
+    ensures small { is_kind dithering.now ≡ true
+        → length indices.old < length pixels.now / 4 → result ≡ 6 }
+    ensures call { (fault : CallFault) → is_kind dithering.now ≡ true
+        → length pixels.now / 4 ≤ length indices.old
         → indices_fault (length pixels.now) width (length colors.now) ≡ Some fault
         → IsCallCode result fault }
-    ensures memory { length pixels.now / 4 ≤ length indices.old
+    ensures memory { is_kind dithering.now ≡ true → length pixels.now / 4 ≤ length indices.old
         → indices_fault (length pixels.now) width (length colors.now) ≡ None
         → result ≢ 0 → result ≡ 8 }
     ensures indices { result ≡ 0 → AreDithered (mapping_of dithering.now tolerance) width pixels.now
@@ -35,6 +39,9 @@ pub extern "C" fn icysixel_palette_indices(
         ≡ drop (length pixels.now / 4) indices.old }
     ensures same { result ≢ 0 → indices.new ≡ indices.old }
 {
+    if !dithering.is_kind() {
+        return Code::BadOption as u32;
+    }
     if indices.len() < pixels.len() / 4 {
         return Code::BufferTooSmall as u32;
     }

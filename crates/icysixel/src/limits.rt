@@ -1,9 +1,10 @@
 //! The calls that read and set where images end, lenience, transparency, limit and clip.
 
-ghost use Rattle.std.specs.Prelude.{◌≡◌, ◌≢◌, ◌==◌, Some, None, is_some, true, not, cond};
+ghost use Rattle.std.specs.Prelude.{◌≡◌, ◌≢◌, ◌==◌, Some, None, is_some, true, false, not};
+ghost use Rattle.std.specs.Prelude.{cond};
 ghost use Rattle.sixel_base.specs.Decoder.{with_clip, with_pixel_limit};
 ghost use Rattle.icysixel.specs.Changes.{Acts, IsReceiverSet, IsSet};
-ghost use Rattle.icysixel.specs.Heights.{height_of, number_of};
+ghost use Rattle.icysixel.specs.Heights.{height_of, is_height, number_of};
 ghost use Rattle.icysixel.specs.declared.state.State.{State};
 
 use crate::code::Code;
@@ -36,19 +37,29 @@ fn height_number(height: Height) -> u8
     }
 }
 
-/// Sets where images end: 0 is the last band, 1 the raster height, any other number both heights.
+/// Sets where images end: 0 is the last band, 1 the raster height, 2 both heights.
 #[unsafe(no_mangle)]
-pub extern "C" fn icysixel_set_height(slot: &mut Slot, height: u8)
-    ensures { Acts (λ old new. new ≡ record old { height = height_of height })
+pub extern "C" fn icysixel_set_height(slot: &mut Slot, height: u8) -> u32
+    ensures none { slot.old.handle.state ≡ None → result ≡ 1 }
+    ensures option { is_some slot.old.handle.state ≡ true → is_height height ≡ false
+        → result ≡ 5 }
+    ensures set { is_height height ≡ true
+        → Acts (λ old new. new ≡ record old { height = height_of height })
         slot.old.handle.state slot.new.handle.state }
+    ensures done { is_some slot.old.handle.state ≡ true → is_height height ≡ true → result ≡ 0 }
+    ensures same { result ≢ 0 → slot.new.handle.state ≡ slot.old.handle.state }
 {
-    if slot.is_held() {
-        slot.state().height = match height {
-            0 => Height::Bands,
-            1 => Height::Raster,
-            _ => Height::Drawn,
-        };
+    if !slot.is_held() {
+        return Code::NoHandle as u32;
     }
+    let height = match height {
+        0 => Height::Bands,
+        1 => Height::Raster,
+        2 => Height::Drawn,
+        _ => return Code::BadOption as u32,
+    };
+    slot.state().height = height;
+    Code::Success as u32
 }
 
 /// Returns 1 if images are lenient, and 0 if not.

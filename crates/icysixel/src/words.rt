@@ -48,6 +48,7 @@ fn words(code: u32) -> &'static str
         2 => "no image is open",
         3 => "the image has no size yet",
         4 => "no image is stored",
+        5 => "the option is unknown",
         6 => "the buffer is too small",
         7 => error::SHORT_STRIDE,
         8 => "out of memory",
