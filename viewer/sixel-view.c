@@ -204,7 +204,6 @@ static int go_on(GdkPixbufAnimationIter *frames, GTimeVal *clock)
 static icysixel_encoding choose_palette(GdkPixbufAnimation *animation)
 {
     icysixel_encoding encoding = {0};
-    icysixel_color witnesses[257];
     icysixel_refined refined;
     GTimeVal clock = {0};
     GByteArray *samples = g_byte_array_new();
@@ -220,7 +219,7 @@ static icysixel_encoding choose_palette(GdkPixbufAnimation *animation)
     } while (samples->len < MAX_SAMPLES && go_on(frames, &clock));
     uint8_t *indices = g_malloc(samples->len / 4);
     check(icysixel_refine_palette(samples->data, samples->len, (uint16_t)colors, encoding.colors,
-                                  256, witnesses, 257, indices, samples->len / 4, &refined));
+                                  256, indices, samples->len / 4, &refined));
     encoding.color_count = (uint16_t)refined.colors;
     g_free(indices);
     g_byte_array_unref(samples);

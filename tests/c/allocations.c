@@ -162,8 +162,8 @@ static uint32_t make_palette(icysixel *h, int kind, struct bytes *made)
     uint32_t code
         = kind == CHOOSE ? icysixel_choose_palette(pixels, size, 16, colors, 16, witnesses, 17,
                                                    indices, count, &chosen)
-        : kind == REFINE ? icysixel_refine_palette(pixels, size, 16, colors, 16, witnesses, 17,
-                                                   indices, count, &refined)
+        : kind == REFINE ? icysixel_refine_palette(pixels, size, 16, colors, 16, indices, count,
+                                                   &refined)
         : icysixel_palette_indices(pixels, size, 32, two, 2, dithering, 0, indices, count);
     CHECK(chosen.colors + refined.colors == (code == ICYSIXEL_OK && kind < NEAREST ? 16 : 0));
     append(made, indices, code == ICYSIXEL_OK ? count : 0);
@@ -249,9 +249,9 @@ static void test_rejected(void)
     CHECK(icysixel_encode(pixels, 0, &all, &text) == ICYSIXEL_OVERFLOW);
     CHECK(icysixel_choose_palette(pixels, 3, 2, colors, 2, colors, 3, NULL, 0, &chosen)
           == ICYSIXEL_BUFFER_MISMATCH);
-    CHECK(icysixel_refine_palette(pixels, 3, 2, colors, 2, colors, 3, NULL, 0, &refined)
+    CHECK(icysixel_refine_palette(pixels, 3, 2, colors, 2, NULL, 0, &refined)
           == ICYSIXEL_BUFFER_MISMATCH);
-    CHECK(icysixel_refine_palette(pixels, 0, 0, colors, 2, colors, 3, NULL, 0, &refined)
+    CHECK(icysixel_refine_palette(pixels, 0, 0, colors, 2, NULL, 0, &refined)
           == ICYSIXEL_COLOR_COUNT);
 }
 
@@ -277,7 +277,7 @@ static void test_no_allocation(void)
     icysixel_begin_dcs(&h);
     OK(icysixel_feed(&h, (const uint8_t *)"\033P9;1q#1;2;9;9;9$-!", 19, &fed));
     OK(icysixel_get_size_so_far(&h, &size));
-    CHECK(icysixel_in_payload(&h) == 1 && icysixel_get_canvas_paints(&h) == 0);
+    CHECK(icysixel_in_payload(&h) == 1);
     icysixel_abort(&h);
     CHECK(icysixel_is_receiving(&h) == 0);
     icysixel_begin_payload(&h, 9, 1);

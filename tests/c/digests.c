@@ -64,7 +64,7 @@ static void decode(struct bytes text, size_t image, const int settings[5])
         code = icysixel_feed(&decoder, chunk.at, chunk.length, &fed);
         if (fed.consumed == 0) break;
     }
-    add_number(code), add_number(fed.status), add_number(icysixel_get_canvas_paints(&decoder));
+    add_number(code), add_number(fed.status);
     struct outcome outcome = outcome_of(&decoder, icysixel_finish(&decoder, &shape), shape);
     struct registers registers = registers_of(&decoder);
     add_number(outcome.code), add_number(shape.width), add_number(shape.height);
@@ -92,7 +92,7 @@ static void encode(const uint8_t *pixels, size_t image, const int settings[5])
     icysixel_free_bytes(&text);
 }
 
-/* Chooses both palettes with their certificates. */
+/* Chooses both palettes, one with its certificate. */
 static void choose(const uint8_t *pixels, size_t image, int colors)
 {
     icysixel_color entries[256] = {0}, witnesses[257] = {0};
@@ -103,10 +103,10 @@ static void choose(const uint8_t *pixels, size_t image, int colors)
                                   257, indices, PIXELS, &palette) == ICYSIXEL_OK);
     add_number(palette.colors), add_number(palette.witnesses), add_number(palette.error);
     add(entries, sizeof entries), add(witnesses, sizeof witnesses), add(indices, PIXELS);
-    CHECK(icysixel_refine_palette(pixels, 4 * PIXELS, (uint16_t)colors, entries, 256, witnesses,
-                                  257, indices, PIXELS, &refined) == ICYSIXEL_OK);
-    add_number(refined.colors), add_number(refined.error), add_number(refined.apart);
-    add(entries, sizeof entries), add(witnesses, sizeof witnesses), add(indices, PIXELS);
+    CHECK(icysixel_refine_palette(pixels, 4 * PIXELS, (uint16_t)colors, entries, 256, indices,
+                                  PIXELS, &refined) == ICYSIXEL_OK);
+    add_number(refined.colors), add_number(refined.error);
+    add(entries, sizeof entries), add(indices, PIXELS);
     write_line("palettes", image, (int[5]){colors});
 }
 

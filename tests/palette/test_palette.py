@@ -36,8 +36,7 @@ SMALLEST = "convert ppm:{file} png24:- | img2sixel -E size -d none -p {few}"
 
 
 class Refined(ctypes.Structure):
-    _fields_ = [("colors", ctypes.c_size_t), ("witnesses", ctypes.c_size_t)]
-    _fields_ += [("error", ctypes.c_uint64), ("apart", ctypes.c_uint32)]
+    _fields_ = [("colors", ctypes.c_size_t), ("error", ctypes.c_uint64)]
 
 
 def nearest_of(colors, pixels):
@@ -206,43 +205,36 @@ class PaletteTest(unittest.TestCase):
             self.assertEqual(mapped(width, pixels, colors), nearest_of(colors, pixels))
 
     def test_refined(self):
-        """A refined palette is the model's, and its error and witnesses are true."""
+        """A refined palette is the model's, and its error is true."""
         rng = random.Random(SEED)
         for turn in range(COUNT):
             _, pixels = image(rng)
             most, count = rng.choice([1, 2, 5, 16, 256]), len(pixels)
-            colors, witnesses = (ctypes.create_string_buffer(3 * 257) for _ in range(2))
-            found, properties = ctypes.create_string_buffer(count), Refined()
+            colors, found = (ctypes.create_string_buffer(it) for it in (768, count))
+            properties = Refined()
             with self.subTest(turn=turn, most=most):
                 call(
-                    "icysixel_refine_palette", pixels, 4 * count, most, colors, 257, witnesses,
-                    257, found, count, ctypes.byref(properties),
+                    "icysixel_refine_palette", pixels, 4 * count, most, colors, 256, found, count,
+                    ctypes.byref(properties),
                 )
                 parts = [tuple(colors.raw[it : it + 3]) for it in range(0, 768, 3)]
                 entries = parts[: properties.colors]
-                seen = {it[:3] for it in pixels if it[3] >= 128}
                 self.assertEqual(entries, refined_entries(pixels, most))
                 indices = nearest_of(entries, pixels)
                 self.assertEqual(list(found.raw), indices)
                 opaque = [(at, it) for at, it in zip(indices, pixels) if it[3] >= 128]
                 error = sum(distance(entries[at], it) for at, it in opaque)
                 self.assertEqual(properties.error, error)
-                points = [tuple(witnesses.raw[it : it + 3]) for it in range(0, 771, 3)]
-                points = points[: properties.witnesses]
-                self.assertLessEqual(set(points), seen)
-                pairs = itertools.combinations(points, 2)
-                apart = min((distance(one, other) for one, other in pairs), default=0)
-                self.assertEqual(properties.apart, apart)
 
     def test_error(self):
         """The summed error of a refined palette is at most 1 % above the model's."""
         for (name, pixels), most in itertools.product(pictures().items(), (256, 64, 16)):
-            colors, witnesses = (ctypes.create_string_buffer(3 * 257) for _ in range(2))
-            found, properties = ctypes.create_string_buffer(len(pixels)), Refined()
+            colors, found = (ctypes.create_string_buffer(it) for it in (768, len(pixels)))
+            properties = Refined()
             with self.subTest(name, most=most):
                 call(
-                    "icysixel_refine_palette", pixels, 4 * len(pixels), most, colors, 257,
-                    witnesses, 257, found, len(pixels), ctypes.byref(properties),
+                    "icysixel_refine_palette", pixels, 4 * len(pixels), most, colors, 256, found,
+                    len(pixels), ctypes.byref(properties),
                 )
                 self.assertLessEqual(100 * properties.error, 101 * ERRORS[name][most])
 
@@ -288,9 +280,8 @@ class PaletteTest(unittest.TestCase):
     def check_refined(self, pixels, most, colors):
         """Checks the refined palette of a row of pixels, and the output in it."""
         data, count = bytes(itertools.chain(*pixels)), len(pixels)
-        parts, witnesses = (ctypes.create_string_buffer(3 * 257) for _ in range(2))
-        found, properties = ctypes.create_string_buffer(count), Refined()
-        source, buffers = (data, len(data), most), (parts, 257, witnesses, 257, found, count)
+        parts, found = (ctypes.create_string_buffer(it) for it in (768, count))
+        source, buffers, properties = (data, len(data), most), (parts, 256, found, count), Refined()
         call("icysixel_refine_palette", *source, *buffers, ctypes.byref(properties))
         entries = [tuple(parts.raw[it : it + 3]) for it in range(0, 3 * properties.colors, 3)]
         self.assertEqual(sorted(entries), sorted(colors))
@@ -299,7 +290,6 @@ class PaletteTest(unittest.TestCase):
         picture = shown(entries, pixels, indices)
         pairs = [it for it in zip(picture, pixels) if it[0]]
         self.assertEqual(properties.error, sum(distance(*it) for it in pairs))
-        self.assertEqual(properties.witnesses, 0)
         for form in (PLAIN, COMPACT):
             encoding = Encoding(width=count, height=1, max_colors=most, form=form)
             self.assertEqual(drawn(encoded(data, encoding)), picture)

@@ -128,10 +128,8 @@ typedef struct {
 
 /* The properties of a refined palette, without its colors. */
 typedef struct {
-    size_t colors;    /* number of entries */
-    size_t witnesses; /* number of witnesses, or 0 */
-    uint64_t error;   /* the summed squared distances of opaque pixels to their nearest entries */
-    uint32_t apart;   /* the minimum squared distance of two witnesses, or 0 without any */
+    size_t colors;  /* number of entries */
+    uint64_t error; /* the summed squared distances of opaque pixels to their nearest entries */
 } icysixel_refined;
 
 /* How each pixel gets an entry of the palette. Zeros mean the nearest entry. An amount of 0 is 7
@@ -328,13 +326,6 @@ size_t icysixel_get_drawn_height(icysixel *handle);
  * The finished image may end above them, by icysixel_set_height. The number is 0 before the
  * payload, after an error, and if no image is open. It does not allocate. */
 size_t icysixel_get_rows_so_far(icysixel *handle);
-
-/* Returns the work of painting: how many columns of six pixels were written so far. A wide sixel
- * over columns that exist writes one number for each 128 of them, which counts as one column. The
- * 128 columns themselves are written when the band ends, and count then. The work is at most twice
- * the sum of the right edges of all bands of six rows, plus 1151 for each sixel. It is 0 if no
- * image is open, and after an error. */
-uint64_t icysixel_get_canvas_paints(icysixel *handle);
 
 /* Copies `rows` final rows of the open image, from row `first` on, to `buf`. The first of them
  * starts at buf[0]. Columns on the right of the image so far are background. If the layout says 0
@@ -555,19 +546,16 @@ uint32_t icysixel_choose_palette(const uint8_t *pixels, size_t length, uint16_t 
                                  uint8_t *indices, size_t index_capacity,
                                  icysixel_palette *palette);
 
-/* Refines a palette of pixels for a small summed squared error, with a certificate. It needs no
- * handle.
+/* Refines a palette of pixels for a small summed squared error. It needs no handle.
  *
  * The palette has at most max_colors entries, 1 to 256, each a color that a register can have. If
  * there are no more opaque colors than that, each has an entry: the color, rounded to percentages.
  * Otherwise the colors are cut into boxes where the error falls most, two rounds of Lloyd's
  * algorithm move the entries, and the last entries are chosen farthest first.
  *
- * The buffers receive what those of icysixel_choose_palette receive. A buffer is too small if
- * `colors` has fewer than max_colors, `witnesses` fewer than max_colors + 1, or `indices` fewer
- * than one byte for each pixel. For more than 256 colors 256 and 257 are enough. The witnesses are
- * a certificate for the last entries: for any palette with fewer entries than witnesses, some
- * witness is at a squared distance of at least `apart` / 4 from every entry.
+ * `colors` and `indices` receive what those of icysixel_choose_palette receive. A buffer is too
+ * small if `colors` has fewer than max_colors, or `indices` fewer than one byte for each pixel. For
+ * more than 256 colors 256 are enough.
  *
  * The errors, in this order, are:
  *
@@ -578,7 +566,6 @@ uint32_t icysixel_choose_palette(const uint8_t *pixels, size_t length, uint16_t 
  * - ICYSIXEL_OUT_OF_MEMORY. */
 uint32_t icysixel_refine_palette(const uint8_t *pixels, size_t length, uint16_t max_colors,
                                  icysixel_color *colors, size_t color_capacity,
-                                 icysixel_color *witnesses, size_t witness_capacity,
                                  uint8_t *indices, size_t index_capacity,
                                  icysixel_refined *refined);
 

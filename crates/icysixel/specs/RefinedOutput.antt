@@ -6,16 +6,14 @@ use Rattle.icysixel.specs.Colors.{first_colors}
 use Rattle.icysixel.specs.declared.refined.Refined.{Refined}
 use Rattle.icysixel.specs.declared.registers.Color.{Color}
 
--- the buffers begin with a refined palette of the pixels, its witnesses and the pixels' indices
+-- the buffers begin with a refined palette of the pixels and their indices
 pub record IsRefinedOutput (pixels : List ℕ) (max_colors : ℕ) (refined : Refined)
-    (colors witnesses : List Color) (indices : List ℕ) : Type 0 where
+    (colors : List Color) (indices : List ℕ) : Type 0 where
   pub palette : RefinedPalette
   pub is_refined : IsRefined pixels max_colors palette
   pub colors_written : first_colors refined.colors colors ≡ palette.colors.items
-  pub witnesses_written : first_colors refined.witnesses witnesses ≡ palette.witnesses.items
   pub indices_written : take (length pixels / 4) indices ≡ palette.indices.items
   pub error : refined.error ≡ palette.error
-  pub apart : refined.apart ≡ palette.apart
 
 -- how many entries a refined palette has at most
 abbrev pub refined_room : ℕ → ℕ

@@ -105,16 +105,13 @@ pub extern "C" fn icysixel_choose_palette(
     ensures no_indices { result ≢ 0 → indices.new ≡ indices.old }
     ensures told { result ≢ 0 → palette.new ≡ palette.old }
 {
-    let bytes = pixels.len();
-    let code = buffers_code(
-        bytes,
-        usize::from(max_colors.clamp(2, 256)),
-        colors.len(),
-        witnesses.len(),
-        indices.len(),
-    );
+    let most = usize::from(max_colors.clamp(2, 256));
+    let code = buffers_code(pixels.len(), most, colors.len(), indices.len());
     if code != Code::Success as u32 {
         return code;
+    }
+    if witnesses.len() <= most {
+        return Code::BufferTooSmall as u32;
     }
     match choose_palette(alloc, pixels, max_colors) {
         Ok(choice) => {
@@ -128,28 +125,20 @@ pub extern "C" fn icysixel_choose_palette(
 /// Returns success if the pixels are whole and the buffers are large enough.
 ///
 /// Else it returns the code of the error.
-pub fn buffers_code(
-    bytes: usize,
-    capacity: usize,
-    colors: usize,
-    witnesses: usize,
-    indices: usize,
-) -> u32
+pub fn buffers_code(bytes: usize, capacity: usize, colors: usize, indices: usize) -> u32
     ensures mismatch { bytes % 4 ≢ 0 → result ≡ 11 }
     ensures few_colors { bytes % 4 ≡ 0 → colors < capacity → result ≡ 6 }
-    ensures few_witnesses { bytes % 4 ≡ 0 → witnesses < capacity + 1 → result ≡ 6 }
     ensures few_indices { bytes % 4 ≡ 0 → indices < bytes / 4 → result ≡ 6 }
-    ensures enough { bytes % 4 ≡ 0 → capacity ≤ colors → capacity + 1 ≤ witnesses
-        → bytes / 4 ≤ indices → result ≡ 0 }
+    ensures enough { bytes % 4 ≡ 0 → capacity ≤ colors → bytes / 4 ≤ indices
+        → result ≡ 0 }
     ensures whole { result ≡ 0 → bytes % 4 ≡ 0 }
     ensures colors { result ≡ 0 → capacity ≤ colors }
-    ensures witnesses { result ≡ 0 → capacity + 1 ≤ witnesses }
     ensures indices { result ≡ 0 → bytes / 4 ≤ indices }
 {
     if bytes % 4 != 0 {
         return Code::BufferMismatch as u32;
     }
-    if colors < capacity || witnesses <= capacity || indices < bytes / 4 {
+    if colors < capacity || indices < bytes / 4 {
         return Code::BufferTooSmall as u32;
     }
     Code::Success as u32

@@ -1,9 +1,7 @@
 //! The calls that report the progress of the open image.
 
-ghost use Rattle.std.specs.Prelude.{◌≡◌, ◌≢◌, ◌+◌, ◌*◌, ◌≤◌, Some, None, ℕ, true, false, cond};
-ghost use Rattle.icy_sixel.specs.Receiver.{band_columns, drawn_height, in_payload, is_open};
-ghost use Rattle.icy_sixel.specs.Receiver.{least_band_count, most_run_paints, sixels};
-ghost use Rattle.icy_sixel.specs.Receiver.{size as size_of};
+ghost use Rattle.std.specs.Prelude.{◌≡◌, ◌≢◌, Some, None, ℕ, true, false, cond};
+ghost use Rattle.icy_sixel.specs.Receiver.{drawn_height, in_payload, is_open, size as size_of};
 ghost use Rattle.icysixel.specs.declared.state.State.{State};
 
 use crate::code::Code;
@@ -46,30 +44,6 @@ pub extern "C" fn icysixel_in_payload(slot: &mut Slot) -> u8
         return 0;
     }
     u8::from(slot.state().receiver.in_payload())
-}
-
-/// Returns how many columns and tags were painted, or 0.
-#[unsafe(no_mangle)]
-pub extern "C" fn icysixel_get_canvas_paints(slot: &mut Slot) -> u64
-    ensures same { slot.new.handle.state ≡ slot.old.handle.state }
-    ensures none { slot.old.handle.state ≡ None → result ≡ 0 }
-    ensures value { (state : State) → slot.old.handle.state ≡ Some state
-        → result ≡ state.receiver.image.paints }
-    ensures at_least { (state : State) → slot.old.handle.state ≡ Some state
-        → state.receiver.image.is_refused ≡ false
-        → least_band_count state.receiver.image.start.pixel_limit
-        state.receiver.image.form state.receiver.image.bytes ≤ result }
-    ensures at_most { (state : State) → slot.old.handle.state ≡ Some state
-        → result ≤ 2 * band_columns state.receiver.image.start.pixel_limit
-        state.receiver.image.form state.receiver.image.bytes
-        + most_run_paints * sixels state.receiver.image.form state.receiver.image.bytes }
-    ensures refused { (state : State) → slot.old.handle.state ≡ Some state
-        → state.receiver.image.is_refused ≡ true → result ≡ 0 }
-{
-    if !slot.is_held() {
-        return 0;
-    }
-    slot.state().receiver.canvas_paints()
 }
 
 /// Returns the last row of the open image with a set pixel, plus one, or 0.

@@ -68,12 +68,6 @@ pub struct RefinedPalette {
     pub indices: Vec<u8>,
     /// The sum over all opaque pixels of the squared distance to the nearest entry.
     pub error: u64,
-    /// The colors that the last entries are for, and then the farthest color, or none.
-    ///
-    /// Every two have at least the squared distance `apart`.
-    pub witnesses: Vec<[u8; 3]>,
-    /// The least squared distance of two witnesses, 0 without witnesses.
-    pub apart: u32,
 }
 
 /// Returns a refined palette of an image of RGBA pixels, four bytes each.
@@ -105,8 +99,6 @@ pub fn refine_palette(pixels: &[u8], max_colors: u16) -> Result<RefinedPalette> 
         colors: refined.colors.into_exact()?,
         indices: refined.indices.into_exact()?,
         error: refined.error,
-        witnesses: refined.witnesses.into_exact()?,
-        apart: refined.apart,
     })
 }
 

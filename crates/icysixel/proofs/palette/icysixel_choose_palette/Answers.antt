@@ -11,7 +11,7 @@ write_choice-requires c =
     let done = c.if-code.false in
     record {
       colors = omega (arith, few, c.buffers_code-code.ensures.colors done);
-      witnesses = omega (arith, witnesses, c.buffers_code-code.ensures.witnesses done);
+      witnesses = omega (arith, witnesses, c.if-witnesses-most.false);
       indices =
           omega (arith, c.in-Ok.ensures.indices.one_each, c.buffers_code-code.ensures.indices done);
     }
