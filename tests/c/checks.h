@@ -61,14 +61,14 @@ static inline icysixel_bytes text_of(struct bytes pixels, const icysixel_encodin
 /* All 256 registers of a decoder. */
 struct registers { icysixel_color colors[256]; };
 
-static inline struct registers registers_of(icysixel *decoder)
+static inline struct registers registers_of(const icysixel *decoder)
 {
     struct registers registers;
     CHECK(icysixel_get_registers(decoder, 0, registers.colors, 256) == ICYSIXEL_OK);
     return registers;
 }
 
-static inline bool has_registers(icysixel *decoder, const struct registers *expected)
+static inline bool has_registers(const icysixel *decoder, const struct registers *expected)
 {
     struct registers found = registers_of(decoder);
     return memcmp(&found, expected, sizeof found) == 0;
@@ -95,7 +95,8 @@ struct outcome {
 };
 
 /* Copies the stored image into the outcome if the code is that of success. */
-static inline struct outcome outcome_of(icysixel *decoder, uint32_t code, icysixel_shape shape)
+static inline struct outcome outcome_of(const icysixel *decoder, uint32_t code,
+                                        icysixel_shape shape)
 {
     struct outcome outcome = {code, shape, NULL};
     if (code != ICYSIXEL_OK) return outcome;

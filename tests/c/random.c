@@ -29,7 +29,7 @@ static void add(const void *bytes, size_t length)
 }
 
 /* The outcome of a call, which is added with the registers after it. */
-static struct outcome add_outcome(icysixel *decoder, uint32_t code, icysixel_shape shape)
+static struct outcome add_outcome(const icysixel *decoder, uint32_t code, icysixel_shape shape)
 {
     uint64_t numbers[] = {code, shape.width, shape.height, shape.drawn_height, shape.p1, shape.p2};
     struct outcome outcome = outcome_of(decoder, code, shape);

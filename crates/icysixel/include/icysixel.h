@@ -9,8 +9,8 @@
  * handle is valid and empty, and so is a handle after icysixel_free. Every function can be called
  * on an empty handle. It returns ICYSIXEL_NO_HANDLE, or 0 if it returns no code, except for
  * icysixel_is_empty. A function that returns nothing cannot fail: on an empty handle it does
- * nothing. Do not copy a handle and do not write to its members. A handle can be moved to another
- * address between calls.
+ * nothing. A call that takes a const handle changes nothing behind it. Do not copy a handle and do
+ * not write to its members. A handle can be moved to another address between calls.
  *
  * Ownership. icysixel_free frees all memory behind a handle. The library stores no pointer that the
  * caller passes. It copies input, and it copies pixels to the caller's buffers. Only
@@ -272,7 +272,7 @@ uint32_t icysixel_new(icysixel *handle);
 void icysixel_free(icysixel *handle);
 
 /* Returns 1 if the handle is empty, and 0 if it has a decoder. */
-uint8_t icysixel_is_empty(icysixel *handle);
+uint8_t icysixel_is_empty(const icysixel *handle);
 
 /* -- Streaming -- */
 
@@ -305,27 +305,27 @@ uint32_t icysixel_feed_band(icysixel *handle, const uint8_t *chunk, size_t lengt
                             icysixel_fed *fed);
 
 /* Returns 1 if an image is open: it was begun, and neither finished nor aborted. */
-uint8_t icysixel_is_receiving(icysixel *handle);
+uint8_t icysixel_is_receiving(const icysixel *handle);
 
 /* Returns 1 if the payload of the open image has begun and no feed has failed. */
-uint8_t icysixel_in_payload(icysixel *handle);
+uint8_t icysixel_in_payload(const icysixel *handle);
 
 /* Writes the size of the open image so far. The errors are ICYSIXEL_NO_SESSION if no image is open,
  * and ICYSIXEL_NO_SIZE before the payload and after an error. It does not allocate. */
-uint32_t icysixel_get_size_so_far(icysixel *handle, icysixel_size *size);
+uint32_t icysixel_get_size_so_far(const icysixel *handle, icysixel_size *size);
 
 /* Returns the last row of the open image with a set pixel, plus one. It is 0 if there is none, if
  * no image is open, and after an error. The height of an image with sixels and without raster
  * attributes is a multiple of six, and this number can be less. The shape of the finished image
  * has it too, or the height if the image ends above that row. It does not allocate. */
-size_t icysixel_get_drawn_height(icysixel *handle);
+size_t icysixel_get_drawn_height(const icysixel *handle);
 
 /* Returns how many rows from the top of the open image are final. No byte that follows changes a
  * pixel of these rows, and the number never becomes smaller while the image is open and no feed
  * fails. The image may still become wider, and then these rows show the background on the right.
  * The finished image may end above them, by icysixel_set_height. The number is 0 before the
  * payload, after an error, and if no image is open. It does not allocate. */
-size_t icysixel_get_rows_so_far(icysixel *handle);
+size_t icysixel_get_rows_so_far(const icysixel *handle);
 
 /* Copies `rows` final rows of the open image, from row `first` on, to `buf`. The first of them
  * starts at buf[0]. Columns on the right of the image so far are background. If the layout says 0
@@ -340,7 +340,7 @@ size_t icysixel_get_rows_so_far(icysixel *handle);
  *   SIZE_MAX bytes;
  * - ICYSIXEL_OVERFLOW if the rows overflow size_t;
  * - ICYSIXEL_BUFFER_TOO_SMALL. */
-uint32_t icysixel_copy_rows(icysixel *handle, size_t first, size_t rows,
+uint32_t icysixel_copy_rows(const icysixel *handle, size_t first, size_t rows,
                             const icysixel_layout *layout, uint8_t *buf, size_t size);
 
 /* Frees rows 0 to `rows` - 1 of the open image. Copy them first. A host that copies and frees after
@@ -388,15 +388,15 @@ uint32_t icysixel_decode_payload(icysixel *handle, const uint8_t *bytes, size_t 
  *   SIZE_MAX bytes;
  * - ICYSIXEL_OVERFLOW if the rows overflow size_t;
  * - ICYSIXEL_BUFFER_TOO_SMALL. */
-uint32_t icysixel_copy_pixels(icysixel *handle, size_t first, size_t rows,
+uint32_t icysixel_copy_pixels(const icysixel *handle, size_t first, size_t rows,
                               const icysixel_layout *layout, uint8_t *buf, size_t size);
 
 /* Transfers the pixels of the stored rows to the caller, with stride 0 and without a copy. `order`
  * is an enum icysixel_order. Red and blue are exchanged in place. The errors are
  * ICYSIXEL_BAD_OPTION and ICYSIXEL_NO_IMAGE. The call does not allocate, and does not free an
- * earlier block in `pixels`. Without a stored row `pixels` becomes zeros. The block stays valid after
- * icysixel_free. icysixel_free_bytes frees it, and so does free(pixels->data) with the default
- * memory functions. */
+ * earlier block in `pixels`. Without a stored row `pixels` becomes zeros. The block stays valid
+ * after icysixel_free. icysixel_free_bytes frees it, and so does free(pixels->data) with the
+ * default memory functions. */
 uint32_t icysixel_take_pixels(icysixel *handle, uint8_t order, icysixel_bytes *pixels);
 
 /* Frees a block that the library has transferred, if there is one, and zeroes `bytes`. The caller
@@ -409,7 +409,7 @@ void icysixel_discard_image(icysixel *handle);
 /* -- Registers and settings -- */
 
 /* Writes the color of a register, as the last finished image left it. */
-uint32_t icysixel_get_register(icysixel *handle, uint8_t number, icysixel_color *color);
+uint32_t icysixel_get_register(const icysixel *handle, uint8_t number, icysixel_color *color);
 
 /* Sets the color of a register, for images that are begun afterwards. */
 void icysixel_set_register(icysixel *handle, uint8_t number, uint8_t red, uint8_t green,
@@ -417,7 +417,7 @@ void icysixel_set_register(icysixel *handle, uint8_t number, uint8_t red, uint8_
 
 /* Writes the colors of the registers from `first` on to `colors`, which has `count` of them. It
  * stops after register 255. icysixel_get_registers(&handle, 0, colors, 256) writes all. */
-uint32_t icysixel_get_registers(icysixel *handle, uint8_t first, icysixel_color *colors,
+uint32_t icysixel_get_registers(const icysixel *handle, uint8_t first, icysixel_color *colors,
                                 size_t count);
 
 /* Sets the registers from `first` on to `count` colors, for images that are begun afterwards. A
@@ -430,7 +430,7 @@ void icysixel_set_registers(icysixel *handle, uint8_t first, const icysixel_colo
 void icysixel_reset_registers(icysixel *handle);
 
 /* Returns where images end, an enum icysixel_height. */
-uint8_t icysixel_get_height(icysixel *handle);
+uint8_t icysixel_get_height(const icysixel *handle);
 
 /* Sets where images end that are finished or decoded afterwards. `height` is an enum
  * icysixel_height; the error is ICYSIXEL_BAD_OPTION. Most images have a height that is no multiple
@@ -441,7 +441,7 @@ uint8_t icysixel_get_height(icysixel *handle);
 uint32_t icysixel_set_height(icysixel *handle, uint8_t height);
 
 /* Returns 1 if images of this handle are lenient. */
-uint8_t icysixel_get_lenient(icysixel *handle);
+uint8_t icysixel_get_lenient(const icysixel *handle);
 
 /* Sets whether images that are begun or decoded afterwards are lenient: 0 is off, any other number
  * is on. A command with a fault is then ignored, in place of an error. So a terminal shows what it
@@ -457,7 +457,7 @@ uint8_t icysixel_get_lenient(icysixel *handle);
 void icysixel_set_lenient(icysixel *handle, uint8_t on);
 
 /* Returns 1 if images have a transparent background whatever P2 says. */
-uint8_t icysixel_get_transparent(icysixel *handle);
+uint8_t icysixel_get_transparent(const icysixel *handle);
 
 /* Sets whether pixels that are not drawn are transparent in images that are begun or decoded
  * afterwards, whatever P2 says: 0 is off, any other number is on. `p2` of the shape stays that of
@@ -466,7 +466,7 @@ uint8_t icysixel_get_transparent(icysixel *handle);
 void icysixel_set_transparent(icysixel *handle, uint8_t on);
 
 /* Returns how many pixels an image can have, or 0 if the handle is empty. */
-size_t icysixel_get_limit(icysixel *handle);
+size_t icysixel_get_limit(const icysixel *handle);
 
 /* Sets how many pixels an image that is begun afterwards can have. 0 is taken as 1, and a number
  * above 67,108,864 as 67,108,864. */
@@ -474,7 +474,7 @@ void icysixel_set_limit(icysixel *handle, size_t pixels);
 
 /* Writes how many columns from the left and rows from the top an image can have: 1,000,000 each in
  * a new decoder, which clips nothing. */
-uint32_t icysixel_get_clip(icysixel *handle, icysixel_size *clip);
+uint32_t icysixel_get_clip(const icysixel *handle, icysixel_size *clip);
 
 /* Sets the columns and rows that an image that is begun afterwards can have. The image is the
  * picture restricted to them. What lies outside is not stored, and does not count for the limit of
