@@ -43,11 +43,19 @@ static icysixel_bytes text;
 /* Twelve columns of six red pixels, and four bytes that are not part of the image. */
 static const char red[] = "\033P9;1q#1;2;100;0;0!12~\033\\more";
 
+/* Whether a block of the library is aligned as those of malloc. */
+static bool is_aligned(icysixel_bytes block)
+{
+    return (uintptr_t)block.data % _Alignof(max_align_t) == 0;
+}
+
 /* Encodes pixels, and frees the text before. */
 static uint32_t encode(const uint8_t *pixels, size_t length, const icysixel_encoding *encoding)
 {
     icysixel_free_bytes(&text);
-    return icysixel_encode(pixels, length, encoding, &text);
+    uint32_t code = icysixel_encode(pixels, length, encoding, &text);
+    CHECK(is_aligned(text));
+    return code;
 }
 
 /* The red of register 1: 51 in a new decoder. */
@@ -379,7 +387,7 @@ static void test_take_pixels(void)
     CHECK(second.data == NULL && second.length == 0 && second.capacity == 0);
     CHECK(DECODE("\033P9;1q!5~\033\\") == OK && icysixel_take_pixels(h, 0, &second) == OK);
     icysixel_discard_image(h);
-    CHECK(IS_RED(first.data, 72));
+    CHECK(is_aligned(first) && is_aligned(second) && IS_RED(first.data, 72));
     memset(first.data, 7, first.capacity);
     icysixel_free_bytes(&first), icysixel_free_bytes(&first);
     CHECK(first.data == NULL && first.length == 0 && first.capacity == 0 && second.length == 120);

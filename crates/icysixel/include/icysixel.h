@@ -30,10 +30,10 @@
  *     icysixel_block rattle_realloc(uint8_t *at, size_t held, size_t size, size_t align);
  *     void rattle_dealloc(uint8_t *at);
  *
- * `given` says whether the allocation succeeded, and `at` is never null. `align` is at most 16.
- * `held` is the size of the block so far, and `size` the new one. The shared library always uses
- * malloc, and exports none of the three. If an allocation fails, the call returns
- * ICYSIXEL_OUT_OF_MEMORY. No function aborts the process.
+ * `given` says whether the allocation succeeded, and `at` is never null. `align` is at most 16, and
+ * 1 for a block that is transferred. `held` is the size of the block so far, and `size` the new
+ * one. The shared library always uses malloc, and exports none of the three. If an allocation
+ * fails, the call returns ICYSIXEL_OUT_OF_MEMORY. No function aborts the process.
  *
  * Sizes are in bytes unless a comment names another unit. A pixel is four bytes: red, green, blue
  * and alpha, unless an icysixel_encoding names another format. Pixels are stored row by row from
@@ -112,11 +112,12 @@ typedef struct {
     uint8_t blue;
 } icysixel_color;
 
-/* A block of memory that the library has transferred to the caller. Zeros mean no block. */
+/* A block of memory that the library has transferred to the caller. Zeros mean no block. With the
+ * default memory functions it is a block of malloc, and has the alignment of one. */
 typedef struct {
     uint8_t *data;
     size_t length;   /* bytes in use */
-    size_t capacity; /* bytes allocated, with an alignment of 1 */
+    size_t capacity; /* bytes allocated */
 } icysixel_bytes;
 
 /* The properties of a palette, without its colors. */

@@ -3,8 +3,8 @@
  * They are weak symbols: a program that defines these three functions itself uses its own. They are
  * hidden: a shared library that contains the archive does not export them, and does not take those
  * of another shared library. A result says whether the allocation succeeded, and where the block
- * is. After a failure it has the address of a static byte. The library needs no alignment above 16
- * bytes. */
+ * is. After a failure it has the address of a static byte. Each block is aligned as malloc's are,
+ * whatever alignment the library asks for. It needs none above 16 bytes. */
 #include <stdbool.h>
 #include <stddef.h>
 #include <stdint.h>
