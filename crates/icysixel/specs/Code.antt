@@ -1,8 +1,7 @@
 -- The numbers that C receives: a code for each cause of an error, and the status of a feed. They
 -- are this library's own, and include/icysixel.h names them. 8 is out of memory, 9 an overflow, and
 -- the codes from 10 on are errors of sizes and data.
-use Rattle.std.specs.Prelude.{◌≡◌, ℕ, nat_le, ℤ, pos, negsuc, Bool, IsTrue, if◌then◌else◌, ◌⊎◌}
-use Rattle.std.specs.Prelude.{Option, Some, None, IsSomeAnd}
+use Rattle.std.specs.Prelude.{◌≡◌, ℕ, nat_le, ℤ, pos, negsuc, if◌then◌else◌, Option, Some, None}
 use Rattle.sixel_base.specs.CallFault.{CallFault, Exactly, ColorCount, IndexRange, RowsNotFinal}
 use Rattle.sixel_base.specs.CallFault.{RowsReleased, ShortStride}
 use Rattle.sixel_base.specs.Fault.{Fault, text_of, Malformed, TooLarge, MissingCommand, BadHeader}
@@ -27,11 +26,6 @@ fault_code MissingCommand = 16
 fault_code Incomplete = 17
 fault_code StreamFailed = 2
 fault_code DcsStreamFailed = 2
-
--- a code that can be returned for a fault: its own, or out of memory if the call may allocate
-abbrev pub IsTold : ℕ → Bool → Option Fault → Type 0
-IsTold code may_want found =
-    ((code ≡ 8) × IsTrue may_want) ⊎ IsSomeAnd found (λ fault. code ≡ fault_code fault)
 
 -- the code of an error
 abbrev pub IsCodeOf : ℕ → SixelError → Type 0

@@ -1,9 +1,9 @@
 //! The numbers that C receives: result codes and statuses of a feed.
 
-ghost use Rattle.std.specs.Prelude.{◌≡◌, ◌≢◌, Bool, Option, Some, codes};
+ghost use Rattle.std.specs.Prelude.{◌≡◌, ◌≢◌};
 ghost use Rattle.sixel_base.specs.CallFault.{CallFault, IsCallFault};
-ghost use Rattle.sixel_base.specs.Fault.{Fault, Faults, IsFault, text_of};
-ghost use Rattle.icysixel.specs.Code.{IsCallCode, IsCodeOf, IsTold};
+ghost use Rattle.sixel_base.specs.Fault.{Fault, IsFault};
+ghost use Rattle.icysixel.specs.Code.{IsCallCode, IsCodeOf};
 ghost use Rattle.icysixel.specs.Code.{fault_code, status_code, status_byte};
 
 use icy_sixel::script::Status;
@@ -77,8 +77,6 @@ pub enum FeedStatus {
 /// The code of an error.
 pub fn code_of(error: &SixelError) -> u32
     ensures fault { (fault : Fault) → IsFault error.now fault → result ≡ fault_code fault }
-    ensures told { (may_want : Bool) (found : Option Fault) → Faults error.now may_want found
-        → IsTold result may_want found }
     ensures code { IsCodeOf result error.now }
     ensures call { (fault : CallFault) → IsCallFault error.now fault → IsCallCode result fault }
     ensures memory { error.now ≡ SixelError.OutOfMemory → result ≡ 8 }
@@ -88,44 +86,20 @@ pub fn code_of(error: &SixelError) -> u32
         SixelError::OutOfMemory => Code::OutOfMemory as u32,
         SixelError::NoSixelData => Code::NoSixelData as u32,
         SixelError::IntegerOverflow => Code::Overflow as u32,
-        SixelError::InvalidData(text) => text_code(text),
         SixelError::InvalidDimensions { .. } => Code::BadDimensions as u32,
         SixelError::BufferSizeMismatch { .. } => Code::BufferMismatch as u32,
-    }
-}
-
-/// The code of an invalid argument or of invalid data, by their text.
-fn text_code(text: &str) -> u32
-    ensures fault { (fault : Fault) → text_of fault ≡ Some text.now → result ≡ fault_code fault }
-    ensures count { text.now ≡ codes "number of colors is not 1 to 256" → result ≡ 20 }
-    ensures index { text.now ≡ codes "palette index out of range" → result ≡ 21 }
-    ensures not_final { text.now ≡ codes "rows are not final" → result ≡ 22 }
-    ensures released { text.now ≡ codes "rows were released" → result ≡ 23 }
-    ensures stride { text.now ≡ codes "stride is shorter than a row" → result ≡ 7 }
-    ensures refused { result ≢ 0 }
-{
-    match text {
-        error::COLOR_COUNT => Code::ColorCount as u32,
-        error::INDEX_RANGE => Code::IndexRange as u32,
-        error::ROWS_NOT_FINAL => Code::RowsNotFinal as u32,
-        error::ROWS_RELEASED => Code::RowsReleased as u32,
-        error::SHORT_STRIDE => Code::BadStride as u32,
-        _ => data_code(text),
-    }
-}
-
-/// The code of invalid data, by their text: that of malformed data, unless it is another one.
-fn data_code(text: &str) -> u32
-    ensures fault { (fault : Fault) → text_of fault ≡ Some text.now → result ≡ fault_code fault }
-    ensures refused { result ≢ 0 }
-{
-    match text {
-        error::TOO_LARGE => Code::TooLarge as u32,
-        error::BAD_HEADER => Code::BadHeader as u32,
-        error::MISSING_COMMAND => Code::MissingCommand as u32,
-        error::INCOMPLETE => Code::Incomplete as u32,
-        error::STREAM_FAILED | error::DCS_STREAM_FAILED => Code::NoSession as u32,
-        _ => Code::Malformed as u32,
+        SixelError::InvalidData(error::TOO_LARGE) => Code::TooLarge as u32,
+        SixelError::InvalidData(error::BAD_HEADER) => Code::BadHeader as u32,
+        SixelError::InvalidData(error::MISSING_COMMAND) => Code::MissingCommand as u32,
+        SixelError::InvalidData(error::INCOMPLETE) => Code::Incomplete as u32,
+        SixelError::InvalidData(error::STREAM_FAILED) => Code::NoSession as u32,
+        SixelError::InvalidData(error::DCS_STREAM_FAILED) => Code::NoSession as u32,
+        SixelError::InvalidData(error::COLOR_COUNT) => Code::ColorCount as u32,
+        SixelError::InvalidData(error::INDEX_RANGE) => Code::IndexRange as u32,
+        SixelError::InvalidData(error::ROWS_NOT_FINAL) => Code::RowsNotFinal as u32,
+        SixelError::InvalidData(error::ROWS_RELEASED) => Code::RowsReleased as u32,
+        SixelError::InvalidData(error::SHORT_STRIDE) => Code::BadStride as u32,
+        SixelError::InvalidData(_) => Code::Malformed as u32,
     }
 }
 
