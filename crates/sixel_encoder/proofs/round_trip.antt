@@ -1,6 +1,7 @@
 pub mod DcsText
 pub mod Digits
 pub mod DrawnHeight
+pub mod ExactText
 pub mod Extent
 pub mod MarkSteps
 pub mod PenSteps

@@ -1,9 +1,13 @@
 -- The text of an image in a refined palette.
-use Rattle.std.specs.Prelude.{◌≡◌, ℕ, ◌<◌, ◌++◌, ◌∷◌, [], List, length, slice_index_or, Some}
+use Rattle.std.specs.Prelude.{◌≡◌, ℕ, ◌/◌, ◌<◌, ◌++◌, ◌∷◌, [], List, length, slice_index_or, Some}
+use Rattle.std.specs.Prelude.{None}
 use Rattle.sixel_base.specs.Payload.{Image}
+use Rattle.sixel_palette.specs.Palette.{IsOpaque, color_at}
 use Rattle.sixel_palette.specs.Refined.{IsRefined}
+use Rattle.sixel_palette.specs.declared.dither.Dither.TheVariants.{Off}
 use Rattle.sixel_palette.specs.declared.palette.refined.RefinedPalette.{RefinedPalette}
 use Rattle.sixel_palette.specs.declared.mapping.Mapping.{Mapping}
+use Rattle.sixel_palette.specs.declared.mapping.Tolerance.TheVariants.{Squared}
 use Rattle.sixel_encoder.specs.declared.form.TextForm.{TextForm}
 use Rattle.sixel_encoder.specs.IndexedDrawing.{IsPaletteText, indexed_drawing}
 use Rattle.sixel_encoder.specs.Text.{Drawing}
@@ -14,6 +18,17 @@ abbrev pub ShowsEntries : Drawing → Type 0
 ShowsEntries drawing =
     (entry : ℕ) → entry < length drawing.colors
     → trip_pixel drawing (Some entry) ≡ slice_index_or drawing.colors entry [] ++ 255 ∷ []
+
+-- each opaque pixel of the image is read back in its very color
+abbrev pub ShowsPixels : Image → Drawing → Type 0
+ShowsPixels image drawing =
+    (pixel : ℕ) → pixel < length image.pixels / 4 → IsOpaque image.pixels pixel
+    → trip_pixel drawing (slice_index_or drawing.entries pixel None)
+    ≡ color_at image.pixels pixel ++ 255 ∷ []
+
+-- each pixel has its nearest entry
+abbrev pub no_mapping : Mapping
+no_mapping = record { dither = Off; tolerance = Squared 0 }
 
 -- the bytes are the text of the image in a refined palette, which a decoder shows unrounded
 pub record IsRefinedText (image : Image) (max_colors : ℕ) (mapping : Mapping) (form : TextForm)

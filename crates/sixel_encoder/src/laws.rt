@@ -9,7 +9,8 @@ ghost use Rattle.sixel_base.specs.Decoder.{new_decoder, origin_of};
 ghost use Rattle.sixel_base.specs.declared.state.DecoderState.{DecoderState};
 ghost use Rattle.sixel_base.specs.Size.{banded};
 ghost use Rattle.sixel_base.specs.Payload.{Image, payload_fault, payload_image};
-ghost use Rattle.sixel_palette.specs.Refined.{percentage};
+ghost use Rattle.sixel_palette.specs.Palette.{HasSize, IsShown};
+ghost use Rattle.sixel_palette.specs.Refined.{IsRegisterColor, percentage};
 ghost use Rattle.sixel_encoder.specs.Text.{Drawing, parameters_text, text_of};
 ghost use Rattle.sixel_encoder.specs.Encoding.{image_fault, IsDrawing, IsText, shown_image};
 ghost use Rattle.sixel_base.specs.Dcs.{Reading, stage};
@@ -19,7 +20,8 @@ ghost use Rattle.sixel_encoder.specs.Compact.{compact_text};
 ghost use Rattle.sixel_palette.specs.declared.mapping.Mapping.{Mapping};
 ghost use Rattle.sixel_encoder.specs.declared.form.TextForm.{TextForm};
 ghost use Rattle.sixel_encoder.specs.Marks.{IsDrawnText};
-ghost use Rattle.sixel_encoder.specs.RefinedText.{IsRefinedText};
+ghost use Rattle.sixel_encoder.specs.IndexedDrawing.{indexed_drawing};
+ghost use Rattle.sixel_encoder.specs.RefinedText.{IsRefinedText, ShowsPixels, no_mapping};
 ghost use Rattle.sixel_encoder.specs.Trip.{IsWritable, payload_text, drawing_settings, rounded};
 ghost use Rattle.sixel_encoder.specs.Trip.{trip, CanRead, CanShow, IsTrip, IsReadAs, IsOneString};
 
@@ -154,4 +156,16 @@ pub fn refined_text()
         (text : List ℕ) → image_fault image ≡ None → shown_image image ≡ shown_image other
         → IsRefinedText image max_colors mapping form text
         → IsRefinedText other max_colors mapping form text }
+{}
+
+/// States that a refined output shows few colors of registers unchanged.
+///
+/// [`count_colors`](sixel_palette::palette::count_colors) returns how many colors an image has, and
+/// whether registers show them. Each opaque pixel is read back in its very color then.
+pub fn exact_text()
+    ensures { (image : Image) (max_colors n : ℕ) (form : TextForm) (text : List ℕ)
+        → image_fault image ≡ None → HasSize (IsShown image.pixels) n → n ≤ max_colors
+        → ((c : List ℕ) → IsShown image.pixels c → IsRegisterColor c)
+        → (is : IsRefinedText image max_colors no_mapping form text)
+        → ShowsPixels image (indexed_drawing image is.palette.colors.items is.text.indices) }
 {}
