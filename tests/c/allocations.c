@@ -31,7 +31,7 @@ struct call {
 enum {
     DECODE, CLIPPED, DECODE_PAYLOAD, DECODE_TAGS, OF_DCS, OF_PAYLOAD, OF_TAGS, IN_BANDS,
     ENCODE_16, ENCODE_64, COMPACT, REFINED, REFINED_PLAIN, REFINED_ORDERED, IN_PALETTE, BGRA, RGB,
-    DENSE_BGR, INDEXED, CLEAR, CHOOSE, REFINE, NEAREST, ORDERED, DIFFUSED, NEW,
+    DENSE_BGR, INDEXED, CLEAR, CHOOSE, REFINE, NEAREST, ORDERED, DIFFUSED, COUNT, NEW,
 };
 
 /* Wide runs over drawn pixels, which set tags, also in chunks. */
@@ -147,12 +147,13 @@ static uint32_t make_text(icysixel *h, int kind, struct bytes *made)
     return code;
 }
 
-/* Finds a palette, or indices in a palette of two colors. The indices are compared. */
+/* Finds a palette, counts colors, or finds indices in a palette of two. Indices are compared. */
 static uint32_t make_palette(icysixel *h, int kind, struct bytes *made)
 {
     icysixel_color colors[16], witnesses[17];
     icysixel_palette chosen = {0};
     icysixel_refined refined = {0};
+    icysixel_distinct distinct;
     uint8_t indices[sizeof pixels / 4] = {0};
     size_t size = sizeof pixels, count = sizeof indices;
     const icysixel_color *two = encodings[IN_PALETTE].colors;
@@ -164,6 +165,7 @@ static uint32_t make_palette(icysixel *h, int kind, struct bytes *made)
                                                    indices, count, &chosen)
         : kind == REFINE ? icysixel_refine_palette(pixels, size, 16, colors, 16, indices, count,
                                                    &refined)
+        : kind == COUNT ? icysixel_count_colors(pixels, size, &distinct)
         : icysixel_palette_indices(pixels, size, 32, two, 2, dithering, 0, indices, count);
     CHECK(chosen.colors + refined.colors == (code == ICYSIXEL_OK && kind < NEAREST ? 16 : 0));
     append(made, indices, code == ICYSIXEL_OK ? count : 0);
@@ -187,7 +189,8 @@ static const struct call calls[] = {
     CALL(text, REFINED), CALL(text, REFINED_PLAIN), CALL(text, REFINED_ORDERED),
     CALL(text, IN_PALETTE), CALL(text, BGRA), CALL(text, RGB), CALL(text, DENSE_BGR),
     CALL(text, INDEXED), CALL(text, CLEAR), CALL(palette, CHOOSE), CALL(palette, REFINE),
-    CALL(palette, NEAREST), CALL(palette, ORDERED), CALL(palette, DIFFUSED), CALL(new, NEW),
+    CALL(palette, NEAREST), CALL(palette, ORDERED), CALL(palette, DIFFUSED), CALL(palette, COUNT),
+    CALL(new, NEW),
 };
 
 /* A decoder with a register that no new one has, and an image. */

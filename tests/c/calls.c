@@ -4,7 +4,8 @@
 _Static_assert(sizeof(icysixel) == 16 && sizeof(icysixel_fed) == 16 && sizeof(icysixel_size) == 16
     && sizeof(icysixel_shape) == 72 && sizeof(icysixel_color) == 3 && sizeof(icysixel_bytes) == 24
     && sizeof(icysixel_palette) == 24 && sizeof(icysixel_refined) == 16
-    && sizeof(icysixel_dithering) == 2 && sizeof(icysixel_encoding) == 808
+    && sizeof(icysixel_distinct) == 4 && sizeof(icysixel_dithering) == 2
+    && sizeof(icysixel_encoding) == 808
     && sizeof(icysixel_layout) == 24, "the sizes of the structs");
 
 /* Checks that a call returns the code of this name. */
@@ -881,6 +882,28 @@ static void test_palettes(void)
     CHECK(memcmp(of.c, "\5\0\0\377\377\377\7", 7) == 0 && memcmp(of.i, "\1\0\0\0\7", 5) == 0);
 }
 
+/* Percentages are exact: 51 is 20, and 52 is none. Of 300 colors 257 are counted. */
+static void test_distinct(void)
+{
+    static const uint8_t three[] = {255, 0, 0, 255, 51, 0, 0, 128, 52, 0, 0, 127};
+    static uint8_t many[1200];
+    icysixel_distinct d;
+    RETURNS(OK, icysixel_count_colors(NULL, 0, &d));
+    CHECK(d.count == 0 && d.are_exact == 1);
+    RETURNS(OK, icysixel_count_colors(three, 12, &d));
+    CHECK(d.count == 2 && d.are_exact == 1);
+    RETURNS(OK, icysixel_count_colors(three + 4, 8, &d));
+    CHECK(d.count == 1 && d.are_exact == 1);
+    RETURNS(OK, icysixel_count_colors((const uint8_t[]){52, 0, 0, 128}, 4, &d));
+    CHECK(d.count == 1 && d.are_exact == 0);
+    for (size_t i = 0; i < 300; i++)
+        memcpy(many + 4 * i, (uint8_t[]){(uint8_t)i, 0, (uint8_t)(i / 256), 255}, 4);
+    for (size_t i = 255; i <= 300; i++) {
+        RETURNS(OK, icysixel_count_colors(many, 4 * i, &d));
+        CHECK(d.count == (i < 257 ? i : 257) && d.are_exact == 0);
+    }
+}
+
 /* The text of each code, in buffers that are large enough and one byte too small. */
 static void test_code_texts(void)
 {
@@ -914,7 +937,7 @@ int main(void)
         TEST(take_no_pixels),
         TEST(registers), TEST(settings), TEST(encode), TEST(shapes),
         TEST(encodings), TEST(options), TEST(formats), TEST(widest), TEST(palettes), TEST(indices),
-        TEST(tolerance), TEST(code_texts), TEST(version),
+        TEST(tolerance), TEST(distinct), TEST(code_texts), TEST(version),
     };
     for (size_t i = 0; i < COUNT_OF(tests); i++) subject = tests[i].name, tests[i].test();
     icysixel_free_bytes(&text);

@@ -133,6 +133,12 @@ typedef struct {
     uint64_t error; /* the summed squared distances of opaque pixels to their nearest entries */
 } icysixel_refined;
 
+/* The different colors of opaque pixels. */
+typedef struct {
+    uint16_t count;    /* how many there are, where 257 means more than 256 */
+    uint8_t are_exact; /* 1 if each is a color that a register can have, else 0 */
+} icysixel_distinct;
+
 /* How each pixel gets an entry of the palette. Zeros mean the nearest entry. An amount of 0 is 7
  * for diffusion, and for the pattern the square root of the palette's mean squared error. */
 typedef struct {
@@ -569,6 +575,13 @@ uint32_t icysixel_refine_palette(const uint8_t *pixels, size_t length, uint16_t 
                                  icysixel_color *colors, size_t color_capacity,
                                  uint8_t *indices, size_t index_capacity,
                                  icysixel_refined *refined);
+
+/* Counts the different colors of opaque pixels, whose alpha is at least 128. It needs no handle.
+ *
+ * If there are at most 256 and all are exact, a refined palette without dithering and tolerance has
+ * them all. Then a decoder returns each opaque pixel as it is. An image that was defined in RGB has
+ * exact colors. Of the colors defined in HLS few are. The only error is ICYSIXEL_OUT_OF_MEMORY. */
+uint32_t icysixel_count_colors(const uint8_t *pixels, size_t length, icysixel_distinct *distinct);
 
 /* Writes the palette index of each pixel in a given palette of 1 to 256 colors. It needs no handle.
  *

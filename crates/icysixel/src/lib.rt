@@ -7,6 +7,7 @@
 pub mod buffer_layout;
 mod bytes;
 mod code;
+pub mod distinct;
 pub mod encode;
 pub mod encoding;
 pub mod final_rows;
