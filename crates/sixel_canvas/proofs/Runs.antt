@@ -3,7 +3,7 @@ use Rattle.std.proofs.Common.{◌≡◌, ℕ, ◌+◌, ◌*◌, ◌<◌, ◌≤�
 use Rattle.std.proofs.Common.{length, take, length-take, arith}
 use Rattle.sixel_canvas.specs.inside.BandCanvas.{IsPaid}
 use Rattle.sixel_canvas.specs.inside.Drawn.{Run, band_edge, drawn_columns, lowest_top, right_edge}
-use Rattle.sixel_canvas.specs.inside.Drawn.{run, runs_cost, runs_paint, with_sixels}
+use Rattle.sixel_canvas.specs.inside.Drawn.{rows_above, run, runs_cost, runs_paint, with_sixels}
 use Rattle.sixel_canvas.specs.inside.Paints.{counted}
 use Rattle.std.proofs.lemmas.Bool.Decides.{nat_tests}
 
@@ -17,6 +17,7 @@ record AreDrawn (from : ℕ) (sixels : List ℕ) (top : ℕ) (runs all : List Ru
   kept : band_edge runs top ≤ band_edge all top
   cost : runs_cost all ≤ runs_cost runs + length sixels
   others : (row : ℕ) → top < row → band_edge all row ≡ band_edge runs row
+  above : rows_above all top ≡ rows_above runs top
   spent : 2 * drawn_columns runs + runs_paint runs + 640 * length sixels + band_edge all top
       ≤ 2 * drawn_columns all + runs_paint all + band_edge runs top
 
@@ -38,6 +39,11 @@ pub lowest_here : (from : ℕ) (sixels : List ℕ) (top : ℕ) (runs : List Run)
     len ≤ length sixels → top ≤ lowest_top (with_sixels from (take len sixels) top runs)
 lowest_here from sixels top runs len some few =
     let all = are_drawn from (take len sixels) top runs in grind (arith, nat_tests, length-take)
+
+-- the rows of the bands above them
+pub above_here : (from : ℕ) (sixels : List ℕ) (top : ℕ) (runs : List Run)
+    → rows_above (with_sixels from sixels top runs) top ≡ rows_above runs top
+above_here from sixels top runs = (are_drawn from sixels top runs).above
 
 pub paid-sixels :
     (cap cap' painted painted' extent extent' tagged tagged' top from len : ℕ) (sixels : List ℕ)

@@ -5,7 +5,8 @@ ghost use Rattle.sixel_canvas.specs.Layout.{AreCopied, AreRowsIn};
 ghost use Rattle.sixel_canvas.specs.inside.Band.{cell};
 ghost use Rattle.sixel_canvas.specs.inside.BandCanvas.{above_band, band_canvas_held};
 ghost use Rattle.sixel_canvas.specs.inside.BandCanvas.{band_canvas_shown};
-ghost use Rattle.sixel_canvas.specs.inside.BandCanvas.{AreMoved, IsLaidOut, IsPaid};
+ghost use Rattle.sixel_canvas.specs.inside.BandCanvas.{AreMoved, AreStored, IsLaidOut};
+ghost use Rattle.sixel_canvas.specs.inside.BandCanvas.{IsPaid};
 ghost use Rattle.sixel_canvas.specs.inside.Drawn.{Run};
 ghost use Rattle.sixel_canvas.specs.inside.RowsState.{final, stored_area};
 ghost use Rattle.sixel_canvas.specs.inside.Paints.{counted};
@@ -68,7 +69,8 @@ impl Canvas for BandCanvas {
 
     ghost paid = { λ canvas named runs. IsPaid (capacity canvas.band) canvas.band.painted
         canvas.band.pixels.extent canvas.band.tags.extent canvas.top runs
-        × AreMoved canvas named runs };
+        × AreMoved canvas named runs
+        × AreStored canvas runs };
 
     fn new(alloc: Global, background: [u8; 4]) -> BandCanvas {
         BandCanvas {
@@ -188,6 +190,7 @@ impl BandCanvas {
         ensures writes { self.new.rows.moved ≡ self.old.rows.moved }
         ensures moved { (named : ℕ) (runs : List Run) → AreMoved self.old named runs
             → AreMoved self.new named runs }
+        ensures stored { (runs : List Run) → AreStored self.old runs → AreStored self.new runs }
         ensures room { self.old.band.pixels.extent ≡ 0
             → self.old.released + self.old.rows.rows ≤ rows → self.new.rows.room ≡ 0 }
     {
@@ -234,6 +237,10 @@ impl BandCanvas {
         ensures extent { OnOk result (self.new.band.pixels.extent ≡ self.old.band.pixels.extent) }
         ensures tagged { OnOk result (self.new.band.tags.extent ≡ self.old.band.tags.extent) }
         ensures painted { OnOk result (self.new.band.painted ≡ self.old.band.painted) }
+        ensures rows { OnOk result (self.new.rows.rows ≡ self.old.rows.rows) }
+        ensures moved { OnOk result (counted self.old.rows.moved
+            (if nat_lt self.old.rows.width columns then self.old.rows.rows * columns else 0)
+            ≤ self.new.rows.moved) }
         ensures laid { OnOk result ((width : ℕ) → columns ≤ width → IsLaidOut self.old width
             → IsLaidOut self.new width) }
     {
@@ -260,6 +267,10 @@ impl BandCanvas {
         ensures extent { OnOk result (self.new.band.pixels.extent ≡ self.old.band.pixels.extent) }
         ensures tagged { OnOk result (self.new.band.tags.extent ≡ self.old.band.tags.extent) }
         ensures painted { OnOk result (self.new.band.painted ≡ self.old.band.painted) }
+        ensures rows { OnOk result (self.new.rows.rows ≡ self.old.rows.rows) }
+        ensures moved { OnOk result (counted self.old.rows.moved
+            (if nat_lt self.old.rows.width columns then self.old.rows.rows * columns else 0)
+            ≤ self.new.rows.moved) }
         ensures laid { OnOk result ((width : ℕ) → columns ≤ width → IsLaidOut self.old width
             → IsLaidOut self.new width) }
     {
@@ -291,6 +302,9 @@ impl BandCanvas {
         ensures counted { counted self.old.band.painted 0 ≤ self.new.band.painted }
         ensures moved { (named : ℕ) (runs : List Run) → AreMoved self.old named runs
             → AreMoved self.new named runs }
+        ensures stored { self.new.released + self.new.rows.rows
+            ≡ (if nat_lt 0 self.old.band.pixels.extent then self.old.top + 6
+            else self.old.released + self.old.rows.rows) }
     {
         if self.band.extent() > 0 {
             let width = self.expected_width;

@@ -5,7 +5,7 @@
 use Rattle.std.specs.Prelude.{ℕ, suc, ◌+◌, ◌-◌, ◌*◌, ◌/◌, ◌==◌, ◌&&◌, min, max, nat_lt}
 use Rattle.std.specs.Prelude.{if◌then◌else◌, List, [], ◌∷◌, Option, Some, None}
 use Rattle.sixel_base.specs.Clip.{clipped_bits, clipped_width, is_inside}
-use Rattle.sixel_base.specs.History.{Sixel, History}
+use Rattle.sixel_base.specs.History.{Raster, Sixel, History}
 use Rattle.sixel_base.specs.Limits.{Limit}
 use Rattle.sixel_base.specs.Payload.{settled, settled_tokens}
 use Rattle.sixel_base.specs.Place.{across, down, span}
@@ -90,6 +90,42 @@ band_room limit history = 12 * clipped_width limit history + 96
 abbrev pub most_row_writes : ℕ
 most_row_writes = 4
 
+-- how many rows there are down to the last band above this row with a set pixel
+abbrev pub rows_above : Limit → History → ℕ → ℕ
+rows_above limit [] top = 0
+rows_above limit (Sixel bits ∷ older) top =
+    if is_inside limit older && nat_lt (down older) top
+    && nat_lt 0 (clipped_bits limit (down older) bits)
+    then max (rows_above limit older top) (down older + 6)
+    else rows_above limit older top
+rows_above limit (_ ∷ older) top = rows_above limit older top
+
+-- the greatest width of the picture inside the clip after raster attributes, 0 where there are none
+abbrev pub named_width : Limit → History → ℕ
+named_width limit [] = 0
+named_width limit (Raster text ∷ older) =
+    max (named_width limit older) (clipped_width limit (Raster text ∷ older))
+named_width limit (_ ∷ older) = named_width limit older
+
+-- how many pixels a canvas of one band writes at least as rows become wider, where raster
+-- attributes name this width, and rows above `released` are released: for each sixel that reaches
+-- more than twice as far as the picture is wide, its right edge in each row of the bands above it
+abbrev pub least_row_writes : Limit → ℕ → ℕ → History → ℕ
+least_row_writes limit named released [] = 0
+least_row_writes limit named released (Sixel bits ∷ older) =
+    least_row_writes limit named released older
+    + (if is_inside limit older && nat_lt 0 (clipped_bits limit (down older) bits)
+    && nat_lt (2 * max named (clipped_width limit older))
+    (min (across older + span older) limit.columns)
+    then (rows_above limit older (down older) - released)
+    * min (across older + span older) limit.columns else 0)
+least_row_writes limit named released (_ ∷ older) = least_row_writes limit named released older
+
+-- the least count of these, which stays at the greatest number of 64 bits
+abbrev pub least_write_count : Limit → ℕ → History → ℕ
+least_write_count limit released history =
+    min (least_row_writes limit (named_width limit history) released history) 0xffff_ffff_ffff_ffff
+
 -- how many pixels a picture of this size has, if there is one
 abbrev pub area_of : Option (ℕ × ℕ) → ℕ
 area_of None = 0
@@ -101,6 +137,10 @@ payload_least_count limit bytes = least_count limit (settled_tokens limit bytes)
 
 abbrev pub payload_least_band_count : Limit → List ℕ → ℕ
 payload_least_band_count limit bytes = least_band_count limit (settled_tokens limit bytes)
+
+abbrev pub payload_least_writes : Limit → ℕ → List ℕ → ℕ
+payload_least_writes limit released bytes =
+    least_write_count limit released (settled_tokens limit bytes)
 
 abbrev pub payload_band_columns : Limit → List ℕ → ℕ
 payload_band_columns limit bytes = band_columns limit (settled_tokens limit bytes)
@@ -125,6 +165,13 @@ abbrev pub stage_least_band_count : Limit → Stage → ℕ
 stage_least_band_count limit Heading = 0
 stage_least_band_count limit (Failing fault) = 0
 stage_least_band_count limit (Reading settings payload) = payload_least_band_count limit payload
+
+-- how many pixels its canvas writes at least as rows become wider, where so many are released
+abbrev pub stage_least_writes : Limit → ℕ → Stage → ℕ
+stage_least_writes limit released Heading = 0
+stage_least_writes limit released (Failing fault) = 0
+stage_least_writes limit released (Reading settings payload) =
+    payload_least_writes limit released payload
 
 -- the columns of its bands
 abbrev pub stage_band_columns : Limit → Stage → ℕ

@@ -3,8 +3,8 @@
 use Rattle.std.specs.Prelude.{ℕ, ◌≡◌, ◌+◌, ◌*◌, ◌≤◌, true, false, Option, None}
 use Rattle.sixel_decoder.specs.Paints.{area_of, most_row_writes, most_run_paints, most_sixel_paints}
 use Rattle.sixel_decoder.specs.Reception.{Reception, band_columns, band_room, drawn_height}
-use Rattle.sixel_decoder.specs.Reception.{least_band_count, least_count, painted_area, size}
-use Rattle.sixel_decoder.specs.Reception.{sixels}
+use Rattle.sixel_decoder.specs.Reception.{least_band_count, least_count, least_writes, painted_area}
+use Rattle.sixel_decoder.specs.Reception.{size, sixels}
 
 -- This number of pixels was copied or filled to grow a canvas of rows.
 pub record IsWriteCount (image : Reception) (writes : ℕ) : Type 0 where
@@ -37,6 +37,9 @@ pub record IsPaintCount (image : Reception) (paints : ℕ) : Type 0 where
 pub record IsBandWriteCount (image : Reception) (writes : ℕ) : Type 0 where
   -- the number that contracts see of the image
   pub value : writes ≡ image.writes
+  -- at least the rows above each sixel that is more than twice as wide as the image was
+  pub at_least : image.is_refused ≡ false → least_writes image.start.pixel_limit image.released
+      image.form image.bytes ≤ writes
   -- at most four times the pixels of the image so far
   pub at_most : writes ≤ most_row_writes
       * area_of (size image.start.pixel_limit image.form image.bytes)

@@ -14,7 +14,7 @@ use Rattle.sixel_base.specs.Settings.{Settings}
 use Rattle.sixel_base.specs.declared.state.DecoderState.{DecoderState}
 use Rattle.sixel_decoder.specs.FinalRows.{stage_final_rows}
 use Rattle.sixel_decoder.specs.Paints.{stage_band_columns, stage_band_room, stage_least_count}
-use Rattle.sixel_decoder.specs.Paints.{stage_least_band_count, stage_sixels}
+use Rattle.sixel_decoder.specs.Paints.{stage_least_band_count, stage_least_writes, stage_sixels}
 use Rattle.sixel_decoder.specs.Session.{Session, DcsSession, decoder_of}
 
 -- what is received: nothing, a payload that is read with these settings, or a DCS sequence
@@ -112,6 +112,9 @@ least_count limit form bytes = stage_least_count limit (stage_of form bytes)
 
 abbrev pub least_band_count : Limit → Form → List ℕ → ℕ
 least_band_count limit form bytes = stage_least_band_count limit (stage_of form bytes)
+
+abbrev pub least_writes : Limit → ℕ → Form → List ℕ → ℕ
+least_writes limit released form bytes = stage_least_writes limit released (stage_of form bytes)
 
 abbrev pub painted_area : Limit → Form → List ℕ → ℕ
 painted_area limit form bytes = stage_painted_area limit (stage_of form bytes)

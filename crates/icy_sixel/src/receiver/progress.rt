@@ -18,6 +18,8 @@ impl SixelReceiver {
     /// not counted.
     ///
     /// It saturates, and is at most four times the pixels of the image so far, released or not.
+    /// It is at least the right edge of each sixel that reaches more than twice as far as the image
+    /// was wide, once for each row of the bands above it that is not released.
     pub fn canvas_writes(&self) -> u64
         ensures { IsBandWriteCount self.now.image result }
     {

@@ -3,8 +3,8 @@
 -- the band changes any more is DEC's manual's: a graphics new line goes down, and nothing goes up.
 use Rattle.std.specs.Prelude.{◌≡◌, ℕ, ◌+◌, ◌-◌, ◌*◌, ◌<◌, ◌≤◌, List, nat_lt, if◌then◌else◌}
 use Rattle.std.specs.Prelude.{length, max}
-use Rattle.sixel_canvas.specs.inside.Drawn.{Run, band_edge, drawn_columns, lowest_top, right_edge}
-use Rattle.sixel_canvas.specs.inside.Drawn.{runs_cost, runs_paint}
+use Rattle.sixel_canvas.specs.inside.Drawn.{Run, band_edge, drawn_columns, least_moved, lowest_top}
+use Rattle.sixel_canvas.specs.inside.Drawn.{right_edge, rows_above, runs_cost, runs_paint}
 use Rattle.sixel_canvas.specs.inside.Paints.{counted}
 use Rattle.sixel_canvas.specs.inside.TaggedBand.{TaggedState, tagged_cell}
 use Rattle.sixel_canvas.specs.inside.RowsState.{RowsState, final, stored_area}
@@ -96,7 +96,13 @@ abbrev pub least_width : ℕ → List Run → ℕ
 least_width named runs = max named (right_edge runs)
 
 -- What is true of a canvas that these runs were drawn on: pixels were written to give rows another
--- width at most four times for each pixel of the picture above the lowest band.
+-- width at most four times for each pixel of the picture above the lowest band, and at least for
+-- each run that was much wider than the rows.
 pub record AreMoved (canvas : BandCanvasState) (named : ℕ) (runs : List Run) : Type 0 where
   pub laid : IsLaidOut canvas (least_width named runs)
   pub few : canvas.rows.moved ≤ 4 * (lowest_top runs * least_width named runs)
+  pub many : counted 0 (least_moved named canvas.released runs) ≤ canvas.rows.moved
+
+-- The rows of each band above the canvas's own with a set pixel are stored, if not released.
+abbrev pub AreStored : BandCanvasState → List Run → Type 0
+AreStored canvas runs = rows_above runs canvas.top ≤ canvas.released + canvas.rows.rows

@@ -1,7 +1,7 @@
 -- What a canvas is drawn by: runs of a sixel, and eight sixels of one column each. A
 -- sixel's bits are DEC's, the least bit the top row's. That a canvas has a band of six rows, and
 -- goes on to the next at a graphics new line, is DEC's manual's as well.
-use Rattle.std.specs.Prelude.{ℕ, ◌+◌, ◌-◌, ◌/◌, ◌==◌, max, Bool, ◌&&◌, nat_le, nat_lt}
+use Rattle.std.specs.Prelude.{ℕ, ◌+◌, ◌-◌, ◌*◌, ◌/◌, ◌==◌, max, Bool, ◌&&◌, nat_le, nat_lt}
 use Rattle.std.specs.Prelude.{List, [], ◌∷◌, slice_index_or, if◌then◌else◌}
 use Rattle.sixel_base.specs.Picture.{is_struck}
 use Rattle.sixel_canvas.specs.inside.TaggedBand.{least_cost}
@@ -42,6 +42,24 @@ right_edge (newest ∷ runs) = max (right_edge runs) newest.to
 abbrev pub lowest_top : List Run → ℕ
 lowest_top [] = 0
 lowest_top (newest ∷ runs) = max (lowest_top runs) newest.top
+
+-- how many rows there are down to the last band above this row with a set pixel
+abbrev pub rows_above : List Run → ℕ → ℕ
+rows_above [] top = 0
+rows_above (newest ∷ runs) top =
+    if nat_lt newest.top top && nat_lt 0 newest.bits && nat_lt 0 newest.to
+    then max (rows_above runs top) (newest.top + 6)
+    else rows_above runs top
+
+-- how many pixels are written at least to give rows another width, where raster attributes name
+-- this width, and rows above `released` are not stored: for each run that reaches more than twice as
+-- far as the picture did, its right edge in each row of the bands above it
+abbrev pub least_moved : ℕ → ℕ → List Run → ℕ
+least_moved named released [] = 0
+least_moved named released (newest ∷ runs) =
+    least_moved named released runs
+    + (if nat_lt 0 newest.bits && nat_lt (2 * max named (right_edge runs)) newest.to
+    then (rows_above runs newest.top - released) * newest.to else 0)
 
 -- the greatest right edge in the band from this row on, 0 where nothing is set there
 abbrev pub band_edge : List Run → ℕ → ℕ

@@ -1,18 +1,22 @@
 -- What the runs of a history have cost a canvas of one band, against its sixels and its bands.
-use Rattle.std.proofs.Common.{◌≡◌, ℕ, ◌+◌, ◌*◌, ◌≤◌, ◌∷◌, [], None, refl, Some, arith}
+use Rattle.std.proofs.Common.{◌≡◌, ℕ, ◌+◌, ◌*◌, ◌<◌, ◌≤◌, ◌∷◌, [], None, refl}
+use Rattle.std.proofs.Common.{Some, arith}
 use Rattle.std.proofs.lemmas.Nat.{mul-le}
 use Rattle.sixel_base.specs.History.{History}
 use Rattle.sixel_base.specs.Limits.{Limit}
 use Rattle.sixel_base.specs.Clip.{clipped_height, clipped_width}
 use Rattle.sixel_base.specs.Payload.{first_fault}
 use Rattle.sixel_base.specs.PaintedArea.{size}
+use Rattle.sixel_base.specs.Place.{down, span}
 use Rattle.sixel_canvas.specs.inside.BandCanvas.{AreMoved, BandCanvasState, IsPaid}
-use Rattle.sixel_canvas.specs.inside.Drawn.{drawn_columns, lowest_top, right_edge, runs_paint}
-use Rattle.sixel_canvas.specs.inside.Drawn.{band_edge as runs_edge, runs_cost}
+use Rattle.sixel_canvas.specs.inside.Drawn.{drawn_columns, least_moved, lowest_top, right_edge}
+use Rattle.sixel_canvas.specs.inside.Drawn.{band_edge as runs_edge, runs_cost, runs_paint}
+use Rattle.sixel_canvas.specs.inside.Drawn.{rows_above as rows_above-runs}
 use Rattle.sixel_decoder.specs.Paints.{sixels, band_columns, band_edge, band_room, area_of}
-use Rattle.sixel_decoder.specs.Paints.{least_band_count, least_band_paints}
-use Rattle.sixel_decoder.specs.Paints.{most_row_writes, most_run_paints}
-use Rattle.sixel_decoder.specs.inside.Runs.{named_width, runs_of}
+use Rattle.sixel_decoder.specs.Paints.{least_band_count, least_band_paints, least_row_writes}
+use Rattle.sixel_decoder.specs.Paints.{least_write_count, most_row_writes, most_run_paints}
+use Rattle.sixel_decoder.specs.Paints.{named_width, rows_above}
+use Rattle.sixel_decoder.specs.inside.Runs.{runs_of}
 use Rattle.sixel_decoder.proofs.drawing.RunCosts.{span-fits}
 use Rattle.std.proofs.lemmas.Bool.Decides.{nat_tests}
 
@@ -74,9 +78,41 @@ lowest_top-history : (limit : Limit) (h : History)
 lowest_top-history limit [] = omega arith
 lowest_top-history limit (token ∷ h) = grind (arith, nat_tests, lowest_top-history limit h)
 
+-- each sixel has a column
+span-some : (h : History) → 0 < span h
+span-some [] = omega arith
+span-some (token ∷ h) = grind (arith, span-some h)
+
+-- the rows of the bands above
+rows_above-history : (limit : Limit) (h : History) (top : ℕ)
+    → rows_above-runs (runs_of limit h) top ≡ rows_above limit h top
+rows_above-history limit [] top = refl
+rows_above-history limit (token ∷ h) top =
+    grind (arith, nat_tests, rows_above-history limit h top, span-some h)
+
+-- what is written at least as rows become wider
+least_moved-history : (limit : Limit) (named released : ℕ) (h : History)
+    → least_row_writes limit named released h ≤ least_moved named released (runs_of limit h)
+least_moved-history limit named released [] = omega arith
+least_moved-history limit named released (token ∷ h) =
+    grind (
+      arith,
+      nat_tests,
+      least_moved-history limit named released h,
+      right_edge-history limit h,
+      rows_above-history limit h (down h),
+    )
+
 -- What these tokens have made a canvas of one band write as its rows became wider.
 pub band_moved : (limit : Limit) (canvas : BandCanvasState) (h : History)
     → AreMoved canvas (named_width limit h) (runs_of limit h)
-    → canvas.rows.moved ≤ most_row_writes * area_of (Some (size limit h))
-band_moved limit canvas h are =
-    grind (arith, nat_tests, named_width-history, right_edge-history, mul-le, lowest_top-history)
+    → (canvas.rows.moved ≤ most_row_writes * area_of (Some (size limit h)))
+    × (least_write_count limit canvas.released h ≤ canvas.rows.moved)
+band_moved limit canvas h are = (
+  grind (arith, nat_tests, named_width-history, right_edge-history, mul-le, lowest_top-history),
+  omega (
+    arith,
+    are.many,
+    least_moved-history limit (named_width limit h) canvas.released h,
+  ),
+)

@@ -16,7 +16,8 @@ use Rattle.sixel_canvas.specs.declared.drawing.Canvas.{Ghosts}
 use Rattle.sixel_decoder.specs.declared.painter.Painter.{Painter}
 use Rattle.sixel_decoder.specs.inside.Painter.{Shows}
 use Rattle.sixel_decoder.specs.inside.DrawnRows.{drawn_rows}
-use Rattle.sixel_decoder.specs.inside.Runs.{most_rows, named_width, runs_of}
+use Rattle.sixel_decoder.specs.Paints.{named_width}
+use Rattle.sixel_decoder.specs.inside.Runs.{most_rows, runs_of}
 use Rattle.sixel_canvas.specs.inside.Drawn.{Run, run, covers_eight, with_sixels as with_runs}
 use Rattle.sixel_decoder.proofs.drawing.DrawnHeights.{drawn_height-sixels, most_rows-first}
 use Rattle.sixel_decoder.proofs.drawing.Clips.{fails_third}

@@ -22,7 +22,8 @@ use Rattle.sixel_decoder.specs.Report.{raster_size, report_of}
 use Rattle.sixel_decoder.specs.declared.decoded_payload.DecodedPayload.{DecodedPayload}
 use Rattle.sixel_decoder.specs.declared.painter.Painter.{Painter}
 use Rattle.sixel_decoder.specs.inside.DrawnRows.{drawn_rows}
-use Rattle.sixel_decoder.specs.inside.Runs.{named_width, runs_of}
+use Rattle.sixel_decoder.specs.Paints.{named_width}
+use Rattle.sixel_decoder.specs.inside.Runs.{runs_of}
 
 -- The painter has drawn these tokens, none of which has a fault, on its canvas.
 pub record Shows {C : Type 0} {canvas : Ghosts C} (origin : Origin) (painter : Painter C canvas)

@@ -2,9 +2,9 @@
 -- byte from `?` to `~`, by DEC's account of sixel data, and its least bit is the top row's.
 use Rattle.std.specs.Prelude.{ℕ, ◌+◌, ◌-◌, ◌<◌, ◌≤◌, max, min, List, [], ◌∷◌, length, slice_index}
 use Rattle.std.specs.Prelude.{if◌then◌else◌}
-use Rattle.sixel_base.specs.Clip.{clipped_bits, clipped_width, is_inside}
+use Rattle.sixel_base.specs.Clip.{clipped_bits, is_inside}
 use Rattle.sixel_base.specs.DrawnHeight.{set_rows}
-use Rattle.sixel_base.specs.History.{History, Raster, Sixel}
+use Rattle.sixel_base.specs.History.{History, Sixel}
 use Rattle.sixel_base.specs.Limits.{Limit}
 use Rattle.sixel_base.specs.Place.{across, down, span}
 use Rattle.sixel_canvas.specs.inside.Drawn.{Run, run}
@@ -35,13 +35,6 @@ runs_of limit (Sixel bits ∷ older) =
     (clipped_bits limit (down older) bits) ∷ runs_of limit older
     else runs_of limit older
 runs_of limit (_ ∷ older) = runs_of limit older
-
--- the greatest width of the picture inside the clip after raster attributes, 0 where there are none
-abbrev pub named_width : Limit → History → ℕ
-named_width limit [] = 0
-named_width limit (Raster text ∷ older) =
-    max (named_width limit older) (clipped_width limit (Raster text ∷ older))
-named_width limit (_ ∷ older) = named_width limit older
 
 -- the last row that one of these sixels sets, plus one, or 0 if there is none
 abbrev pub most_rows : List ℕ → ℕ

@@ -1,8 +1,9 @@
 use Rattle.std.proofs.Common.{◌≡◌, arith}
 use Rattle.sixel_canvas.specs.inside.BandCanvas.{band_canvas_state}
 use Rattle.sixel_canvas.proofs.BandStates.{canvas_over}
-use Rattle.sixel_canvas.proofs.MovedRows.{laid_held, moved_run}
+use Rattle.sixel_canvas.proofs.MovedRows.{laid_held, least_held, moved_run}
 use Rattle.sixel_canvas.proofs.band_canvas.BandCanvasCanvas.draw.Goals as goal
+use Rattle.std.proofs.lemmas.Bool.Decides.{nat_tests}
 
 pub returns-clause-drawn : goal.returns-clause-drawn
 returns-clause-drawn c = λ column row. grind (arith, canvas_over)
@@ -21,8 +22,13 @@ returns-clause-paid c = λ named runs before.
     grind (arith) in
     let laid =
     laid_held now c.hold.new.self state named runs to before.1 c.in_ok-hold.ensures.laid
-    (grind (arith)) (grind (arith)) (grind (arith)) in (
+    (grind (arith)) (grind (arith)) (grind (arith)) in
+    let least =
+    least_held now named to to all.rows.moved runs before.1 before.2 (omega arith)
+    (grind (arith, c.in_ok-hold.ensures.moved)) in (
       grind (arith),
       rw (← same_top)
-          (moved_run state named from to c.args.bits runs laid c.self.invariant.above),
+          (moved_run state named from to c.args.bits runs laid c.self.invariant.above
+          (grind (arith, nat_tests, least))),
+      grind (arith, nat_tests, before.2),
     )

@@ -1,11 +1,13 @@
-use Rattle.std.proofs.Common.{◌≡◌, ◌≤◌, ◌+◌, ◌*◌, ℕ, List, max, length, take}
+use Rattle.std.proofs.Common.{◌≡◌, ◌≤◌, ◌+◌, ◌*◌, ℕ, List, max, length, length-take, take}
 use Rattle.std.proofs.Common.{arith}
+use Rattle.std.proofs.lemmas.Bool.Decides.{nat_tests}
 use Rattle.sixel_canvas.specs.inside.BandCanvas.{band_canvas_state, least_width}
 use Rattle.sixel_canvas.specs.inside.Drawn.{Run, with_sixels}
 use Rattle.sixel_canvas.specs.inside.TaggedBand.{capacity}
 use Rattle.sixel_canvas.proofs.BandStates.{canvas_over}
-use Rattle.sixel_canvas.proofs.MovedRows.{laid_held, laid_wider, moved_more}
-use Rattle.sixel_canvas.proofs.Runs.{edges, lowest_here, paid-sixels}
+use Rattle.sixel_canvas.proofs.MovedRows.{laid_held, laid_wider, least_held, least_sixels}
+use Rattle.sixel_canvas.proofs.MovedRows.{moved_more}
+use Rattle.sixel_canvas.proofs.Runs.{above_here, edges, lowest_here, paid-sixels}
 use Rattle.sixel_canvas.proofs.band_canvas.BandCanvasCanvas.draw_eight.Goals as goal
 
 pub returns-clause-drawn : goal.returns-clause-drawn
@@ -35,11 +37,19 @@ returns-clause-paid c = λ named runs before.
     let wide : ℕ = max (least_width named runs) right in
     let laid =
     laid_held now c.hold.new.self state named runs right before.1 c.in_ok-hold.ensures.laid
-    (grind (arith)) (grind (arith)) (grind (arith)) in (
+    (grind (arith)) (grind (arith)) (grind (arith)) in
+    let sixels = take c.args.len c.args.sixels in
+    let least =
+    least_held now named (c.args.from + 1) right all.rows.moved runs before.1 before.2
+    (omega (arith, c.requires.some))
+    (grind (arith, c.in_ok-hold.ensures.moved)) in (
       rw same_top (paid-sixels _ _ _ _ _ _ _ _ now.top c.args.from c.args.len c.args.sixels runs
           before.0 c.requires.some few c.requires.few cap (grind (arith, c.draw_eight.ensures.least)) painted extent tagged),
       rw (← same_top) (moved_more state named more
           (laid_wider state wide (least_width named more) laid (omega (arith, edge)))
           c.self.invariant.above
-          (lowest_here c.args.from c.args.sixels all.top runs c.args.len c.requires.some few)),
+          (lowest_here c.args.from c.args.sixels all.top runs c.args.len c.requires.some few)
+          (least_sixels named all.released c.args.from all.top sixels runs all.rows.moved
+          (grind (arith, length-take)) (grind (arith, nat_tests, least)))),
+      grind (arith, before.2, above_here c.args.from sixels now.top runs),
     )

@@ -12,6 +12,7 @@ returns c =
     (settled_tokens limit session.bytes) is.shows.paid.1 in
     record {
       value = c.writes.ensures ∙ is.writes;
-      at_most = omega (arith, c.writes.ensures, moved);
+      at_least = λ accepted. rw (← is.released) (omega (arith, c.writes.ensures, moved.1));
+      at_most = omega (arith, c.writes.ensures, moved.0);
       refused = λ lost. search (rules, is.accepted);
     }
