@@ -6,7 +6,7 @@
 //! decoding in one call is the record of `OneShotCalls` in `sixel_decoder`.
 
 ghost use Rattle.std.specs.Prelude.{◌≡◌, ◌≤◌, [], length, slice_index_or, slice_set, IsOk};
-ghost use Rattle.std.specs.Prelude.{OnOk, OnErr, IfOk};
+ghost use Rattle.std.specs.Prelude.{OnOk, OnErr, IfOk, vec_capacity};
 ghost use Rattle.sixel_base.specs.Color.{default_registers};
 ghost use Rattle.sixel_base.specs.Decoder.{IsSetAs, new_decoder, origin_of};
 ghost use Rattle.sixel_base.specs.Decoder.{with_clip, with_pixel_limit};
@@ -16,6 +16,7 @@ ghost use Rattle.sixel_base.specs.Payload.{payload_registers};
 ghost use Rattle.icy_sixel.specs.ImageView.{image_value};
 ghost use Rattle.icy_sixel.specs.Registers.{with_colors};
 ghost use Rattle.sixel_decoder.specs.DcsCalls.{begun as begun_dcs};
+ghost use Rattle.sixel_decoder.specs.Memory.{most_capacity};
 ghost use Rattle.sixel_decoder.specs.OneShotCalls.{IsDecoded};
 ghost use Rattle.sixel_decoder.specs.PayloadCalls.{begun};
 
@@ -220,6 +221,8 @@ impl SixelDecoder {
     /// does not end. After an error the registers are unchanged.
     pub fn decode(&mut self, alloc: Global, bytes: &[u8]) -> Result<SixelImage>
         ensures decoded { IsDecoded image_value self.old (found bytes.now) result }
+        ensures memory { IfOk result (λ image. vec_capacity image.pixels
+            ≤ most_capacity (length image.pixels.items)) }
         ensures registers { OnOk result
             (AreFoundRegisters self.old (found bytes.now) self.new.registers) }
         ensures set { IsSetAs self.old self.new }
@@ -308,6 +311,8 @@ impl SixelDecoder {
         settings: DcsSettings,
     ) -> Result<SixelImage>
         ensures decoded { IsDecoded image_value self.old (Payload settings bytes.now) result }
+        ensures memory { IfOk result (λ image. vec_capacity image.pixels
+            ≤ most_capacity (length image.pixels.items)) }
         ensures registers { OnOk result (self.new.registers ≡ payload_registers
             (origin_of self.old settings) bytes.now) }
         ensures set { IsSetAs self.old self.new }

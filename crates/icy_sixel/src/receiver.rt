@@ -2,10 +2,11 @@
 //!
 //! The contracts of its calls are the records of `ReceiverCalls`.
 
-ghost use Rattle.std.specs.Prelude.{◌≡◌, ◌*◌, ◌<◌, ◌∷◌, [], true, false, length, min};
-ghost use Rattle.std.specs.Prelude.{IfOk, IfSome, None, Ok, Some};
+ghost use Rattle.std.specs.Prelude.{◌≡◌, ◌*◌, ◌<◌, ◌≤◌, ◌∷◌, [], true, false, length, min};
+ghost use Rattle.std.specs.Prelude.{IfOk, IfSome, None, Ok, Some, vec_capacity};
 ghost use Rattle.sixel_base.specs.CallFault.{FailsBy, RowsReleased};
 ghost use Rattle.sixel_base.specs.Decoder.{new_decoder};
+ghost use Rattle.sixel_decoder.specs.Memory.{most_capacity};
 ghost use Rattle.sixel_decoder.specs.Report.{found_report};
 ghost use Rattle.icy_sixel.specs.ImageView.{image_value};
 ghost use Rattle.icy_sixel.specs.ReceivedImages.{received_report};
@@ -264,6 +265,8 @@ impl SixelReceiver {
             image.first_row ≡ min self.old.image.released image.height) }
         ensures report { IfOk result (λ image. received_report image ≡ found_report
             self.old.image.start (found self.old.image.form self.old.image.bytes)) }
+        ensures memory { IfOk result (λ image. vec_capacity image.pixels
+            ≤ most_capacity (length image.pixels.items)) }
     {
         let failure = self.failure.take();
         let open = mem::replace(&mut self.open, Open::Nothing);
@@ -294,6 +297,8 @@ impl SixelReceiver {
             → IsFinished image_value self.old self.new result }
         ensures pixels { IfOk result (λ image.
             length image.pixels.items ≡ 4 * (image.width * image.height)) }
+        ensures memory { IfOk result (λ image. vec_capacity image.pixels
+            ≤ most_capacity (length image.pixels.items)) }
         ensures released { 0 < self.old.image.released
             → FailsBy (Some RowsReleased) result × (self.new ≡ self.old) }
     {

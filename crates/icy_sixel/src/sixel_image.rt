@@ -1,10 +1,11 @@
 //! An image: its pixels, sizes, pixel shape and background.
 
 ghost use Rattle.std.specs.Prelude.{◌≡◌, ℕ, ◌+◌, ◌*◌, ◌<◌, ◌≤◌, ◌↔◌, length, slice_index, IsTrue};
-ghost use Rattle.std.specs.Prelude.{MatchOption, MatchResult};
+ghost use Rattle.std.specs.Prelude.{MatchOption, MatchResult, vec_capacity};
 ghost use Rattle.std.specs.Option.{option_or};
 ghost use Rattle.sixel_base.specs.Settings.{pad_of};
 ghost use Rattle.sixel_base.specs.Size.{size_fault, buffer_fault};
+ghost use Rattle.sixel_decoder.specs.Memory.{most_capacity};
 
 mod encoding;
 
@@ -73,6 +74,7 @@ impl SixelImage {
         requires { length picture.pixels.items ≡ 4 * (picture.width * picture.height) }
         ensures image { image_value result ≡ picture_value picture }
         ensures pixels { length result.pixels.items ≡ 4 * (result.width * result.height) }
+        ensures memory { vec_capacity result.pixels ≤ most_capacity (length result.pixels.items) }
     {
         Self {
             pixels: picture.pixels,

@@ -3,6 +3,7 @@ pub mod FedImages
 pub mod FinalRows
 pub mod FinishedImages
 pub mod ImageEnds
+pub mod Memory
 pub mod OneShotCalls
 pub mod Paints
 pub mod PayloadCalls

@@ -1,9 +1,11 @@
 //! The result of decoding a payload.
 
-ghost use Rattle.std.specs.Prelude.{◌≡◌, ◌-◌, ◌*◌, length};
+ghost use Rattle.std.specs.Prelude.{◌≡◌, ◌-◌, ◌*◌, ◌^◌, ◌<◌, ◌≤◌, length, vec_capacity, IfOk};
+ghost use Rattle.sixel_decoder.specs.Memory.{most_capacity};
 
 use sixel_base::registers::Registers;
 use sixel_base::settings::{BackgroundMode, PixelAspectRatio};
+use std::alloc::AllocError;
 
 /// The image of a payload, or its rows that are left, and the registers after it.
 #[derive(Drop)]
@@ -26,4 +28,24 @@ pub struct DecodedPayload {
     pub background_mode: BackgroundMode,
     pub registers: Registers,
     pub ghost rows: { length pixels.items ≡ 4 * (width * (height - first_row)) },
+    pub ghost memory: { vec_capacity pixels ≤ most_capacity (length pixels.items) },
+}
+
+/// Frees the memory of pixels that they do not need, if it is more than they take.
+///
+/// It fails if the allocator has no smaller block.
+pub(crate) fn fit_memory(mut pixels: Vec<u8>) -> Result<Vec<u8>, AllocError>
+    requires { 2 * length pixels.items < 2 ^ 64 }
+    ensures items { IfOk result (λ fitted. fitted.items ≡ pixels.items) }
+    ensures memory { IfOk result
+        (λ fitted. vec_capacity fitted ≤ most_capacity (length fitted.items)) }
+{
+    let most = 2 * pixels.len();
+    if pixels.capacity() > most {
+        pixels.shrink_to_fit();
+        if pixels.capacity() > most {
+            return Err(AllocError);
+        }
+    }
+    Ok(pixels)
 }

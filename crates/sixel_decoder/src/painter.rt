@@ -21,7 +21,7 @@ ghost use Rattle.sixel_decoder.specs.inside.Sizes.{IsTooLarge};
 mod ready;
 
 use crate::colors::{background, define, opaque};
-use crate::decoded_payload::DecodedPayload;
+use crate::decoded_payload::{DecodedPayload, fit_memory};
 use crate::drawn_rows::DrawnRows;
 use crate::front_sixels::FrontSixels;
 use crate::raster::{check_size, last_side, shape};
@@ -353,7 +353,8 @@ impl<C: Canvas + Drop> Painter<C> {
         let first_row = self.canvas.released().min(height);
         let drawn_height = self.drawn_height().min(height);
         self.ready = 0;
-        let pixels = self.canvas.take_picture(self.clipped_width, height)?;
+        let picture = self.canvas.take_picture(self.clipped_width, height)?;
+        let pixels = fit_memory(picture)?;
         Ok(DecodedPayload {
             pixels,
             width: self.clipped_width,

@@ -2,11 +2,13 @@
 //!
 //! The contracts of its calls are the records of `DcsCalls` in `sixel_decoder`.
 
-ghost use Rattle.std.specs.Prelude.{◌≡◌, ◌*◌, true, false, OnErr, IfOk, length};
+ghost use Rattle.std.specs.Prelude.{◌≡◌, ◌*◌, ◌≤◌, true, false, OnErr, IfOk, length};
+ghost use Rattle.std.specs.Prelude.{vec_capacity};
 ghost use Rattle.sixel_base.specs.Dcs.{dcs_in_payload};
 ghost use Rattle.sixel_base.specs.Decoder.{IsSetAs};
 ghost use Rattle.sixel_decoder.specs.DcsCalls.{IsFed};
 ghost use Rattle.sixel_decoder.specs.FinishedImages.{IsFinished};
+ghost use Rattle.sixel_decoder.specs.Memory.{most_capacity};
 ghost use Rattle.sixel_decoder.specs.Progress.{IsDrawnHeight, IsPaintCount, IsSizeSoFar};
 ghost use Rattle.sixel_decoder.specs.Progress.{IsWriteCount};
 ghost use Rattle.sixel_decoder.specs.Reception.{of_sequence};
@@ -138,6 +140,8 @@ impl<'a> SixelDcsStreamDecoder<'a> {
             (of_sequence (sequence self.entry)) result }
         ensures pixels { IfOk result (λ image.
             length image.pixels.items ≡ 4 * (image.width * image.height)) }
+        ensures memory { IfOk result (λ image. vec_capacity image.pixels
+            ≤ most_capacity (length image.pixels.items)) }
         ensures set { IsSetAs (sequence_owner self.entry).now self.exit.0.now }
         ensures kept { OnErr result (self.exit.0.now ≡ (sequence_owner self.entry).now) }
     {

@@ -1,10 +1,11 @@
 //! Images that are decoded in one call, with what is reported of them beside their pixels.
 
-ghost use Rattle.std.specs.Prelude.{◌≡◌, OnOk, OnErr, IfOk};
+ghost use Rattle.std.specs.Prelude.{◌≡◌, ◌≤◌, length, vec_capacity, OnOk, OnErr, IfOk};
 ghost use Rattle.sixel_base.specs.Decoder.{IsSetAs, origin_of};
 ghost use Rattle.sixel_base.specs.OneShot.{found, Payload, AreFoundRegisters};
 ghost use Rattle.sixel_base.specs.Payload.{payload_registers};
 ghost use Rattle.icy_sixel.specs.ReceivedImages.{left_value, received_report};
+ghost use Rattle.sixel_decoder.specs.Memory.{most_capacity};
 ghost use Rattle.sixel_decoder.specs.OneShotCalls.{IsDecoded};
 ghost use Rattle.sixel_decoder.specs.Report.{found_report};
 
@@ -22,6 +23,8 @@ impl SixelDecoder {
     /// are drawn.
     pub fn decode_drawn(&mut self, alloc: Global, bytes: &[u8]) -> Result<ReceivedImage>
         ensures decoded { IsDecoded left_value self.old (found bytes.now) result }
+        ensures memory { IfOk result (λ image. vec_capacity image.pixels
+            ≤ most_capacity (length image.pixels.items)) }
         ensures first { IfOk result (λ image. image.first_row ≡ 0) }
         ensures report { IfOk result (λ image.
             received_report image ≡ found_report self.old (found bytes.now)) }
@@ -43,6 +46,8 @@ impl SixelDecoder {
         settings: DcsSettings,
     ) -> Result<ReceivedImage>
         ensures decoded { IsDecoded left_value self.old (Payload settings bytes.now) result }
+        ensures memory { IfOk result (λ image. vec_capacity image.pixels
+            ≤ most_capacity (length image.pixels.items)) }
         ensures first { IfOk result (λ image. image.first_row ≡ 0) }
         ensures report { IfOk result (λ image.
             received_report image ≡ found_report self.old (Payload settings bytes.now)) }

@@ -2,10 +2,11 @@
 //!
 //! The contracts of its calls are the records of `PayloadCalls` in `sixel_decoder`.
 
-ghost use Rattle.std.specs.Prelude.{◌≡◌, ◌<◌, ◌+◌, ◌*◌, ◌≤◌, OnErr, IfOk, length};
+ghost use Rattle.std.specs.Prelude.{◌≡◌, ◌<◌, ◌+◌, ◌*◌, ◌≤◌, OnErr, IfOk, length, vec_capacity};
 ghost use Rattle.sixel_base.specs.Decoder.{IsSetAs};
 ghost use Rattle.sixel_base.specs.Payload.{payload_area};
 ghost use Rattle.sixel_decoder.specs.FinishedImages.{IsFinished};
+ghost use Rattle.sixel_decoder.specs.Memory.{most_capacity};
 ghost use Rattle.sixel_decoder.specs.PayloadCalls.{IsFed};
 ghost use Rattle.sixel_decoder.specs.Progress.{IsDrawnHeight, IsPaintCount, IsSizeSoFar};
 ghost use Rattle.sixel_decoder.specs.Progress.{IsWriteCount};
@@ -119,6 +120,8 @@ impl<'a> SixelStreamDecoder<'a> {
             (of_payload (payload self.entry)) result }
         ensures pixels { IfOk result (λ image.
             length image.pixels.items ≡ 4 * (image.width * image.height)) }
+        ensures memory { IfOk result (λ image. vec_capacity image.pixels
+            ≤ most_capacity (length image.pixels.items)) }
         ensures set { IsSetAs (payload_owner self.entry).now self.exit.0.now }
         ensures kept { OnErr result (self.exit.0.now ≡ (payload_owner self.entry).now) }
     {
@@ -138,6 +141,8 @@ impl<'a> SixelStreamDecoder<'a> {
             (λ _. self.exit.0.now.registers) (of_payload (payload self.entry)) result }
         ensures pixels { IfOk result (λ counted.
             length counted.0.pixels.items ≡ 4 * (counted.0.width * counted.0.height)) }
+        ensures memory { IfOk result (λ counted. vec_capacity counted.0.pixels
+            ≤ most_capacity (length counted.0.pixels.items)) }
         ensures counted { IfOk result (λ counted. counted.1
             ≡ (payload self.entry).writes + counted.0.width * counted.0.height) }
         ensures at_most { IfOk result

@@ -1,9 +1,10 @@
 //! An image that a decoder has finished, and copies of its rows.
 
-ghost use Rattle.std.specs.Prelude.{◌≡◌, ℕ, ◌-◌, ◌*◌, ◌/◌, ◌%◌, ◌<◌, List, length, slice_index};
-ghost use Rattle.std.specs.Prelude.{Some, Ok, IfOk};
+ghost use Rattle.std.specs.Prelude.{◌≡◌, ℕ, ◌-◌, ◌*◌, ◌/◌, ◌%◌, ◌<◌, ◌≤◌, List, length};
+ghost use Rattle.std.specs.Prelude.{slice_index, vec_capacity, Some, Ok, IfOk};
 ghost use Rattle.sixel_base.specs.CallFault.{FailsBy, RowsReleased};
 ghost use Rattle.sixel_canvas.specs.Layout.{in_order, pixel_at};
+ghost use Rattle.sixel_decoder.specs.Memory.{most_capacity};
 ghost use Rattle.sixel_decoder.specs.PictureView.{picture_report, picture_value, whole_image};
 
 use crate::receiver::rows::check_rows;
@@ -65,6 +66,7 @@ impl ReceivedImage {
         ensures first { result.first_row ≡ picture.first_row }
         ensures left { left_value result ≡ picture_value picture }
         ensures report { received_report result ≡ picture_report picture }
+        ensures memory { vec_capacity result.pixels ≤ most_capacity (length result.pixels.items) }
     {
         Self {
             pixels: picture.pixels,

@@ -58,7 +58,8 @@ returns-clause-ends g c = λ o h shows.
     in (
       shows.faultless,
       rw (
-        c.in_ok-pixels.ensures.ok,
+        c.in_ok-pixels.ensures.items,
+        c.in_ok-picture.ensures.ok,
         pixels,
         wide,
         tall,
