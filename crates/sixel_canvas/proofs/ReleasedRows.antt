@@ -78,15 +78,15 @@ above_released gone gone' rows rows' released released' count are len more same 
       | inr later ↦ grind (arith, le-ltb, released_row)
     ]
 
--- the rows above the band once the band was handed out
-pub above_handed :
+-- the rows above the band once the band was appended
+pub above_appended :
     (released top : ℕ) (gone old new : List ℕ) (cell : ℕ → List ℕ) (row : ℕ) → released ≤ top →
     new
     ≡ (if nat_lt (row - released) (top - released) then old
     else cell (row - released - (top - released))) →
     (if nat_lt row released then gone else new)
     ≡ (if nat_lt row top then if nat_lt row released then gone else old else cell (row - top))
-above_handed released top gone old new cell row le is = grind (arith, nat_tests)
+above_appended released top gone old new cell row le is = grind (arith, nat_tests)
 
 -- the rows above a band that nothing was drawn on
 pub above_clear :

@@ -107,7 +107,7 @@ impl Canvas for BandCanvas {
         if bits == 0 {
             return Ok(());
         }
-        self.hold(to)?;
+        self.ensure_columns(to)?;
         self.band.draw(from, to, bits, color);
         Ok(())
     }
@@ -128,7 +128,7 @@ impl Canvas for BandCanvas {
         sixels: [u8; 8],
         color: [u8; 4],
     ) -> Result<(), AllocError> {
-        self.hold(from + len)?;
+        self.ensure_columns(from + len)?;
         self.band.draw_eight(from, from + len, sixels, color);
         Ok(())
     }
@@ -221,9 +221,9 @@ impl BandCanvas {
         }
     }
 
-    /// Allocates memory for `columns` columns of the band, and for its rows among the final ones.
+    /// Makes sure that `columns` columns can be drawn and appended without an allocation.
     #[inline(always)]
-    fn hold(&mut self, columns: usize) -> Result<(), AllocError>
+    fn ensure_columns(&mut self, columns: usize) -> Result<(), AllocError>
         requires some { 0 < columns }
         requires within { columns ≤ 1000000 }
         requires above_bottom { self.old.top + 6 ≤ 1000000 }
@@ -309,7 +309,7 @@ impl BandCanvas {
         if self.band.extent() > 0 {
             let width = self.expected_width;
             let top = self.top - self.released;
-            hand_out(&mut self.rows, &mut self.band, top, width);
+            append_band(&mut self.rows, &mut self.band, top, width);
             self.top += 6;
         }
         self.held = 0;
@@ -317,7 +317,7 @@ impl BandCanvas {
 }
 
 /// Appends the six rows of a band to the rows above it, with background between them.
-fn hand_out(rows: &mut FinalRows, band: &mut TaggedBand, top: usize, expected_width: usize)
+fn append_band(rows: &mut FinalRows, band: &mut TaggedBand, top: usize, expected_width: usize)
     requires above { rows.old.rows ≤ top }
     requires bottom { top + 6 ≤ 1000000 }
     requires background { rows.old.background ≡ band.old.pixels.background }
@@ -344,7 +344,7 @@ fn hand_out(rows: &mut FinalRows, band: &mut TaggedBand, top: usize, expected_wi
     'blank: for _row in rows.len()..top {
         rows.append(&[]);
     }
-    'handed: for k in 0..6 {
+    'appended: for k in 0..6 {
         rows.append(band.row(k));
     }
     band.clear();

@@ -4,7 +4,7 @@ use Rattle.sixel_canvas.specs.inside.BandCanvas.{BandCanvasState, band_canvas_sh
 use Rattle.sixel_canvas.specs.inside.RowsState.{final}
 use Rattle.sixel_canvas.specs.inside.ReleasedRows.{released_pixel}
 use Rattle.sixel_canvas.specs.inside.TaggedBand.{tagged_cell}
-use Rattle.sixel_canvas.proofs.ReleasedRows.{above_clear, above_handed}
+use Rattle.sixel_canvas.proofs.ReleasedRows.{above_clear, above_appended}
 use Rattle.sixel_canvas.proofs.band_canvas.BandCanvas.finish_rows.Goals as goal
 use Rattle.sixel_canvas.proofs.band_canvas.BandCanvas.finish_rows.Goals.{
   then-extent-gt0,
@@ -23,11 +23,11 @@ returns-clause-shown c = λ column row.
           (ap
           (λ background.
           if nat_lt row all.released then released_pixel all.gone background column row
-          else final w.hand_out.new.rows column (row - all.released))
-          w.hand_out.ensures.rows_background
-          ∙ above_handed all.released all.top gone (final all.rows column (row - all.released))
-          (final w.hand_out.new.rows column (row - all.released)) (tagged_cell all.band column) row
-          le (w.hand_out.ensures.shown column (row - all.released)) ∙ seen)
+          else final w.append_band.new.rows column (row - all.released))
+          w.append_band.ensures.rows_background
+          ∙ above_appended all.released all.top gone (final all.rows column (row - all.released))
+          (final w.append_band.new.rows column (row - all.released)) (tagged_cell all.band column) row
+          le (w.append_band.ensures.shown column (row - all.released)) ∙ seen)
       | else-extent-gt0 w ↦
           rw w.self-inside-is
           (above_clear all.rows all.released all.top gone (tagged_cell all.band column) column row

@@ -21,11 +21,11 @@ returns-clause-paid c = λ named runs before.
     let same_top : all.top ≡ now.top =
     grind (arith) in
     let laid =
-    laid_held now c.hold.new.self state named runs to before.1 c.in_ok-hold.ensures.laid
+    laid_held now c.ensure_columns.new.self state named runs to before.1 c.in_ok-ensure_columns.ensures.laid
     (grind (arith)) (grind (arith)) (grind (arith)) in
     let least =
     least_held now named to to all.rows.moved runs before.1 before.2 (omega arith)
-    (grind (arith, c.in_ok-hold.ensures.moved)) in (
+    (grind (arith, c.in_ok-ensure_columns.ensures.moved)) in (
       grind (arith),
       rw (← same_top)
           (moved_run state named from to c.args.bits runs laid c.self.invariant.above

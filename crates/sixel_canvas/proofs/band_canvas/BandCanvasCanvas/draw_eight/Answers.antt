@@ -36,13 +36,13 @@ returns-clause-paid c = λ named runs before.
     let edge = edges c.args.from c.args.sixels all.top runs c.args.len c.requires.some few in
     let wide : ℕ = max (least_width named runs) right in
     let laid =
-    laid_held now c.hold.new.self state named runs right before.1 c.in_ok-hold.ensures.laid
+    laid_held now c.ensure_columns.new.self state named runs right before.1 c.in_ok-ensure_columns.ensures.laid
     (grind (arith)) (grind (arith)) (grind (arith)) in
     let sixels = take c.args.len c.args.sixels in
     let least =
     least_held now named (c.args.from + 1) right all.rows.moved runs before.1 before.2
     (omega (arith, c.requires.some))
-    (grind (arith, c.in_ok-hold.ensures.moved)) in (
+    (grind (arith, c.in_ok-ensure_columns.ensures.moved)) in (
       rw same_top (paid-sixels _ _ _ _ _ _ _ _ now.top c.args.from c.args.len c.args.sixels runs
           before.0 c.requires.some few c.requires.few cap (grind (arith, c.draw_eight.ensures.least)) painted extent tagged),
       rw (← same_top) (moved_more state named more

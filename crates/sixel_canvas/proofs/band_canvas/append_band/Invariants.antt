@@ -2,7 +2,7 @@ use Rattle.std.proofs.Common.{◌≡◌, ℕ, ◌+◌, ◌-◌, ◌*◌, ◌≤�
 use Rattle.std.specs.Prelude.{nat_lt, if◌then◌else◌}
 use Rattle.sixel_canvas.specs.inside.Band.{cell}
 use Rattle.sixel_canvas.specs.inside.RowsState.{final}
-use Rattle.sixel_canvas.proofs.band_canvas.hand_out.Given as goal
+use Rattle.sixel_canvas.proofs.band_canvas.append_band.Given as goal
 
 abbrev pub invariant-blank : goal.invariant-blank
 invariant-blank l =
@@ -14,8 +14,8 @@ invariant-blank l =
     × (l.rows.shifts ≡ l.fn.rows.shifts)
     × ((column row : ℕ) → final l.rows column row ≡ final l.fn.rows column row)
 
-abbrev pub invariant-handed : goal.invariant-handed
-invariant-handed l =
+abbrev pub invariant-appended : goal.invariant-appended
+invariant-appended l =
     (l.rows.rows ≡ l.top + l.k)
     × (l.rows.width ≡ l.initial.rows.width)
     × (4 * ((l.top + 6) * l.rows.width) ≤ l.rows.room)
