@@ -1,8 +1,8 @@
 //! What each closed command changes: position, extent, registers and canvas.
 
 ghost use Rattle.std.specs.Prelude.{◌≡◌, ◌<◌, ◌≤◌, ◌+◌, ◌*◌, ◌∷◌, List, ℕ, true, false, []};
-ghost use Rattle.std.specs.Prelude.{length, max, min, nat_lt, if◌then◌else◌, ◌&&◌};
-ghost use Rattle.std.specs.Prelude.{slice_index, IfOk, OnOk, IfErr, IsTrue, MatchResult};
+ghost use Rattle.std.specs.Prelude.{max, min, nat_lt, if◌then◌else◌, ◌&&◌};
+ghost use Rattle.std.specs.Prelude.{IfOk, OnOk, IfErr, MatchResult};
 ghost use Rattle.sixel_base.specs.Decoder.{origin_of};
 ghost use Rattle.sixel_base.specs.DrawnHeight.{drawn_height};
 ghost use Rattle.sixel_base.specs.Fault.{is_fault};
@@ -14,16 +14,15 @@ ghost use Rattle.sixel_base.specs.Stroke.{Origin};
 ghost use Rattle.sixel_base.specs.inside.Parameters.{Keeps};
 ghost use Rattle.sixel_canvas.specs.inside.Drawn.{no_work};
 ghost use Rattle.sixel_canvas.specs.inside.Tags.{is_tag};
-ghost use Rattle.sixel_decoder.specs.inside.Runs.{IsSixelByte};
 ghost use Rattle.sixel_decoder.specs.inside.Ready.{IsReady};
 ghost use Rattle.sixel_decoder.specs.inside.Sizes.{IsTooLarge};
 
 mod ready;
+mod sixels;
 
 use crate::colors::{background, define, opaque};
 use crate::decoded_payload::{DecodedPayload, fit_memory};
 use crate::drawn_rows::DrawnRows;
-use crate::front_sixels::FrontSixels;
 use crate::raster::{check_size, last_side, shape};
 use sixel_base::limits::MAX_REPEAT;
 use sixel_base::parameters::Parameters;
@@ -31,6 +30,7 @@ use sixel_base::registers::Registers;
 use sixel_base::settings::{DcsSettings, PixelAspectRatio};
 use sixel_base::state::{DecoderState, PixelLimit};
 use sixel_base::{Result, SixelError};
+use sixel_canvas::band_canvas::BandCanvas;
 use sixel_canvas::drawing::Canvas;
 use std::alloc::Global;
 
@@ -75,7 +75,7 @@ pub struct Painter<C: Canvas + Drop> {
 }
 
 impl<C: Canvas + Drop> Painter<C> {
-    ghost use Rattle.sixel_decoder.specs.inside.Painter.{Shows, Draws, DrawsFront, Ends};
+    ghost use Rattle.sixel_decoder.specs.inside.Painter.{Shows, Draws, Ends};
     ghost use Rattle.sixel_decoder.specs.inside.Painter.{IsDrawnInside, IsExtended, FitsColumn};
 
     /// Creates a painter that has drawn nothing.
@@ -104,54 +104,6 @@ impl<C: Canvas + Drop> Painter<C> {
             drawn: DrawnRows::new(),
             ready: 0,
         }
-    }
-
-    /// Draws sixels at the front of the bytes, one at least, and returns how many.
-    ///
-    /// Up to eight are drawn at once if they have one column each and lie inside the image and its
-    /// clip.
-    #[inline(always)]
-    pub fn draw_front(&mut self, bytes: &[u8]) -> Result<usize>
-        requires some { 0 < length bytes.now }
-        requires sixel { IsSixelByte (slice_index bytes.now 0) }
-        ensures some { IfOk result (λ drawn. 0 < drawn) }
-        ensures within { IfOk result (λ drawn. drawn ≤ length bytes.now) }
-        ensures sixels { IfOk result (λ drawn. (k : ℕ) → k < drawn
-            → IsSixelByte (slice_index bytes.now k)) }
-        ensures draws { (o : Origin) (h : History) → Shows o self.old h
-            → DrawsFront result o self.new h bytes.now }
-        ensures kept { IfErr result (λ error. is_fault error ≡ true → self.new ≡ self.old) }
-        ensures released { OnOk result
-            (C.released self.new.canvas ≡ C.released self.old.canvas) }
-    {
-        if bytes.len() >= 8 && self.is_single_above_bottom() {
-            let front = FrontSixels::of(bytes);
-            let len = front.len;
-            if len > 0 && self.column + len <= self.clipped_width {
-                self.ready = 0;
-                self.canvas
-                    .draw_eight(self.column, len, front.bits, self.color)?;
-                self.drawn.add_eight(front.bits);
-                self.column += len;
-                return Ok(len);
-            }
-        }
-        match self.draw(bytes[0] - 0x3f) {
-            Ok(()) => {
-                self.find_ready(bytes.len());
-                Ok(1)
-            }
-            Err(error) => Err(error),
-        }
-    }
-
-    /// Whether the next sixel has one column and does not pass the bottom of the clipped image.
-    #[inline(always)]
-    fn is_single_above_bottom(&self) -> bool
-        ensures single { IsTrue result → self.now.repeat ≡ 1 }
-        ensures above_bottom { IsTrue result → C.top self.now.canvas + 6 ≤ self.now.clipped_height }
-    {
-        self.repeat == 1 && self.clipped_height >= 6 && self.canvas.top() <= self.clipped_height - 6
     }
 
     /// Draws a sixel, and moves right by its columns.
@@ -382,6 +334,22 @@ impl<C: Canvas + Drop> Painter<C> {
         } else {
             self.clipped_height
         }
+    }
+}
+
+impl Painter<BandCanvas> {
+    ghost use Rattle.sixel_decoder.specs.inside.Painter.{Shows};
+
+    /// Releases the rows above row `rows`, which are final.
+    pub fn release_rows(&mut self, rows: usize)
+        requires above { rows ≤ self.old.canvas.top }
+        ensures shows { (o : Origin) (h : History) → Shows o self.old h → Shows o self.new h }
+        ensures released { self.new.canvas.released ≡ max self.old.canvas.released rows }
+        ensures band { self.new.canvas.band ≡ self.old.canvas.band }
+        ensures writes { self.new.canvas.rows.moved ≡ self.old.canvas.rows.moved }
+    {
+        self.ready = 0;
+        self.canvas.release_rows(rows);
     }
 }
 

@@ -2,12 +2,11 @@
 //!
 //! They are found near the end of a chunk, and lost as rows are released.
 
-ghost use Rattle.std.specs.Prelude.{◌≡◌, ◌<◌, ◌≤◌, ◌∷◌, max, IsTrue};
+ghost use Rattle.std.specs.Prelude.{◌≡◌, ◌<◌, ◌∷◌, IsTrue};
 ghost use Rattle.sixel_base.specs.History.{History, Sixel};
 ghost use Rattle.sixel_base.specs.Stroke.{Origin};
 
 use crate::painter::Painter;
-use sixel_canvas::band_canvas::BandCanvas;
 use sixel_canvas::drawing::Canvas;
 
 impl<C: Canvas + Drop> Painter<C> {
@@ -50,21 +49,5 @@ impl<C: Canvas + Drop> Painter<C> {
         self.canvas.column(self.column, bits, self.color);
         self.drawn.add(bits);
         self.column += 1;
-    }
-}
-
-impl Painter<BandCanvas> {
-    ghost use Rattle.sixel_decoder.specs.inside.Painter.{Shows};
-
-    /// Releases the rows above row `rows`, which are final.
-    pub fn release_rows(&mut self, rows: usize)
-        requires above { rows ≤ self.old.canvas.top }
-        ensures shows { (o : Origin) (h : History) → Shows o self.old h → Shows o self.new h }
-        ensures released { self.new.canvas.released ≡ max self.old.canvas.released rows }
-        ensures band { self.new.canvas.band ≡ self.old.canvas.band }
-        ensures writes { self.new.canvas.rows.moved ≡ self.old.canvas.rows.moved }
-    {
-        self.ready = 0;
-        self.canvas.release_rows(rows);
     }
 }

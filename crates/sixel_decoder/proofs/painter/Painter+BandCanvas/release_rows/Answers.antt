@@ -1,4 +1,4 @@
-use Rattle.sixel_decoder.proofs.painter.ready.Painter+BandCanvas.release_rows.Goals as goal
+use Rattle.sixel_decoder.proofs.painter.Painter+BandCanvas.release_rows.Goals as goal
 use Rattle.std.proofs.Common.{arith}
 use Rattle.std.proofs.lemmas.Bool.Decides.{nat_tests}
 

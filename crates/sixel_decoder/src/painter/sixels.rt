@@ -1,0 +1,107 @@
+//! How sixels at the front of a chunk are drawn, or ignored if the image is lenient.
+
+ghost use Rattle.std.specs.Prelude.{◌≡◌, ◌<◌, ◌≤◌, ◌+◌, ◌∷◌, true, [], ℕ, length};
+ghost use Rattle.std.specs.Prelude.{IfErr, IfOk, IsTrue, OnOk, slice_index};
+ghost use Rattle.sixel_base.specs.Fault.{is_fault};
+ghost use Rattle.sixel_base.specs.History.{History, Repeat};
+ghost use Rattle.sixel_base.specs.Stroke.{Origin};
+ghost use Rattle.sixel_decoder.specs.inside.Lenient.{HasDrawn, ToleratesFront};
+ghost use Rattle.sixel_decoder.specs.inside.Runs.{IsSixelByte};
+
+use crate::front_sixels::FrontSixels;
+use crate::painter::Painter;
+use sixel_base::Result;
+use sixel_canvas::drawing::Canvas;
+
+impl<C: Canvas + Drop> Painter<C> {
+    ghost use Rattle.sixel_decoder.specs.inside.Painter.{DrawsFront, Shows};
+
+    /// Draws or ignores sixels at the front of the bytes, one at least, and returns how many.
+    #[inline(always)]
+    pub fn draw_sixels(&mut self, bytes: &[u8], ignored: &mut u64) -> Result<usize>
+        requires some { 0 < length bytes.now }
+        requires sixel { IsSixelByte (slice_index bytes.now 0) }
+        ensures some { IfOk result (λ drawn. 0 < drawn) }
+        ensures within { IfOk result (λ drawn. drawn ≤ length bytes.now) }
+        ensures sixels { IfOk result (λ drawn. (k : ℕ) → k < drawn
+            → IsSixelByte (slice_index bytes.now k)) }
+        ensures tolerates { (o : Origin) (h : History) → HasDrawn o self.old ignored.old h
+            → ToleratesFront result o self.new ignored.new h bytes.now }
+        ensures released { OnOk result
+            (C.released self.new.canvas ≡ C.released self.old.canvas) }
+    {
+        let lenient = self.pixel_limit.lenient();
+        match self.draw_front(bytes) {
+            Ok(drawn) => Ok(drawn),
+            Err(error) => {
+                if lenient && error.is_fault() {
+                    self.drop_repeat();
+                    *ignored = ignored.saturating_add(1);
+                    Ok(1)
+                } else {
+                    Err(error)
+                }
+            }
+        }
+    }
+
+    /// Gives the next sixel one column.
+    #[cold]
+    #[inline(never)]
+    fn drop_repeat(&mut self)
+        ensures shows { (o : Origin) (h : History) → Shows o self.old h
+            → Shows o self.new (Repeat [] ∷ h) }
+        ensures released { C.released self.new.canvas ≡ C.released self.old.canvas }
+    {
+        self.ready = 0;
+        self.repeat = 1;
+    }
+
+    /// Draws sixels at the front of the bytes, one at least, and returns how many.
+    ///
+    /// Up to eight are drawn at once if they have one column each and lie inside the image and its
+    /// clip.
+    #[inline(always)]
+    fn draw_front(&mut self, bytes: &[u8]) -> Result<usize>
+        requires some { 0 < length bytes.now }
+        requires sixel { IsSixelByte (slice_index bytes.now 0) }
+        ensures some { IfOk result (λ drawn. 0 < drawn) }
+        ensures within { IfOk result (λ drawn. drawn ≤ length bytes.now) }
+        ensures sixels { IfOk result (λ drawn. (k : ℕ) → k < drawn
+            → IsSixelByte (slice_index bytes.now k)) }
+        ensures draws { (o : Origin) (h : History) → Shows o self.old h
+            → DrawsFront result o self.new h bytes.now }
+        ensures kept { IfErr result (λ error. is_fault error ≡ true → self.new ≡ self.old) }
+        ensures released { OnOk result
+            (C.released self.new.canvas ≡ C.released self.old.canvas) }
+    {
+        if bytes.len() >= 8 && self.is_single_above_bottom() {
+            let front = FrontSixels::of(bytes);
+            let len = front.len;
+            if len > 0 && self.column + len <= self.clipped_width {
+                self.ready = 0;
+                self.canvas
+                    .draw_eight(self.column, len, front.bits, self.color)?;
+                self.drawn.add_eight(front.bits);
+                self.column += len;
+                return Ok(len);
+            }
+        }
+        match self.draw(bytes[0] - 0x3f) {
+            Ok(()) => {
+                self.find_ready(bytes.len());
+                Ok(1)
+            }
+            Err(error) => Err(error),
+        }
+    }
+
+    /// Whether the next sixel has one column and does not pass the bottom of the clipped image.
+    #[inline(always)]
+    pub(super) fn is_single_above_bottom(&self) -> bool
+        ensures single { IsTrue result → self.now.repeat ≡ 1 }
+        ensures above_bottom { IsTrue result → C.top self.now.canvas + 6 ≤ self.now.clipped_height }
+    {
+        self.repeat == 1 && self.clipped_height >= 6 && self.canvas.top() <= self.clipped_height - 6
+    }
+}
