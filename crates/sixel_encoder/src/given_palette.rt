@@ -1,25 +1,20 @@
 //! The SIXEL output of an image in a given palette.
 
-ghost use Rattle.std.specs.Prelude.{◌≡◌, ◌≢◌, ℕ, ◌+◌, ◌*◌, ◌<◌, ◌≤◌, IfErr, IfOk, None, length};
-ghost use Rattle.std.specs.Prelude.{slice_index, string_bytes};
-ghost use Rattle.std.specs.Option.{option_or};
+ghost use Rattle.std.specs.Prelude.{◌≡◌, ◌*◌, ◌<◌, ◌≤◌, IfErr, IfOk, None, length, string_bytes};
 ghost use Rattle.sixel_base.specs.CallFault.{FailsBy, IsVerdict};
-ghost use Rattle.sixel_base.specs.Size.{verdict};
 ghost use Rattle.sixel_encoder.specs.Encoding.{image_fault, source_value};
 ghost use Rattle.sixel_encoder.specs.IndexedDrawing.{IsPaletteText, IsTextOf, indexed_drawing};
 ghost use Rattle.sixel_encoder.specs.IndexedDrawing.{palette_fault, index_count_fault};
 ghost use Rattle.sixel_encoder.specs.IndexedDrawing.{index_range_fault, indexed_fault};
 
-use crate::form::{TextForm, encode_in_form};
-use crate::source::Source;
-use crate::text::IndexedImage;
-use sixel_base::size::{validate_buffer, validate_color_count, validate_encode_dimensions};
+use crate::form::TextForm;
+use crate::source::{Source, encode_drawing, validate_source};
+use sixel_base::size::validate_color_count;
 use sixel_base::{Result, SixelError};
 use sixel_palette::dithering::dithered_indices;
 use sixel_palette::dithering::mapped::MappedImage;
 use sixel_palette::mapping::Mapping;
 use sixel_palette::palette::colors::is_opaque;
-use sixel_palette::palette::nearest_indices::color_bytes;
 use std::alloc::Global;
 
 /// Returns the SIXEL output of an image in a palette of 1 to 256 colors.
@@ -71,14 +66,6 @@ pub fn encode_with_indices(
     encode_drawing(alloc, source, colors, indices, form)
 }
 
-/// Returns an error unless an image has valid sizes and the bytes for them.
-pub fn validate_source(source: &Source<'_>) -> Result<()>
-    ensures { result ≡ verdict (image_fault (source_value source.now)) }
-{
-    validate_encode_dimensions(source.width, source.height)?;
-    validate_buffer(source.width, source.height, source.pixels.len())
-}
-
 /// Returns an error unless there are as many indices as pixels.
 fn validate_index_count(source: &Source<'_>, count: usize) -> Result<()>
     requires { image_fault (source_value source.now) ≡ None }
@@ -125,36 +112,4 @@ pub fn encode_dithered(
     let image = MappedImage::plain(source.pixels, source.width, colors);
     let indices = dithered_indices(alloc, &image, mapping)?;
     encode_drawing(alloc, source, colors, &indices, form)
-}
-
-/// Returns the SIXEL output of the drawing of an image by valid indices.
-pub fn encode_drawing(
-    alloc: Global,
-    source: &Source<'_>,
-    colors: &[[u8; 3]],
-    indices: &[u8],
-    form: TextForm,
-) -> Result<String>
-    requires sound { image_fault (source_value source.now) ≡ None }
-    requires few { length colors.now ≤ 256 }
-    requires count { length indices.now ≡ source.now.width * source.now.height }
-    requires opaque { (pixel : ℕ) → pixel < length indices.now
-        → 128 ≤ slice_index source.now.pixels.now (4 * pixel + 3)
-        → slice_index indices.now pixel < length colors.now }
-    ensures memory { IfErr result (λ e. e ≡ SixelError.OutOfMemory) }
-    ensures text { IfOk result (λ text. IsTextOf form
-        (indexed_drawing (source_value source.now) colors.now indices.now)
-        (string_bytes text)) }
-{
-    color_bytes(colors);
-    let image = IndexedImage {
-        width: source.width,
-        height: source.height,
-        aspect_ratio: source.aspect_ratio,
-        background_mode: source.background_mode,
-        colors,
-        pixels: source.pixels,
-        indices,
-    };
-    Ok(encode_in_form(alloc, &image, form)?)
 }

@@ -7,8 +7,7 @@ ghost use Rattle.sixel_encoder.specs.IndexedDrawing.{palette_fault};
 ghost use Rattle.sixel_encoder.specs.RefinedText.{IsRefinedText};
 
 use crate::form::TextForm;
-use crate::given_palette::{encode_drawing, validate_source};
-use crate::source::Source;
+use crate::source::{Source, encode_drawing, validate_source};
 use sixel_base::Result;
 use sixel_base::size::validate_color_count;
 use sixel_palette::dithering::map_to_refined;

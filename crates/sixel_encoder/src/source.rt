@@ -1,15 +1,19 @@
 //! An image whose pixels are borrowed, and its SIXEL output.
 
-ghost use Rattle.std.specs.Prelude.{◌≡◌, ◌<◌, All, IfErr, IfOk, MatchOption, OnOk, string_bytes};
+ghost use Rattle.std.specs.Prelude.{◌≡◌, ℕ, ◌+◌, ◌*◌, ◌<◌, ◌≤◌, All, IfErr, IfOk, MatchOption};
+ghost use Rattle.std.specs.Prelude.{None, OnOk, length, slice_index, string_bytes};
+ghost use Rattle.sixel_base.specs.Size.{verdict};
 ghost use Rattle.sixel_encoder.specs.Encoding.{image_fault, source_value};
 ghost use Rattle.sixel_encoder.specs.Form.{IsFormText};
+ghost use Rattle.sixel_encoder.specs.IndexedDrawing.{IsTextOf, indexed_drawing};
 
 use crate::form::{TextForm, encode_in_form};
-use crate::given_palette::validate_source;
 use crate::text::IndexedImage;
 use sixel_base::settings::{BackgroundMode, PixelAspectRatio};
+use sixel_base::size::{validate_buffer, validate_encode_dimensions};
 use sixel_base::{Result, SixelError};
 use sixel_palette::palette::choose_palette;
+use sixel_palette::palette::nearest_indices::color_bytes;
 use std::alloc::Global;
 
 /// An image to encode: `4 * width * height` bytes of pixels.
@@ -54,6 +58,46 @@ pub fn encode_source(
         colors: &choice.colors,
         pixels: source.pixels,
         indices: &choice.indices,
+    };
+    Ok(encode_in_form(alloc, &image, form)?)
+}
+
+/// Returns an error unless an image has valid sizes and the bytes for them.
+pub fn validate_source(source: &Source<'_>) -> Result<()>
+    ensures { result ≡ verdict (image_fault (source_value source.now)) }
+{
+    validate_encode_dimensions(source.width, source.height)?;
+    validate_buffer(source.width, source.height, source.pixels.len())
+}
+
+/// Returns the SIXEL output of the drawing of an image by valid indices.
+pub fn encode_drawing(
+    alloc: Global,
+    source: &Source<'_>,
+    colors: &[[u8; 3]],
+    indices: &[u8],
+    form: TextForm,
+) -> Result<String>
+    requires sound { image_fault (source_value source.now) ≡ None }
+    requires few { length colors.now ≤ 256 }
+    requires count { length indices.now ≡ source.now.width * source.now.height }
+    requires opaque { (pixel : ℕ) → pixel < length indices.now
+        → 128 ≤ slice_index source.now.pixels.now (4 * pixel + 3)
+        → slice_index indices.now pixel < length colors.now }
+    ensures memory { IfErr result (λ e. e ≡ SixelError.OutOfMemory) }
+    ensures text { IfOk result (λ text. IsTextOf form
+        (indexed_drawing (source_value source.now) colors.now indices.now)
+        (string_bytes text)) }
+{
+    color_bytes(colors);
+    let image = IndexedImage {
+        width: source.width,
+        height: source.height,
+        aspect_ratio: source.aspect_ratio,
+        background_mode: source.background_mode,
+        colors,
+        pixels: source.pixels,
+        indices,
     };
     Ok(encode_in_form(alloc, &image, form)?)
 }

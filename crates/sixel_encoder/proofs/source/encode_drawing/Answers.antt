@@ -3,7 +3,7 @@ use Rattle.std.specs.Prelude.{All}
 use Rattle.std.proofs.lemmas.List.{get_or_default}
 use Rattle.sixel_encoder.specs.Trip.{IsColor}
 use Rattle.sixel_encoder.proofs.drawings.IndexedText.{IsTextOf-written, IsWritable-indexed}
-use Rattle.sixel_encoder.proofs.given_palette.encode_drawing.Goals as goal
+use Rattle.sixel_encoder.proofs.source.encode_drawing.Goals as goal
 
 pub returns-clause-text : goal.returns-clause-text
 returns-clause-text c =
