@@ -13,8 +13,8 @@ ghost use Rattle.sixel_palette.specs.inside.PaletteCounts.{IsPositionOf, IsRanki
 ghost use Rattle.sixel_palette.specs.inside.PaletteRanks.{IsRankBitmap};
 
 use crate::palette::color_set::rank_bitmap::RankBitmap;
-use crate::palette::colors::{are_four_of, pixel_word};
-use crate::palette::indices::{are_opaque, four_words};
+use crate::palette::colors::{are_four_of, four_words, pixel_word};
+use crate::palette::indices::are_opaque;
 use std::alloc::{AllocError, Global};
 
 /// The pixels of each distinct color, and the ranks of the colors.

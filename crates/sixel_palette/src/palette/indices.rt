@@ -12,8 +12,9 @@ ghost use Rattle.sixel_palette.specs.inside.PaletteLookUp.{IsLookUp, HasColorsOf
 ghost use Rattle.sixel_palette.specs.inside.PaletteRanks.{IsRankBitmap};
 
 use crate::palette::color_set::rank_bitmap::RankBitmap;
-use crate::palette::colors::{are_four_of, pixel_word};
+use crate::palette::colors::{are_four_of, four_words, pixel_word};
 use std::alloc::{AllocError, Global};
+use std::simd::prelude::*;
 
 /// The palette index of each pixel, from those of the colors in use.
 pub fn indices_of(
@@ -172,20 +173,6 @@ fn fill_indices(indices: &mut [u8], pixels: &[u8], look_up: &LookUp<'_>)
     }
 }
 
-/// The words of four pixels, from this one on.
-#[inline(always)]
-pub fn four_words(pixels: &[u8], pixel: usize) -> [u32; 4]
-    requires { pixel + 4 ≤ length pixels.now / 4 }
-    ensures { AreFourWords pixels.now pixel result }
-{
-    [
-        pixel_word(pixels, pixel),
-        pixel_word(pixels, pixel + 1),
-        pixel_word(pixels, pixel + 2),
-        pixel_word(pixels, pixel + 3),
-    ]
-}
-
 /// Looks up and stores the palette indices of four pixels, and returns the last.
 #[inline(never)]
 fn fill_four(
@@ -226,7 +213,7 @@ fn fill_pixel(indices: &mut [u8], pixels: &[u8], pixel: usize, word: u32, look_u
     fill_one(indices, pixels, pixel, look_up.index_of(word));
 }
 
-/// Stores the palette indices of four pixels, after those of earlier pixels.
+/// Stores the palette indices of four pixels at once, after those of earlier pixels.
 #[inline(always)]
 fn fill_four_with(indices: &mut [u8], pixels: &[u8], pixel: usize, four: [u8; 4])
     requires size { length indices.old ≡ length pixels.now / 4 }
@@ -237,10 +224,7 @@ fn fill_four_with(indices: &mut [u8], pixels: &[u8], pixel: usize, four: [u8; 4]
         → AreIndicesTo pixels.now entries pixel indices.old
         → AreIndicesTo pixels.now entries (pixel + 4) indices.new }
 {
-    fill_one(indices, pixels, pixel, four[0]);
-    fill_one(indices, pixels, pixel + 1, four[1]);
-    fill_one(indices, pixels, pixel + 2, four[2]);
-    fill_one(indices, pixels, pixel + 3, four[3]);
+    u8x4::from_array(four).copy_to_slice(&mut indices[pixel..]);
 }
 
 /// Stores a pixel's palette index, after those of the pixels before it.

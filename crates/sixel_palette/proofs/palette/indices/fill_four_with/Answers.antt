@@ -1,13 +1,21 @@
-use Rattle.std.proofs.Common.{◌≡◌, ◌+◌, arith}
+use Rattle.std.proofs.Common.{◌≡◌, ◌+◌, ◌-◌, ◌<◌, inl, inr, arith}
+use Rattle.std.proofs.lemmas.Bool.{cases_lt}
+use Rattle.std.proofs.lemmas.Simd.{get_or-put_chunk_below, get_or-put_chunk_at}
 use Rattle.sixel_palette.proofs.palette.indices.fill_four_with.Goals as goal
 
 pub returns-clause-indices : goal.returns-clause-indices
-returns-clause-indices c = λ entries each before.
-    let at_first : c.args.pixel + 0 ≡ c.args.pixel = omega arith in
-    let one = c.fill_one.ensures.indices entries (rw at_first at (each 0 (omega arith))) before in
-    let two = c.fill_one-2.ensures.indices entries (each 1 (omega arith)) one in
-    let three =
-    c.fill_one-3.ensures.indices entries (each 2 (omega arith)) (λ k l. two k (omega arith)) in
-    let four =
-    c.fill_one-4.ensures.indices entries (each 3 (omega arith)) (λ k l. three k (omega arith)) in
-    λ k l. four k (omega arith)
+returns-clause-indices c = λ entries each before k l.
+    let pixel = c.args.pixel in
+    let indices = c.args.indices.now in
+    elim (cases_lt k pixel) [
+      | inl below ↦
+          rw (get_or-put_chunk_below pixel indices c.args.four k 0 below) (before k below)
+      | inr above ↦
+          let j = k - pixel in
+          let small : j < 4 = omega (arith, above, l) in
+          let place : pixel + j ≡ k = omega (arith, above) in
+          let same =
+          get_or-put_chunk_at pixel indices c.args.four j 0 (omega (arith, small))
+          (omega (arith, c.requires.size, c.requires.within)) in
+          rw (rw place at same) (rw place at (each j small))
+    ]
