@@ -13,10 +13,10 @@
 #include <termios.h>
 #include <unistd.h>
 
-/* The screen of a terminal that does not report its size, the milliseconds for its answers, and how
- * many pixels of a frame and bytes of all make the palette of an animation at most. */
+/* The screen of a terminal that does not report its size, and the milliseconds for its answers. */
 enum { USUAL_WIDTH = 800, USUAL_HEIGHT = 480, USUAL_ROWS = 24, TIMEOUT = 1000 };
-enum { FRAME_SAMPLES = 1 << 16, MAX_SAMPLES = 1 << 27 };
+/* The most pixels of a frame, and bytes of all, for a palette; bytes that a loader gets at once. */
+enum { FRAME_SAMPLES = 1 << 16, MAX_SAMPLES = 1 << 27, CHUNK = 1 << 16 };
 
 static const char help[] =
     "usage: sixel-view [OPTION ..] [FILE ..], where - or no file is standard input\n"
@@ -183,8 +183,7 @@ static void show(GdkPixbuf *image, icysixel_encoding encoding)
     if (dither >= 0) encoding.dithering.kind = (uint8_t)dither;
     encoding.tolerance = ICYSIXEL_AUTO;
     encoding.form = ICYSIXEL_FORM_COMPACT;
-    const uint8_t *pixels = gdk_pixbuf_read_pixels(image);
-    check(icysixel_encode(pixels, length, &encoding, &text));
+    check(icysixel_encode(gdk_pixbuf_read_pixels(image), length, &encoding, &text));
     draw(&text, (int)encoding.height);
     icysixel_free_bytes(&text);
     g_object_unref(image);
@@ -266,11 +265,14 @@ static void show_sixel(const char *bytes, size_t length, GError **error)
     icysixel_free_bytes(&pixels);
 }
 
-/* Shows an image, an animation, or the first frame of one without a terminal. */
-static void show_loaded(const char *bytes, size_t length, GError **error)
+/* Shows an image, an animation, or the first frame of one without a terminal. The loader gets the
+ * file in chunks, because that of GIF moves the rest of a chunk at each block. */
+static void show_loaded(const uint8_t *bytes, size_t length, GError **error)
 {
     GdkPixbufLoader *loader = gdk_pixbuf_loader_new();
-    int is_whole = gdk_pixbuf_loader_write(loader, (const uint8_t *)bytes, length, error);
+    int is_whole = 1;
+    for (size_t at = 0; at < length && is_whole; at += CHUNK)
+        is_whole = gdk_pixbuf_loader_write(loader, bytes + at, MIN(CHUNK, length - at), error);
     is_whole &= gdk_pixbuf_loader_close(loader, is_whole ? error : NULL);
     GdkPixbufAnimation *animation = gdk_pixbuf_loader_get_animation(loader);
     if (is_whole && is_terminal && !gdk_pixbuf_animation_is_static_image(animation)) {
@@ -295,7 +297,7 @@ static int show_file(const char *name)
     if (is_read && (bytes[0] == '\033' || bytes[0] == '\x90'))
         show_sixel(bytes, length, &error);
     else if (is_read)
-        show_loaded(bytes, length, &error);
+        show_loaded((const uint8_t *)bytes, length, &error);
     restore();
     g_free(bytes);
     if (error == NULL) return 0;

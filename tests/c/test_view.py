@@ -3,6 +3,7 @@ import fcntl
 import os
 import pty
 import re
+import resource
 import select
 import signal
 import struct
@@ -34,6 +35,17 @@ def gif():
     screen = b"GIF89a\1\0\1\0\x80\0\0\xff\0\0\0\xff\0"
     frame = b"!\xf9\4\0\x14\0\0\0,\0\0\0\0\1\0\1\0\0\2\2"
     return screen + b"".join(frame + it + b"\1\0" for it in (b"\x44", b"\x4c")) + b";"
+
+
+def long_gif():
+    """500 frames of 126x126 pixels that are not compressed: 8 MB."""
+    screen = b"GIF89a" + struct.pack("<2H3B", 126, 126, 0xF6, 0, 0) + bytes(3 * 128)
+    # A code of 8 bits for each pixel, and one that clears the table before it needs 9.
+    data = 126 * (b"\x80" + 126 * b"\1") + b"\x81"
+    blocks = [data[it:it + 255] for it in range(0, len(data), 255)]
+    frame = b"," + struct.pack("<4HB", 0, 0, 126, 126, 0) + b"\7"
+    frame += b"".join(bytes([len(it)]) + it for it in blocks) + b"\0"
+    return screen + 500 * (b"!\xf9\4\0\2\0\0\0" + frame) + b";"
 
 
 def jpeg():
@@ -254,6 +266,15 @@ class TestView(unittest.TestCase):
         """All frames of an animation have one palette: with one color, the mean of all."""
         mean = RED.replace(b"100;0;0", b"50;50;0")
         self.assertEqual(self.shown("-c 1", gif()), HIDE + placed(mean, mean) + SHOW)
+
+    def test_long_animation(self):
+        """A long file is loaded in linear time: 0.1 seconds, where 17 would be quadratic."""
+        def limit():
+            resource.setrlimit(resource.RLIMIT_CPU, (3, 3))
+
+        status, text, errors = run(self.view, stdin=long_gif(), preexec_fn=limit)
+        self.assertEqual((status, errors), (0, b""))
+        self.assertTrue(text.startswith(b'\x1bP9;1;0q"1;1;126;126#0;2;0;0;0#0!126~'))
 
     def test_tmux(self):
         """tmux passes the output on, unless it reports SIXEL itself."""
