@@ -195,7 +195,7 @@ class TestStreams(unittest.TestCase):
 
     def test_mutants_in_hosts(self):
         """The same for the code of each page for a host."""
-        for source in "foot", "xterm":
+        for source in "foot", "tmux", "xterm":
             with self.subTest(page=source):
                 code = test_c.page_code(ROOT / f"examples/hosts/{source}.md")
                 (self.folder / "page.c").write_text(code)
