@@ -1,86 +1,105 @@
-/* libsixel's sixel_encode by this library, for programs that encode frames as mpv does. Built as a
- * shared object and preloaded, it encodes in place of libsixel.
+/* libsixel's sixel_encode by this library, for programs that call it, such as img2sixel and mpv.
+ * Built as a shared object and preloaded, it encodes RGB images in place of libsixel.
  *
- * Pixels have three bytes. Each frame gets a palette of its own, in place of a fixed one. Nothing
- * is dithered. Other calls of libsixel on the two structs of this file are not supported. */
+ * An image gets a palette of its own, with at most as many colors as its dither has. It is not
+ * dithered. 8-bit controls and HLS colors are not written. libsixel still encodes other pixels,
+ * payloads without their DCS sequence or palette, and output that a multiplexer passes on. */
+#define _GNU_SOURCE
 #include "icysixel.h"
+#include <dlfcn.h>
 #include <sixel.h>
-#include <stdlib.h>
+#include <string.h>
 
-struct sixel_output {
+/* Declares `next`, the function of libsixel that this file replaces. */
+#define NEXT(name)                           \
+    __typeof__(name) *next;                  \
+    void *address = dlsym(RTLD_NEXT, #name); \
+    memcpy(&next, &address, sizeof next)
+
+/* What a program has set in an output or in a dither. */
+struct settings {
+    const void *object;
     sixel_write_function write;
     void *data;
+    int format, is_partial, is_passed_on;
 };
 
-struct sixel_dither {
-    uint16_t max_colors;
-};
+/* The settings by address. One that is found with another object is lost, and libsixel encodes. */
+static struct settings *settings_of(const void *object)
+{
+    static struct settings table[256];
+    return &table[(uintptr_t)object / 16 % 256];
+}
 
 SIXELSTATUS sixel_output_new(sixel_output_t **output, sixel_write_function write, void *data,
                              sixel_allocator_t *allocator)
 {
-    (void)allocator;
-    *output = calloc(1, sizeof **output);
-    if (*output == NULL) return SIXEL_BAD_ALLOCATION;
-    (*output)->write = write;
-    (*output)->data = data;
-    return SIXEL_OK;
+    NEXT(sixel_output_new);
+    SIXELSTATUS status = next(output, write, data, allocator);
+    if (SIXEL_SUCCEEDED(status))
+        *settings_of(*output) = (struct settings){.object = *output, .write = write, .data = data};
+    return status;
 }
 
-void sixel_output_unref(sixel_output_t *output) { free(output); }
-
-void sixel_output_set_encode_policy(sixel_output_t *output, int policy)
+void sixel_output_set_skip_dcs_envelope(sixel_output_t *output, int on)
 {
-    (void)output, (void)policy;
+    NEXT(sixel_output_set_skip_dcs_envelope);
+    settings_of(output)->is_partial = on;
+    next(output, on);
+}
+
+void sixel_output_set_penetrate_multiplexer(sixel_output_t *output, int on)
+{
+    NEXT(sixel_output_set_penetrate_multiplexer);
+    settings_of(output)->is_passed_on = on;
+    next(output, on);
 }
 
 SIXELSTATUS sixel_dither_new(sixel_dither_t **dither, int colors, sixel_allocator_t *allocator)
 {
-    (void)allocator;
-    *dither = malloc(sizeof **dither);
-    if (*dither == NULL) return SIXEL_BAD_ALLOCATION;
-    (*dither)->max_colors = colors < 2 || colors > 256 ? 256 : (uint16_t)colors;
-    return SIXEL_OK;
+    NEXT(sixel_dither_new);
+    SIXELSTATUS status = next(dither, colors, allocator);
+    if (SIXEL_SUCCEEDED(status))
+        *settings_of(*dither) =
+            (struct settings){.object = *dither, .format = SIXEL_PIXELFORMAT_RGB888};
+    return status;
 }
 
-sixel_dither_t *sixel_dither_get(int name)
+void sixel_dither_set_pixelformat(sixel_dither_t *dither, int format)
 {
-    sixel_dither_t *dither = NULL;
-    (void)name;
-    sixel_dither_new(&dither, 256, NULL);
-    return dither;
+    NEXT(sixel_dither_set_pixelformat);
+    settings_of(dither)->format = format;
+    next(dither, format);
 }
 
-void sixel_dither_unref(sixel_dither_t *dither) { free(dither); }
-
-SIXELSTATUS sixel_dither_initialize(sixel_dither_t *dither, unsigned char *pixels, int width,
-                                    int height, int format, int largest, int rep, int quality)
+void sixel_dither_set_body_only(sixel_dither_t *dither, int on)
 {
-    (void)dither, (void)pixels, (void)width, (void)height;
-    (void)largest, (void)rep, (void)quality;
-    return format == SIXEL_PIXELFORMAT_RGB888 ? SIXEL_OK : SIXEL_BAD_ARGUMENT;
+    NEXT(sixel_dither_set_body_only);
+    settings_of(dither)->is_partial = on;
+    next(dither, on);
 }
-
-void sixel_dither_set_diffusion_type(sixel_dither_t *dither, int type) { (void)dither, (void)type; }
-
-void sixel_dither_set_body_only(sixel_dither_t *dither, int on) { (void)dither, (void)on; }
-
-int sixel_dither_get_num_of_histogram_colors(sixel_dither_t *dither) { return dither->max_colors; }
 
 SIXELSTATUS sixel_encode(unsigned char *pixels, int width, int height, int depth,
                          sixel_dither_t *dither, sixel_output_t *output)
 {
+    NEXT(sixel_encode);
+    const struct settings *of_output = settings_of(output), *of_dither = settings_of(dither);
+    int colors = sixel_dither_get_num_of_palette_colors(dither);
+    if (of_output->object != output || of_output->is_partial || of_output->is_passed_on ||
+        of_dither->object != dither || of_dither->is_partial || width <= 0 || height <= 0 ||
+        of_dither->format != SIXEL_PIXELFORMAT_RGB888 || colors < 1 || colors > 256)
+        return next(pixels, width, height, depth, dither, output);
     icysixel_encoding encoding = {.width = (size_t)width, .height = (size_t)height};
     icysixel_bytes text = {0};
-    (void)depth;
-    if (width <= 0 || height <= 0) return SIXEL_BAD_ARGUMENT;
     encoding.format = ICYSIXEL_FORMAT_RGB;
     encoding.background = ICYSIXEL_BACKGROUND_OPAQUE;
     encoding.palette = ICYSIXEL_PALETTE_FARTHEST;
-    encoding.max_colors = dither->max_colors;
+    encoding.form = ICYSIXEL_FORM_COMPACT;
+    encoding.max_colors = (uint16_t)colors;
     size_t length = 3 * encoding.width * encoding.height;
     uint32_t code = icysixel_encode(pixels, length, &encoding, &text);
-    if (code == ICYSIXEL_OK) output->write((char *)text.data, (int)text.length, output->data);
+    if (code == ICYSIXEL_OK)
+        of_output->write((char *)text.data, (int)text.length, of_output->data);
     icysixel_free_bytes(&text);
     return code == ICYSIXEL_OK ? SIXEL_OK : SIXEL_BAD_INPUT;
 }

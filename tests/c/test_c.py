@@ -176,6 +176,18 @@ class TestC(unittest.TestCase):
         decode = self.program("decode", "LLVM", EXAMPLES)
         self.assertEqual(self.succeeds(decode, stdin=bytes(text)), b"\xff\0\0\xff" * 12)
 
+    @needs("img2sixel", "pkg-config")
+    def test_preload_img2sixel(self):
+        """img2sixel writes an image by preload_encoder.c; libsixel that for a multiplexer."""
+        image = b"P6\n2 2\n255\n" + 4 * b"\xff\0\0"
+        env = os.environ | {"LD_PRELOAD": self.preload()}
+        for options in "", "-p 16", "-e", "-8", "-t hls", "-I", "-d none", "-w 3", "-c 1x2+0+0":
+            with self.subTest(options=options):
+                written = self.succeeds("img2sixel", *options.split(), stdin=image, env=env)
+                self.assertRegex(written, rb"\A\x1bP9;0;0q[^\x1b]*\x1b\\\Z")
+        written = self.succeeds("img2sixel", "-P", stdin=image, env=env)
+        self.assertEqual(written, self.succeeds("img2sixel", "-P", stdin=image))
+
     @needs("mpv", "pkg-config")
     def test_preload_mpv(self):
         """mpv shows a frame with preload_encoder.c."""
