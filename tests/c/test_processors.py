@@ -27,7 +27,8 @@ def cross_build(target, compiler, *words):
     changed = {"RUSTC": "/usr/bin/rustc", "RUSTC_BOOTSTRAP": "1", linker: compiler}
     source = 'source.crates-io.replace-with="rust"', f'source.rust.directory="{VENDORED}"'
     words += *(f"--config={it}" for it in source), f"--target={target}", f"--target-dir={folder}"
-    words += "-Zbuild-std=core,alloc", "--config=profile.release.package.'*'.opt-level=0"
+    words += "-Zbuild-std=core,alloc", "--config=profile.dev.debug=0"
+    words += ("--config=profile.release.package.'*'.opt-level=0",)
     words = CARGO, "rustc", "--quiet", "--offline", "--package=icysixel", *words
     status, _, errors = run(*words, cwd=PLAIN, env=os.environ | changed, timeout=900)
     assert status == 0, errors.decode()

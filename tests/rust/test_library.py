@@ -20,10 +20,11 @@ TREE = ROOT / "out/rust"
 C11 = ["gcc", "-std=c11", "-pedantic", "-Wall", "-Wextra", "-Werror", f"-I{HEADERS}"]
 SANITIZERS = ["-fsanitize=address,undefined", "-fno-sanitize-recover=all"]
 # How cargo builds an archive, in a folder of out/rust/target, and how a test is linked with it.
+# The last one is that of the Makefile.
 BUILDS = {
-    "checked": ("--profile checked", []),
-    "default": ("--release --no-default-features", []),
-    "unchecked": ("--release", SANITIZERS),
+    "checked": (["--profile=checked"], []),
+    "default": (["--release", "--no-default-features"], []),
+    "unchecked": ([], SANITIZERS),
 }
 NEEDED = {*"abort bcmp memcpy memmove memset rattle_alloc rattle_dealloc rattle_realloc".split()}
 INSTALLED = ["bin/sixel", "include/icysixel.h", "lib/libicysixel.a", "lib/libicysixel.so.0",
@@ -52,12 +53,14 @@ class TestLibrary(unittest.TestCase):
 
     def archive(self, name):
         """The archive of a build, which allocates by the memory hooks."""
-        words, target = BUILDS[name][0].split(), TREE / "target" / name
-        command = ["cargo", "build", "--quiet", "--offline", "--package", "icysixel"]
-        options = ["--features", "hooks", "--target-dir", target]
+        words, target = BUILDS[name][0], TREE / "target" / name
+        if not words:
+            return TREE / "out/libicysixel.a"
+        command = ["cargo", "rustc", "--quiet", "--offline", "--package", "icysixel"]
+        options = ["--features", "hooks", "--crate-type", "staticlib", "--target-dir", target]
         self.succeeds(*command, *options, *words, cwd=TREE)
-        profile = "checked" if "--profile" in words else "release"
-        return target / profile / "libicysixel.a"
+        archive, = target.glob("*/libicysixel.a")
+        return archive
 
     def written(self, program, archive, *flags):
         """What a test program writes that is linked with an archive."""
