@@ -38,7 +38,10 @@ loop-code-preserved c = λ k l. elim (cases_lt k c.loop-code.code-index) [
 pub returns : goal.returns
 returns c = (
   λ yes color listed.
-      rw (← listed.2) (c.loop-code.invariant listed.0 (omega (arith, listed.1,
-      c.loop-code-test.false))),
+      rw (← listed.2) (c.loop-code.invariant listed.0 (omega (
+        arith,
+        listed.1,
+        c.loop-code-test.false,
+      ))),
   λ all. refl,
 )

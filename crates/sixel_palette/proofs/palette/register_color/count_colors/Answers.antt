@@ -13,8 +13,7 @@ returns-clause-count c = λ n size.
 pub returns-clause-exact : goal.returns-clause-exact
 returns-clause-exact c =
     let are = c.in_ok-codes.ensures in
-    let exact = rw c.deref.ensures.value at c.are_exact.ensures in
-    (
+    let exact = rw c.deref.ensures.value at c.are_exact.ensures in (
       λ yes color shown. exact.0 yes color (are.shown color shown),
       λ all. exact.1 (λ color listed. all color (are.listed color listed)),
     )
