@@ -1,23 +1,26 @@
 -- A refined text shows the very pixels of an image whose colors registers show, if its palette may
 -- have them all.
-use Rattle.std.proofs.Common.{◌≡◌, ℕ, ◌/◌, ◌<◌, ◌≤◌, List, [], length, refl, ap, ◌∙◌, arith}
+use Rattle.std.proofs.Common.{◌≡◌, ℕ, ◌/◌, ◌<◌, ◌≤◌, List, [], ◌∷◌, ◌++◌, length, refl, ap, ◌∙◌}
+use Rattle.std.proofs.Common.{arith}
 use Rattle.std.specs.Prelude.{All, Contains, None, slice_index, slice_index_or}
 use Rattle.std.proofs.lemmas.Bool.Decides.{nat_tests}
 use Rattle.std.proofs.Math.Nat.{mul_comm}
 use Rattle.std.proofs.lemmas.List.{get_or-map, length-map}
 use Rattle.sixel_base.specs.Payload.{Image}
-use Rattle.sixel_palette.specs.Palette.{HasSize, IsOpaque, IsShown, color_at}
+use Rattle.sixel_palette.specs.Palette.{AreIndices, HasSize, IsOpaque, IsShown, color_at}
 use Rattle.sixel_palette.specs.Refined.{IsRegisterColor, register_color}
 use Rattle.sixel_palette.specs.Dithering.{mapped_of, target_of}
 use Rattle.sixel_palette.specs.declared.dither.Dither.TheVariants.{Off}
 use Rattle.sixel_palette.proofs.mapped_images.DiffusionLaws.{nearest-own}
 use Rattle.sixel_palette.proofs.mapped_images.DitheredIndices.{AreIndices-mapped, AreRows}
+use Rattle.sixel_palette.proofs.mapped_images.KeptEntries.{entry_of-opaque}
 use Rattle.sixel_palette.proofs.refinement.Refined.{register_color-own}
 use Rattle.sixel_palette.proofs.traversal.Law.{size_same}
 use Rattle.sixel_encoder.specs.declared.form.TextForm.{TextForm}
 use Rattle.sixel_encoder.specs.Encoding.{image_fault}
 use Rattle.sixel_encoder.specs.IndexedDrawing.{indexed_drawing}
 use Rattle.sixel_encoder.specs.RefinedText.{IsRefinedText, ShowsPixels, no_mapping}
+use Rattle.sixel_encoder.specs.Trip.{trip_pixel}
 use Rattle.sixel_encoder.proofs.drawings.IndexedDrawing.{get_or-entries}
 use Rattle.sixel_encoder.proofs.drawings.Sizes.{within-sound}
 
@@ -40,11 +43,10 @@ module _ (image : Image) (max_colors n : ℕ) (form : TextForm) (text : List ℕ
   three : All (λ p. length p ≡ 3) is.palette.colors.items
   three = λ k d l. grind (arith, nat_tests, is.refined.shown k d l)
 
-  -- so an opaque pixel has the index of its color
-  own-index : (pixel : ℕ) → pixel < length image.pixels / 4 → IsOpaque image.pixels pixel
-      → slice_index_or is.palette.colors.items (slice_index is.text.indices pixel) []
-      ≡ color_at image.pixels pixel
-  own-index pixel l light =
+  -- an image with an opaque pixel has the nearest indices of a palette that has its colors
+  own-indices : (pixel : ℕ) → pixel < length image.pixels / 4 → IsOpaque image.pixels pixel
+      → AreIndices image.pixels is.palette.colors.items is.text.indices
+  own-indices pixel l light =
       let m = mapped_of no_mapping image.width image.pixels is.palette.colors.items in
       let has = held (color_at image.pixels pixel) (pixel, l, light, refl) in
       let within = within-sound image sound in
@@ -57,13 +59,25 @@ module _ (image : Image) (max_colors n : ℕ) (form : TextForm) (text : List ℕ
         };
         some = omega (arith, has.1);
       } in
-      let are =
       AreIndices-mapped m (target_of Off m is.text.indices) is.text.indices rows refl
-      is.text.dithered (λ visit inside opaque. refl) in
-      nearest-own is.palette.colors.items (color_at image.pixels pixel) _ three refl has
-      (are.opaque pixel l light)
+      is.text.dithered (λ visit inside opaque. refl)
+
+  -- so an opaque pixel has the index of its color
+  own-index : (pixel : ℕ) → pixel < length image.pixels / 4 → IsOpaque image.pixels pixel
+      → slice_index_or is.palette.colors.items (slice_index is.text.indices pixel) []
+      ≡ color_at image.pixels pixel
+  own-index pixel l light =
+      nearest-own is.palette.colors.items (color_at image.pixels pixel) _ three refl
+      (held (color_at image.pixels pixel) (pixel, l, light, refl))
+      ((own-indices pixel l light).opaque pixel l light)
 
   pub ShowsPixels-exact :
       ShowsPixels image (indexed_drawing image is.palette.colors.items is.text.indices)
   ShowsPixels-exact pixel l light =
-      grind (arith, nat_tests, own-index, get_or-entries, is.exact)
+      let drawing = indexed_drawing image is.palette.colors.items is.text.indices in
+      let are = own-indices pixel l light in
+      ap (trip_pixel drawing)
+      (get_or-entries image.pixels is.text.indices pixel (omega (arith, l, are.one_each))
+      ∙ entry_of-opaque image.pixels is.text.indices pixel light)
+      ∙ is.exact _ (are.opaque pixel l light).entry
+      ∙ ap (λ c. c ++ 255 ∷ []) (own-index pixel l light)
