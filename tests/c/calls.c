@@ -81,7 +81,7 @@ static void make_silent_calls(void)
     icysixel_discard_image(h), icysixel_set_register(h, 1, 2, 3, 4);
     icysixel_set_registers(h, 1, &color, 1), icysixel_reset_registers(h);
     icysixel_set_lenient(h, 1), icysixel_set_transparent(h, 1), icysixel_set_limit(h, 1);
-    icysixel_set_clip(h, 1, 1);
+    icysixel_set_clip(h, 1, 1), icysixel_set_first_register(h, 1);
 }
 
 /* On an empty handle each call reports that, and writes nothing. */
@@ -107,7 +107,8 @@ static void test_empty_handle(void)
     CHECK(block.length == 7 && color.red == 7 && memcmp(buffer, "\7\7\7\7", 4) == 0);
     CHECK((icysixel_is_receiving(h) | icysixel_in_payload(h) | icysixel_get_drawn_height(h)
            | icysixel_get_rows_so_far(h) | icysixel_get_height(h)
-           | icysixel_get_lenient(h) | icysixel_get_transparent(h) | icysixel_get_limit(h)) == 0);
+           | icysixel_get_lenient(h) | icysixel_get_transparent(h) | icysixel_get_limit(h)
+           | icysixel_get_first_register(h)) == 0);
     icysixel_free(h);
 }
 
@@ -334,6 +335,28 @@ static void test_transparent(void)
     RETURNS(OK, icysixel_copy_pixels(h, 0, 6, &(icysixel_layout){0}, whole, 24));
     CHECK(are_rows(whole, 6, "\t\t\t\377", 4));
     icysixel_reset_registers(h);
+}
+
+/* An image draws in the first register until it selects one, and its background is register 0. */
+static void test_first_register(void)
+{
+    uint8_t pixel[8];
+    icysixel_layout layout = {0};
+    CHECK(icysixel_get_first_register(h) == 0);
+    icysixel_begin_payload(h, 9, 0), icysixel_set_first_register(h, 15);
+    CHECK(FEED("@") == OK && icysixel_finish(h, &shape) == OK);
+    RETURNS(OK, icysixel_copy_pixels(h, 0, 2, &layout, pixel, 8));
+    CHECK(memcmp(pixel, "\0\0\0\377\0\0\0\377", 8) == 0);
+    icysixel_begin_payload(h, 9, 0), icysixel_set_first_register(h, 255);
+    CHECK(FEED("@") == OK && icysixel_finish(h, &shape) == OK);
+    RETURNS(OK, icysixel_copy_pixels(h, 0, 2, &layout, pixel, 8));
+    CHECK(memcmp(pixel, "\314\314\314\377\0\0\0\377", 8) == 0);
+    CHECK(icysixel_get_first_register(h) == 255);
+    CHECK(DECODE("@") == OK && icysixel_copy_pixels(h, 0, 2, &layout, pixel, 8) == OK);
+    CHECK(memcmp(pixel, "\377\377\377\377\0\0\0\377", 8) == 0);
+    CHECK(DECODE("#2@") == OK && icysixel_copy_pixels(h, 0, 2, &layout, pixel, 8) == OK);
+    CHECK(memcmp(pixel, "\314!!\377\0\0\0\377", 8) == 0);
+    icysixel_set_first_register(h, 0);
 }
 
 /* Rows below the end of an image are not stored, whether they were released or not. */
@@ -932,7 +955,7 @@ int main(void)
     static const struct { const char *name; void (*test)(void); } tests[] = {
         TEST(empty_handle), TEST(new_on_full_handle), TEST(progress), TEST(failed_feeds),
         TEST(bands), TEST(copied_rows), TEST(wider_end), TEST(whole_rows),
-        TEST(lenient), TEST(transparent), TEST(cropped_rows), TEST(pixels), TEST(errors),
+        TEST(lenient), TEST(transparent), TEST(first_register), TEST(cropped_rows), TEST(pixels), TEST(errors),
         TEST(drawn_height), TEST(raster_size), TEST(take_pixels), TEST(new_on_full_handle),
         TEST(take_no_pixels),
         TEST(registers), TEST(settings), TEST(encode), TEST(shapes),

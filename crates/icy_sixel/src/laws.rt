@@ -35,8 +35,9 @@ pub fn headline()
     ensures { Headline }
 {}
 
-/// States what bytes mean to a decoder: leniency and transparency have no part in it.
+/// States what bytes mean to a decoder: the settings of a receiver have no part in it.
 ///
+/// - `strict`: its images are strict, have the background of P2, and begin with register 0.
 /// - `fault`, `tokens`: every token takes effect, and the error is that of the first faulty one.
 /// - `background`: a pixel that is not drawn is as P2 says.
 /// - `end`: a DCS sequence can be finished exactly if it has ended.

@@ -87,6 +87,7 @@ pub struct SixelReceiver {
     decoder: SixelDecoder,
     lenient: bool,
     transparent: bool,
+    first_register: u8,
     open: Open,
     failure: Option<Failure>,
 }
@@ -111,7 +112,7 @@ impl SixelReceiver {
 
     /// Creates a receiver with this decoder and no open image.
     ///
-    /// Its images are neither lenient, nor have they a transparent background whatever P2 says.
+    /// Its images are strict, have the background that P2 selects, and begin with register 0.
     pub fn with_decoder(decoder: SixelDecoder) -> Self
         ensures { result ≡ idle decoder }
     {
@@ -119,6 +120,7 @@ impl SixelReceiver {
             decoder,
             lenient: false,
             transparent: false,
+            first_register: 0,
             open: Open::Nothing,
             failure: None,
         }
@@ -324,8 +326,9 @@ impl SixelReceiver {
     {
         let state = self.decoder.state;
         let limit = state.pixel_limit.with_lenient(self.lenient);
+        let limit = limit.with_transparent(self.transparent);
         DecoderState {
-            pixel_limit: limit.with_transparent(self.transparent),
+            pixel_limit: limit.with_first_register(self.first_register),
             ..state
         }
     }

@@ -472,6 +472,15 @@ uint8_t icysixel_get_transparent(const icysixel *handle);
  * is not painted in the color of register 0. */
 void icysixel_set_transparent(icysixel *handle, uint8_t on);
 
+/* Returns the register in which an image draws until it selects one. */
+uint8_t icysixel_get_first_register(icysixel *handle);
+
+/* Sets the register in which images that are begun or decoded afterwards draw until they select
+ * one. It is 0 in a new decoder. Register 0 is also the background of opaque images, so an image
+ * that selects no register is invisible in it. foot and libsixel begin with register 15, xterm
+ * with 3. */
+void icysixel_set_first_register(icysixel *handle, uint8_t number);
+
 /* Returns how many pixels an image can have, or 0 if the handle is empty. */
 size_t icysixel_get_limit(const icysixel *handle);
 

@@ -1,4 +1,4 @@
-//! The calls that read and set where images end, lenience, transparency, limit and clip.
+//! The calls that read and set where images end, lenience, transparency, registers and limits.
 
 ghost use Rattle.std.specs.Prelude.{◌≡◌, ◌≢◌, ◌==◌, Some, None, is_some, true, false, not};
 ghost use Rattle.std.specs.Prelude.{cond};
@@ -109,6 +109,31 @@ pub extern "C" fn icysixel_set_transparent(slot: &mut Slot, on: u8)
 {
     if slot.is_held() {
         slot.state().receiver.set_transparent(on != 0);
+    }
+}
+
+/// Returns the register in which an image draws until it selects one.
+#[unsafe(no_mangle)]
+pub extern "C" fn icysixel_get_first_register(slot: &mut Slot) -> u8
+    ensures same { slot.new.handle.state ≡ slot.old.handle.state }
+    ensures none { slot.old.handle.state ≡ None → result ≡ 0 }
+    ensures value { (state : State) → slot.old.handle.state ≡ Some state
+        → result ≡ state.receiver.first_register }
+{
+    if !slot.is_held() {
+        return 0;
+    }
+    slot.state().receiver.first_register()
+}
+
+/// Sets the register in which an image draws until it selects one.
+#[unsafe(no_mangle)]
+pub extern "C" fn icysixel_set_first_register(slot: &mut Slot, register: u8)
+    ensures { IsReceiverSet (λ receiver. record receiver { first_register = register })
+        slot.old.handle.state slot.new.handle.state }
+{
+    if slot.is_held() {
+        slot.state().receiver.set_first_register(register);
     }
 }
 

@@ -62,6 +62,12 @@ with_transparent decoder on = record decoder {
   pixel_limit = record decoder.pixel_limit { transparent = on };
 }
 
+-- a decoder of which images draw in this register until they select one
+abbrev pub with_first_register : DecoderState → ℕ → DecoderState
+with_first_register decoder register = record decoder {
+  pixel_limit = record decoder.pixel_limit { first_register = register };
+}
+
 -- what the host has set is the same
 abbrev pub IsSetAs : DecoderState → DecoderState → Type 0
 IsSetAs before after =

@@ -22,14 +22,15 @@ abbrev pub header_limit : ℕ
 header_limit = 65535
 
 -- which pixels an image may have: at most `pixels` of them, and those of its clip, `columns` from
--- the left and `rows` from the top; whether a command with a fault is ignored; and whether pixels
--- that are not drawn are transparent whatever P2 says
+-- the left and `rows` from the top; whether a command with a fault is ignored; whether pixels that
+-- are not drawn are transparent whatever P2 says; and which register draws before one is selected
 pub record Limit : Type 0 where
   pub pixels : ℕ
   pub columns : ℕ
   pub rows : ℕ
   pub lenient : Bool
   pub transparent : Bool
+  pub first_register : ℕ
 
 -- the limit that a host sets none above: it clips nothing
 abbrev pub whole_limit : Limit
@@ -39,4 +40,5 @@ whole_limit = record {
   rows = side_limit;
   lenient = false;
   transparent = false;
+  first_register = 0;
 }

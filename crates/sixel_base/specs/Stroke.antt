@@ -1,6 +1,6 @@
 -- What color a pixel has: that which was selected when the last sixel that covers it was read, else
 -- the background. A register has its last definition, else the color that it had when the picture
--- began.
+-- began. The host may set which register is selected first, which is this library's own.
 use Rattle.std.specs.Prelude.{ℕ, ◌+◌, ◌*◌, ◌==◌, nat_le, min, max, Bool, ◌&&◌, ◌||◌, if◌then◌else◌}
 use Rattle.std.specs.Prelude.{List, [], ◌∷◌, ◌++◌, length, slice_set, slice_index_or}
 use Rattle.sixel_base.specs.declared.settings.BackgroundMode.{BackgroundMode}
@@ -31,11 +31,11 @@ definition text =
     if field text 1 == 1 then hls (field text 2) (field text 3) (field text 4)
     else rgb (field text 2) (field text 3) (field text 4)
 
--- the register that the next sixel is drawn in
-abbrev pub selected : History → ℕ
-selected [] = 0
-selected (Color text ∷ older) = named_by text
-selected (_ ∷ older) = selected older
+-- the register that the next sixel is drawn in, where this one is selected first
+abbrev pub selected : ℕ → History → ℕ
+selected first [] = first
+selected first (Color text ∷ older) = named_by text
+selected first (_ ∷ older) = selected first older
 
 -- each register's last definition, else its color at the start
 abbrev pub registers : List (List ℕ) → History → List (List ℕ)
@@ -45,10 +45,6 @@ registers start (Color text ∷ older) =
     else registers start older
 registers start (_ ∷ older) = registers start older
 
--- the color that the next sixel is drawn in
-abbrev pub color : List (List ℕ) → History → List ℕ
-color start history = slice_index_or (registers start history) (selected history) []
-
 -- what a picture begins from: the registers, the settings, whether it is cropped to its raster
 -- attributes, and which pixels it may have
 pub record Origin : Type 0 where
@@ -56,6 +52,12 @@ pub record Origin : Type 0 where
   pub settings : Settings
   pub raster_crop : Bool
   pub pixel_limit : Limit
+
+-- the color that the next sixel is drawn in
+abbrev pub color : Origin → History → List ℕ
+color origin history =
+    slice_index_or (registers origin.registers history)
+    (selected origin.pixel_limit.first_register history) []
 
 -- a pixel where nothing was drawn: transparent, or register 0 as the picture began
 abbrev pub background_of : List (List ℕ) → BackgroundMode → List ℕ
@@ -73,7 +75,7 @@ abbrev pub pixel : Origin → History → ℕ → ℕ → List ℕ
 pixel origin [] column row = background origin
 pixel origin (Sixel bits ∷ older) column row =
     if covers (across older) (across older + span older) (down older) bits column row
-    then color origin.registers older ++ 255 ∷ []
+    then color origin older ++ 255 ∷ []
     else pixel origin older column row
 pixel origin (_ ∷ older) column row = pixel origin older column row
 

@@ -19,6 +19,7 @@ pub struct PixelLimit {
     rows: usize,
     lenient: bool,
     transparent: bool,
+    first_register: u8,
 }
 
 impl Model for PixelLimit {
@@ -33,6 +34,7 @@ impl Model for PixelLimit {
       rows = limit.rows;
       lenient = limit.lenient;
       transparent = limit.transparent;
+      first_register = limit.first_register;
     } };
 
     ghost inverse = { λ limit. record {
@@ -41,6 +43,7 @@ impl Model for PixelLimit {
       rows = limit.rows;
       lenient = limit.lenient;
       transparent = limit.transparent;
+      first_register = limit.first_register;
     } };
 
     ghost invariant = { λ limit. (1 ≤ limit.pixels) × (limit.pixels ≤ area_limit)
@@ -59,6 +62,7 @@ impl PixelLimit {
             rows: MAX_SIDE,
             lenient: false,
             transparent: false,
+            first_register: 0,
         }
     }
 
@@ -117,6 +121,23 @@ impl PixelLimit {
         ensures { result ≡ self.transparent }
     {
         self.transparent
+    }
+
+    /// The same limit, by which an image draws in this register until it selects one.
+    pub fn with_first_register(self, register: u8) -> Self
+        ensures { result ≡ record self { first_register = register } }
+    {
+        Self {
+            first_register: register,
+            ..self
+        }
+    }
+
+    /// The register in which an image draws until it selects one.
+    pub fn first_register(self) -> u8
+        ensures { result ≡ self.first_register }
+    {
+        self.first_register
     }
 
     /// How many pixels an image may have.

@@ -93,7 +93,7 @@ impl<C: Canvas + Drop> Painter<C> {
             raster_crop: decoder.raster_crop,
             pixel_limit: decoder.pixel_limit,
             ratio: settings.pixel_aspect_ratio(),
-            color: opaque(decoder.registers.get(0)),
+            color: opaque(decoder.registers.get(decoder.pixel_limit.first_register())),
             repeat: 1,
             column: 0,
             width: 1,

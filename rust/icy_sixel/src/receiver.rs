@@ -106,13 +106,14 @@ impl SixelReceiver {
 
     /// Returns the decoder, and aborts an open image.
     ///
-    /// Its images are neither lenient nor transparent where nothing is drawn: these settings are
-    /// the receiver's.
+    /// Its images are neither lenient nor transparent where nothing is drawn, and begin with
+    /// register 0: these settings are the receiver's.
     #[must_use]
     pub fn into_decoder(mut self) -> SixelDecoder {
         self.abort();
         self.set_lenient(false);
         self.set_transparent(false);
+        self.set_first_register(0);
         self.decoder
     }
 
@@ -307,6 +308,21 @@ impl SixelReceiver {
     #[must_use]
     pub fn is_transparent(&self) -> bool {
         self.decoder.core.is_transparent()
+    }
+
+    /// Sets the register in which an image draws until it selects one.
+    ///
+    /// It is 0 in a new receiver. The setting applies to images that are begun afterwards. Register
+    /// 0 is also the background of opaque images, so an image that selects no register is invisible
+    /// in it. foot and libsixel begin with register 15, xterm with 3.
+    pub fn set_first_register(&mut self, register: u8) {
+        self.decoder.core.set_first_register(register);
+    }
+
+    /// The register in which an image draws until it selects one: 0 in a new receiver.
+    #[must_use]
+    pub fn first_register(&self) -> u8 {
+        self.decoder.core.first_register()
     }
 
     /// Sets how many pixels an image can have.

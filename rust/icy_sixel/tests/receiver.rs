@@ -250,6 +250,20 @@ fn what_is_not_drawn_is_transparent() {
 }
 
 #[test]
+fn first_register_draws_until_one_is_selected() {
+    let mut receiver = SixelReceiver::new();
+    receiver.set_first_register(15);
+    receiver.set_register(15, [255, 0, 0]);
+    receiver.begin_dcs();
+    assert!(receiver.feed(b"\x1bPq@\x1b\\").is_ok());
+    let image = receiver.finish().unwrap();
+    assert_eq!((&image.pixels[..4], &image.pixels[4..8]), (&RED[..], &[0, 0, 0, 255][..]));
+    assert_eq!((receiver.first_register(), SixelReceiver::new().first_register()), (15, 0));
+    let image = receiver.into_decoder().decode(b"\x1bPq@\x1b\\").unwrap();
+    assert_eq!(image.pixels[..4], [0, 0, 0, 255]);
+}
+
+#[test]
 fn lenient_images_ignore_commands() {
     let mut receiver = SixelReceiver::new();
     receiver.set_lenient(true);

@@ -158,6 +158,8 @@ fn names_of_our_own() {
     let _: fn(&Receiver) -> bool = Receiver::is_lenient;
     let _: fn(&mut Receiver, bool) = Receiver::set_transparent;
     let _: fn(&Receiver) -> bool = Receiver::is_transparent;
+    let _: fn(&mut Receiver, u8) = Receiver::set_first_register;
+    let _: fn(&Receiver) -> u8 = Receiver::first_register;
     type Received = receiver::ReceivedImage;
     let _: fn(&mut Receiver) -> Answer<Received> = Receiver::finish;
     let _: fn(&Received, usize, usize, Layout, &mut [u8]) -> Answer<()> = Received::copy_rows;

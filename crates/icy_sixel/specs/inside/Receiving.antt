@@ -35,5 +35,6 @@ receiver_of receiver = record {
   decoder = receiver.decoder;
   lenient = receiver.lenient;
   transparent = receiver.transparent;
+  first_register = receiver.first_register;
   image = record (reception_of receiver.open) { failure = option_map fault_of receiver.failure };
 }

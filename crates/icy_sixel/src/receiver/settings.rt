@@ -1,4 +1,4 @@
-//! What the host of a receiver sets: the decoder, lenience and transparency.
+//! What the host of a receiver sets: decoder, lenience, transparency and first register.
 
 ghost use Rattle.std.specs.Prelude.{◌≡◌};
 ghost use Rattle.std.specs.Borrow.{sem};
@@ -64,5 +64,24 @@ impl SixelReceiver {
         ensures { result ≡ self.now.transparent }
     {
         self.transparent
+    }
+
+    /// Sets the register in which an image draws until it selects one.
+    ///
+    /// It is 0 in a new receiver, and applies to the same images as
+    /// [`set_lenient`](Self::set_lenient). Register 0 is also the background of opaque images, so
+    /// an image that selects no register is invisible in it. foot and libsixel begin with register
+    /// 15, xterm with 3.
+    pub fn set_first_register(&mut self, register: u8)
+        ensures { self.new ≡ record self.old { first_register = register } }
+    {
+        self.first_register = register;
+    }
+
+    /// The register in which an image draws until it selects one: 0 in a new receiver.
+    pub fn first_register(&self) -> u8
+        ensures { result ≡ self.now.first_register }
+    {
+        self.first_register
     }
 }

@@ -41,7 +41,7 @@ covers_more from bits top column row more ink old = grind (arith, nat_tests)
 -- the pixels then
 pixel-sixels : (o : Origin) (h : History) (sixels : List ℕ) (column row : ℕ) → span h ≡ 1
     → pixel o (with_sixels h sixels) column row
-    ≡ (if covers_all (across h) sixels (down h) column row then color o.registers h ++ 255 ∷ []
+    ≡ (if covers_all (across h) sixels (down h) column row then color o h ++ 255 ∷ []
     else pixel o h column row)
 pixel-sixels o h [] column row single = grind (arith, nat_tests)
 pixel-sixels o h (bits ∷ more) column row single =
@@ -86,7 +86,7 @@ covers_all_outside limit from top column row sixels narrow low outside = grind (
 clipped_pixel-sixels : (o : Origin) (h : History) (sixels : List ℕ) (column row : ℕ)
     → IsInside o.pixel_limit (length sixels) h
     → clipped_pixel o (with_sixels h sixels) column row
-    ≡ (if covers_all (across h) sixels (down h) column row then color o.registers h ++ 255 ∷ []
+    ≡ (if covers_all (across h) sixels (down h) column row then color o h ++ 255 ∷ []
     else clipped_pixel o h column row)
 clipped_pixel-sixels o h sixels column row inside =
     grind (arith, nat_tests, with_sixels, pixel-sixels, covers_all_outside)

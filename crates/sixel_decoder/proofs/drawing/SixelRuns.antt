@@ -67,7 +67,7 @@ IsInside-sixel limit n bits h inside = grind (arith, nat_tests)
 -- what stays, and where the next sixel stands
 pub record IsPassed (limit : Limit) (o : Origin) (n : ℕ) (h after : History) : Type 0 where
   pub registers : registers o.registers after ≡ registers o.registers h
-  pub color : color o.registers after ≡ color o.registers h
+  pub color : color o after ≡ color o h
   pub span : span after ≡ 1
   pub across : across after ≡ across h + n
   pub down : down after ≡ down h

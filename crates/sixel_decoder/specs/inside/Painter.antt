@@ -33,7 +33,7 @@ pub record Shows {C : Type 0} {canvas : Ghosts C} (origin : Origin) (painter : P
   pub paid : canvas.paid painter.canvas (named_width origin.pixel_limit history)
       (runs_of origin.pixel_limit history)
   pub registers : painter.registers ≡ registers origin.registers history
-  pub color : painter.color ≡ color origin.registers history ++ 255 ∷ []
+  pub color : painter.color ≡ color origin history ++ 255 ∷ []
   pub repeat : painter.repeat ≡ span history
   pub column : painter.column ≡ across history
   pub top : canvas.top painter.canvas ≡ down history

@@ -85,7 +85,7 @@ record Reaches (drawing : Drawing) (line : ℕ) (place : Option ℕ) (h : Histor
 -- a mark keeps that
 Reaches-mark : (drawing : Drawing) (start palette : List (List ℕ)) (pen : Pen) (mark : Mark)
     (before : Option ℕ) (h : History) (column line : ℕ) → IsAllowed drawing pen mark
-    → Follows drawing start palette pen h → Reaches drawing line before h
+    → Follows drawing 0 start palette pen h → Reaches drawing line before h
     → Reaches drawing line (covered pen mark before column line) (with_mark mark h)
 Reaches-mark drawing start palette pen (Pick register) before h column line may follows was =
     record { least = was.least; greatest = was.greatest; reached = was.reached }
@@ -111,14 +111,14 @@ Reaches-mark drawing start palette pen Next before h column line may follows was
 -- marks keep it too
 Reaches-marks : (drawing : Drawing) (start palette : List (List ℕ)) (pen : Pen) (marks : List Mark)
     (before : Option ℕ) (h : History) (column line : ℕ) → IsWritable drawing
-    → AreAllowed drawing pen marks → Follows drawing start palette pen h
+    → AreAllowed drawing pen marks → Follows drawing 0 start palette pen h
     → Reaches drawing line before h
     → Reaches drawing line (painted marks pen before column line) (with_marks marks h)
 Reaches-marks drawing start palette pen [] before h column line is may follows was = was
 Reaches-marks drawing start palette pen (mark ∷ marks) before h column line is may follows was =
     Reaches-marks drawing start palette (moved pen mark) marks (covered pen mark before column line)
     (with_mark mark h) column line is may.1
-    (Follows-mark drawing is start palette pen mark h may.0 follows)
+    (Follows-mark drawing is 0 start palette pen mark h may.0 follows)
     (Reaches-mark drawing start palette pen mark before h column line may.0 follows was)
 
 -- the marks make the picture as high as the trip
@@ -130,7 +130,7 @@ height-tokens drawing definitions marks is draws =
     let reaches = λ (column line : ℕ).
     Reaches-marks drawing [] (registers [] (with_palette drawing definitions)) first_pen marks
     None (with_palette drawing definitions) column line is draws.allowed
-    (Follows-palette drawing [] definitions is) (grind (arith, nat_tests)) in
+    (Follows-palette drawing 0 [] definitions is) (grind (arith, nat_tests)) in
     grind (arith, nat_tests, used-pixel, bands_up_to-last, reaches)
 
 -- ---- the height that raster attributes name

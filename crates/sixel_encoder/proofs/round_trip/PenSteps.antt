@@ -36,13 +36,13 @@ keeps_registers entry h start small = rw (defines_none entry small) refl
 
 -- ---- marks
 
--- a history is where the pen is, with this palette, within the drawing's sizes
-pub record Follows (drawing : Drawing) (start palette : List (List ℕ)) (pen : Pen)
+-- a history is where the pen is, with this first register and palette, within the drawing's sizes
+pub record Follows (drawing : Drawing) (first : ℕ) (start palette : List (List ℕ)) (pen : Pen)
     (history : History) : Type 0 where
   pub single : span history ≡ 1
   pub place : across history ≡ pen.column
   pub level : down history ≡ 6 * pen.band
-  pub named : (register : ℕ) → pen.register ≡ Some register → selected history ≡ register
+  pub named : (register : ℕ) → pen.register ≡ Some register → selected first history ≡ register
   pub defined : registers start history ≡ palette
   pub shape : (other : PixelAspectRatio) → ratio other history ≡ drawing.aspect_ratio
   pub fits : Fits whole_limit drawing.width (6 * bands drawing.height) history
@@ -57,24 +57,24 @@ module _ (drawing : Drawing) (is : IsWritable drawing) where
   IsWithinLimits-drawing = record { wide = is.wide; high = is.high; area = is.area }
 
   -- a history follows the pen over a mark
-  pub Follows-mark : (start palette : List (List ℕ)) (pen : Pen) (mark : Mark) (h : History)
-      → IsAllowed drawing pen mark → Follows drawing start palette pen h
-      → Follows drawing start palette (moved pen mark) (with_mark mark h)
-  Follows-mark start palette pen (Pick register) h may follows =
+  pub Follows-mark : (first : ℕ) (start palette : List (List ℕ)) (pen : Pen) (mark : Mark)
+      (h : History) → IsAllowed drawing pen mark → Follows drawing first start palette pen h
+      → Follows drawing first start palette (moved pen mark) (with_mark mark h)
+  Follows-mark first start palette pen (Pick register) h may follows =
       grind (arith, nat_tests, selects, same_some, keeps_registers)
-  Follows-mark start palette pen (Draw row) h may follows =
+  Follows-mark first start palette pen (Draw row) h may follows =
       let fits =
       Fits-run_tokens whole_limit drawing.width (6 * bands drawing.height) (row_tokens row) h in
       let sound = AreSound-row row in
       grind (arith, nat_tests, Moved-row row h, spells row, IsWithinLimits-drawing)
-  Follows-mark start palette pen Back h may follows = grind (arith, nat_tests)
-  Follows-mark start palette pen Next h may follows = grind (arith, nat_tests)
+  Follows-mark first start palette pen Back h may follows = grind (arith, nat_tests)
+  Follows-mark first start palette pen Next h may follows = grind (arith, nat_tests)
 
   -- and over all marks
-  pub Follows-marks : (start palette : List (List ℕ)) (pen : Pen) (marks : List Mark) (h : History)
-      → AreAllowed drawing pen marks → Follows drawing start palette pen h
-      → Follows drawing start palette (moved_by marks pen) (with_marks marks h)
-  Follows-marks start palette pen [] h may follows = follows
-  Follows-marks start palette pen (mark ∷ marks) h may follows =
-      Follows-marks start palette (moved pen mark) marks (with_mark mark h) may.1
-      (Follows-mark start palette pen mark h may.0 follows)
+  pub Follows-marks : (first : ℕ) (start palette : List (List ℕ)) (pen : Pen) (marks : List Mark)
+      (h : History) → AreAllowed drawing pen marks → Follows drawing first start palette pen h
+      → Follows drawing first start palette (moved_by marks pen) (with_marks marks h)
+  Follows-marks first start palette pen [] h may follows = follows
+  Follows-marks first start palette pen (mark ∷ marks) h may follows =
+      Follows-marks first start palette (moved pen mark) marks (with_mark mark h) may.1
+      (Follows-mark first start palette pen mark h may.0 follows)

@@ -24,13 +24,13 @@ pub record Moved (row : List ℕ) (old new : History) : Type 0 where
   pub single : span new ≡ 1
   pub place : across new ≡ across old + length row
   pub level : down new ≡ down old
-  pub named : selected new ≡ selected old
+  pub named : (first : ℕ) → selected first new ≡ selected first old
   pub kept : (start : List (List ℕ)) → registers start new ≡ registers start old
   pub shape : (other : PixelAspectRatio) → ratio other new ≡ ratio other old
   pub shown : (origin : Origin) (column line : ℕ)
       → pixel origin new column line
       ≡ cond (is_lit row (across old) (down old) column line)
-      (color origin.registers old ++ 255 ∷ []) (pixel origin old column line)
+      (color origin old ++ 255 ∷ []) (pixel origin old column line)
 
 -- no sixel moves nothing
 Moved-none : (h : History) → span h ≡ 1 → Moved [] h h

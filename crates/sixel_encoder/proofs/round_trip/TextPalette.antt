@@ -106,10 +106,11 @@ module _ (drawing : Drawing) where
       (percentages (slice_index_or drawing.colors definition.entry []))) _ fits)
 
   -- after the definitions the pen is at the top left
-  pub Follows-palette : (start : List (List ℕ)) (definitions : List Definition) → IsWritable drawing
-      → Follows drawing start (registers start (with_palette drawing definitions)) first_pen
+  pub Follows-palette : (first : ℕ) (start : List (List ℕ)) (definitions : List Definition)
+      → IsWritable drawing
+      → Follows drawing first start (registers start (with_palette drawing definitions)) first_pen
       (with_palette drawing definitions)
-  Follows-palette start definitions is = record {
+  Follows-palette first start definitions is = record {
     single = undefined definitions span (raster_of drawing ∷ []) (λ d g. refl);
     place = undefined definitions across (raster_of drawing ∷ []) (λ d g. refl);
     level = undefined definitions down (raster_of drawing ∷ []) (λ d g. refl);

@@ -26,14 +26,15 @@ module _ (palette : List (List ℕ)) (base : List ℕ) where
 
   -- the pen's register has the color that the decoder draws in
   color_in-selected : (drawing : Drawing) (origin : Origin) (pen : Pen) (h : History)
-      → Follows drawing origin.registers palette pen h → is_some pen.register ≡ true
-      → color origin.registers h ++ 255 ∷ [] ≡ color_in palette base pen.register
+      → Follows drawing origin.pixel_limit.first_register origin.registers palette pen h
+      → is_some pen.register ≡ true
+      → color origin h ++ 255 ∷ [] ≡ color_in palette base pen.register
   color_in-selected drawing origin pen h follows some = grind (arith, nat_tests)
 
   -- a mark sets the pixels of its row
   pixel-mark : (drawing : Drawing) (origin : Origin) (pen : Pen) (mark : Mark) (before : Option ℕ)
       (h : History) (column line : ℕ) → IsAllowed drawing pen mark
-      → Follows drawing origin.registers palette pen h
+      → Follows drawing origin.pixel_limit.first_register origin.registers palette pen h
       → pixel origin h column line ≡ color_in palette base before
       → pixel origin (with_mark mark h) column line
       ≡ color_in palette base (covered pen mark before column line)
@@ -46,7 +47,8 @@ module _ (palette : List (List ℕ)) (base : List ℕ) where
   -- each pixel is in the register that it was last drawn in
   pub pixel-marks : (drawing : Drawing) (origin : Origin) (pen : Pen) (marks : List Mark)
       (before : Option ℕ) (h : History) (column line : ℕ) → IsWritable drawing
-      → AreAllowed drawing pen marks → Follows drawing origin.registers palette pen h
+      → AreAllowed drawing pen marks
+      → Follows drawing origin.pixel_limit.first_register origin.registers palette pen h
       → pixel origin h column line ≡ color_in palette base before
       → pixel origin (with_marks marks h) column line
       ≡ color_in palette base (painted marks pen before column line)
@@ -54,5 +56,6 @@ module _ (palette : List (List ℕ)) (base : List ℕ) where
   pixel-marks drawing origin pen (mark ∷ marks) before h column line is may follows was =
       pixel-marks drawing origin (moved pen mark) marks
       (covered pen mark before column line) (with_mark mark h) column line is may.1
-      (Follows-mark drawing is origin.registers palette pen mark h may.0 follows)
+      (Follows-mark drawing is origin.pixel_limit.first_register origin.registers palette pen
+      mark h may.0 follows)
       (pixel-mark drawing origin pen mark before h column line may.0 follows was)

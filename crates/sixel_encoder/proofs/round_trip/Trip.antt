@@ -75,11 +75,12 @@ IsOrigin-new decoder drawing new painted = grind (arith, length-default_register
 
 module _ (drawing : Drawing) (definitions : List Definition) (marks : List Mark) where
   -- after the last mark
-  Follows-tokens : (start : List (List ℕ)) → IsWritable drawing → Draws drawing definitions marks
-      → Follows drawing start (registers start (with_palette drawing definitions))
+  Follows-tokens : (first : ℕ) (start : List (List ℕ)) → IsWritable drawing
+      → Draws drawing definitions marks
+      → Follows drawing first start (registers start (with_palette drawing definitions))
       (moved_by marks first_pen) (tokens drawing definitions marks)
-  Follows-tokens start is draws =
-      Follows-marks _ is _ _ _ _ _ draws.allowed (Follows-palette _ start definitions is)
+  Follows-tokens first start is draws =
+      Follows-marks _ is _ _ _ _ _ _ draws.allowed (Follows-palette _ first start definitions is)
 
   -- each pixel is that of the trip
   pixel-trip : (origin : Origin) (column line : ℕ) → IsWritable drawing
@@ -99,7 +100,7 @@ module _ (drawing : Drawing) (definitions : List Definition) (marks : List Mark)
       → 6 * bands drawing.height ≤ origin.pixel_limit.rows
       → image_of origin (tokens drawing definitions marks) ≡ trip origin.raster_crop drawing
   image-tokens origin is draws from narrow low =
-      let follows = Follows-tokens origin.registers is draws in
+      let follows = Follows-tokens 0 origin.registers is draws in
       grind (arith, cropped_height-tokens, picture-same, pixel-trip)
 
   -- the payload is read as the trip
@@ -118,5 +119,5 @@ module _ (drawing : Drawing) (definitions : List Definition) (marks : List Mark)
       → Draws drawing definitions marks → drawing.width * banded drawing.height ≤ limit.pixels
       → payload_fault limit (marks_payload drawing definitions marks ++ 27 ∷ rest) ≡ None
   payload-sound limit rest is draws room =
-      let fits = (Follows-tokens [] is draws).fits in
+      let fits = (Follows-tokens 0 [] is draws).fits in
       grind (arith, nat_tests, payload-read, fault-sound, first_fault-other, mul-le)

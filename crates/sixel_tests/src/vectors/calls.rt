@@ -158,6 +158,11 @@ fn set(receiver: &mut SixelReceiver, word: &str, argument: &str) -> Result<()> {
             receiver.set_transparent(on);
             ensure(receiver.is_transparent() == on, "is_transparent")?;
         }
+        "first" => {
+            let register = argument.parse::<u8>()?;
+            receiver.set_first_register(register);
+            ensure(receiver.first_register() == register, "first_register")?;
+        }
         "limit" => receiver
             .decoder_mut()
             .set_pixel_limit(argument.parse::<usize>()?),

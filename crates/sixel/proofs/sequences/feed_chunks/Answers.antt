@@ -65,7 +65,11 @@ chunks-preserved c =
     let all = c.total-fed.ensures in
     record {
       decoder = s.decoder ∙ before.decoder;
-      settings = (s.settings.0 ∙ before.settings.0, s.settings.1 ∙ before.settings.1);
+      settings = (
+        s.settings.0 ∙ before.settings.0,
+        s.settings.1 ∙ before.settings.1,
+        s.settings.2 ∙ before.settings.2,
+      );
       form = form;
       start = s.fed.start ∙ before.start;
       released = s.fed.released ∙ before.released;

@@ -15,7 +15,7 @@ returns-in-Nothing c =
     (stored.again _) stored.first stored.stored in
     record {
       decoder = refl;
-      settings = (refl, refl);
+      settings = (refl, refl, refl);
       fed = fed.0;
       failure = fed.1;
       counted = search rules;
@@ -28,7 +28,7 @@ returns-in-Err c =
     c.in-Err.ensures.fed.fed (stored.again _) stored.first stored.stored in
     rw (← c.self.view_is, c.in-Payload.is) (record {
       decoder = refl;
-      settings = (refl, refl);
+      settings = (refl, refl, refl);
       fed = fed.0;
       failure = fed.1;
       counted = c.in-Err.ensures.counted;
@@ -39,7 +39,7 @@ returns-in-Ok-feed c =
     rw (← c.self.view_is, c.in-ControlString.is, c.of_sequence.ensures)
     (let fed = fed_ok _ _ _ c.args.piece.now _ c.in-Ok-feed.ensures.fed in record {
       decoder = refl;
-      settings = (refl, refl);
+      settings = (refl, refl, refl);
       fed = fed;
       failure = refl;
       counted = fed_counted _ _ c.args.piece.now _ fed;
@@ -53,7 +53,7 @@ returns-in-Err-feed c =
     c.in-Err-feed.ensures.fed (stored.again _) stored.first stored.stored in
     rw (← c.self.view_is, c.in-ControlString.is) (record {
       decoder = refl;
-      settings = (refl, refl);
+      settings = (refl, refl, refl);
       fed = fed.0;
       failure = fed.1;
       counted = c.in-Err-feed.ensures.counted;

@@ -9,6 +9,7 @@ pub returns-clause-settings : goal.returns-clause-settings
 returns-clause-settings c = (
   ap (λ (r : SixelReceiver). r.lenient) c.self.view_is,
   ap (λ (r : SixelReceiver). r.transparent) c.self.view_is,
+  ap (λ (r : SixelReceiver). r.first_register) c.self.view_is,
 )
 
 pub returns-clause-image : goal.returns-clause-image

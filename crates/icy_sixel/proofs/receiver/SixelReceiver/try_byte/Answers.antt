@@ -22,7 +22,7 @@ fed c = elim c.match-self.branch [
       (w.try_byte.ensures.fed is).fed in
       record {
         decoder = refl;
-        settings = (refl, refl);
+        settings = (refl, refl, refl);
         fed = now;
         failure = refl;
         counted = fed_counted _ _ (c.args.byte ∷ []) _ now;
@@ -33,7 +33,7 @@ fed c = elim c.match-self.branch [
       (w.try_byte-in-ControlString.ensures.fed is) in
       record {
         decoder = refl;
-        settings = (refl, refl);
+        settings = (refl, refl, refl);
         fed = now;
         failure = refl;
         counted = fed_counted _ _ (c.args.byte ∷ []) _ now;
