@@ -28,8 +28,8 @@ static uint32_t begin_image(struct terminal *term)
         icysixel_set_height(&term->sixel, ICYSIXEL_HEIGHT_DRAWN);
         icysixel_set_lenient(&term->sixel, 1);
         icysixel_set_registers(&term->sixel, 0, palette, sizeof palette / sizeof *palette);
-        icysixel_set_limit(&term->sixel, SCREEN_WIDTH * SCREEN_HEIGHT);
-        icysixel_set_clip(&term->sixel, SCREEN_WIDTH, SIZE_MAX);
+        icysixel_set_first_register(&term->sixel, 15);
+        icysixel_set_clip(&term->sixel, SCREEN_WIDTH, SCREEN_HEIGHT);
     }
     icysixel_begin_payload(&term->sixel, p[0], p[1]);
     return ICYSIXEL_OK;

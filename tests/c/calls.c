@@ -501,6 +501,28 @@ static void test_drawn_height(void)
     icysixel_set_height(h, 0), icysixel_set_clip(h, SIZE_MAX, SIZE_MAX);
 }
 
+/* A clip has no effect on the rows of an image and of its drawn part, but that it ends them. */
+static void test_clipped_heights(void)
+{
+    static const char *const data[] = {"??~", "?~", "~-?~-?", "\"1;1;3;7!3?@-@", "\"1;1;1;3~-~", "!9@"};
+    for (uint8_t end = 0; end < 3; end++)
+        EACH(it, data) {
+            icysixel_set_height(h, end), icysixel_set_clip(h, SIZE_MAX, SIZE_MAX);
+            CHECK(DECODE(*it) == OK);
+            const icysixel_shape whole = shape;
+            for (size_t rows = 1; rows < 20; rows++) {
+                icysixel_set_clip(h, 1 + rows % 2, rows);
+                CHECK(DECODE(*it) == OK);
+                CHECK(shape.height == (whole.height < rows ? whole.height : rows));
+                const size_t drawn = whole.drawn_height;
+                CHECK(shape.drawn_height == (drawn < rows ? drawn : rows));
+            }
+        }
+    icysixel_set_height(h, ICYSIXEL_HEIGHT_DRAWN), icysixel_set_clip(h, 2, SIZE_MAX);
+    CHECK(DECODE("??~") == OK && shape.width == 2 && shape.height == 6 && !shape.is_empty);
+    icysixel_set_height(h, 0), icysixel_set_clip(h, SIZE_MAX, SIZE_MAX);
+}
+
 /* The size in raster attributes, as the data have it, and whether an image is empty, so that a
  * terminal does not move its cursor. */
 static void test_raster_size(void)
@@ -956,7 +978,7 @@ int main(void)
         TEST(empty_handle), TEST(new_on_full_handle), TEST(progress), TEST(failed_feeds),
         TEST(bands), TEST(copied_rows), TEST(wider_end), TEST(whole_rows),
         TEST(lenient), TEST(transparent), TEST(first_register), TEST(cropped_rows), TEST(pixels), TEST(errors),
-        TEST(drawn_height), TEST(raster_size), TEST(take_pixels), TEST(new_on_full_handle),
+        TEST(drawn_height), TEST(clipped_heights), TEST(raster_size), TEST(take_pixels), TEST(new_on_full_handle),
         TEST(take_no_pixels),
         TEST(registers), TEST(settings), TEST(encode), TEST(shapes),
         TEST(encodings), TEST(options), TEST(formats), TEST(widest), TEST(palettes), TEST(indices),

@@ -1,28 +1,28 @@
 -- An image under a clip is the part of the image inside the clip.
-use Rattle.std.proofs.Common.{◌≡◌, ℕ, ◌+◌, ◌≤◌, false, List, [], ◌∷◌, refl}
-use Rattle.std.proofs.Common.{◌∙◌, None, arith}
+use Rattle.std.proofs.Common.{◌≡◌, ℕ, ◌≤◌, List, [], ◌∷◌, refl, sym, ap, subst, ◌∙◌, None, arith}
+use Rattle.std.proofs.Common.{min}
 use Rattle.std.proofs.lemmas.Bool.Decides.{nat_tests}
-use Rattle.std.proofs.lemmas.Nat.{mul-le}
 use Rattle.sixel_base.specs.Bytes.{front}
-use Rattle.sixel_base.specs.Clip.{clipped_height, clipped_width}
+use Rattle.sixel_base.specs.Clip.{clipped_width}
 use Rattle.sixel_base.specs.Decoder.{clip_side_of, origin_of, with_clip}
-use Rattle.sixel_base.specs.Fields.{field}
-use Rattle.sixel_base.specs.History.{Sixel, Repeat, Raster, Color, Return, Newline, Skip, History}
-use Rattle.sixel_base.specs.History.{history_of}
-use Rattle.sixel_base.specs.Limits.{Limit, side_limit}
+use Rattle.sixel_base.specs.DrawnHeight.{image_drawn_height}
+use Rattle.sixel_base.specs.History.{History, history_of}
+use Rattle.sixel_base.specs.IgnoredCommands.{payload_ignored}
+use Rattle.sixel_base.specs.Limits.{side_limit}
 use Rattle.sixel_base.specs.OneShot.{Found, Payload, NoPayload, AreFoundRegisters, IsFoundImage}
 use Rattle.sixel_base.specs.OneShot.{found_fault}
-use Rattle.sixel_base.specs.Payload.{Image, area_fault, cropped_height, extent_fault, first_fault}
-use Rattle.sixel_base.specs.Payload.{image_height, image_of, tokens}
-use Rattle.sixel_base.specs.Place.{across, down, span, width}
+use Rattle.sixel_base.specs.Payload.{Image, cropped_height, first_fault, image_height, image_of}
+use Rattle.sixel_base.specs.Payload.{tokens}
+use Rattle.sixel_base.specs.Place.{width}
 use Rattle.sixel_base.specs.Settings.{Settings}
 use Rattle.sixel_base.specs.Stroke.{Origin, pixel}
 use Rattle.sixel_base.specs.declared.state.DecoderState.{DecoderState}
-use Rattle.sixel_base.proofs.ToleratedTokens.{effective-fault, effective-off, registers-effective}
+use Rattle.sixel_base.proofs.ToleratedTokens.{effective-fault, registers-effective}
 use Rattle.sixel_canvas.proofs.Pictures.{picture_same}
-use Rattle.sixel_decoder.proofs.drawing.RowExtents.{both_none, cropped_height-most, sides-fit}
+use Rattle.sixel_decoder.specs.Report.{Report, found_report, raster_size, report_of}
+use Rattle.sixel_decoder.proofs.drawing.RowExtents.{cropped_height-most, sides-fit}
 use Rattle.icy_sixel.specs.ClippedImages.{HasNoClip, IsInsideClip, IsPartInside, IsWholeImage}
-use Rattle.icy_sixel.specs.ClippedImages.{whole_image, whole_pixel}
+use Rattle.icy_sixel.specs.ClippedImages.{part_report, whole_image, whole_pixel}
 
 -- ---- without a clip
 
@@ -74,75 +74,74 @@ part_of decoder columns rows settings h inside = record {
   background_mode = refl;
 }
 
+-- the tokens do not depend on a clip
+tokens_stay : (decoder : DecoderState) (columns rows : ℕ) (bytes : List ℕ)
+    → tokens (with_clip decoder columns rows).pixel_limit bytes ≡ tokens decoder.pixel_limit bytes
+tokens_stay decoder columns rows bytes = grind (arith, nat_tests)
+
+-- nor does the number of ignored ones
+ignored_stay : (decoder : DecoderState) (columns rows : ℕ) (bytes : List ℕ)
+    → payload_ignored (with_clip decoder columns rows).pixel_limit bytes
+    ≡ payload_ignored decoder.pixel_limit bytes
+ignored_stay decoder columns rows bytes = grind (arith, nat_tests)
+
 pub part_is : (decoder : DecoderState) (columns rows : ℕ) (payload : Found) (image part : Image)
-    → decoder.pixel_limit.lenient ≡ false → IsInsideClip decoder columns rows
-    → IsFoundImage decoder payload image
+    → IsInsideClip decoder columns rows → IsFoundImage decoder payload image
     → IsFoundImage (with_clip decoder columns rows) payload part
     → IsPartInside (whole_pixel decoder payload) columns rows image part
-part_is decoder columns rows (Payload settings bytes) image part strict inside is is_part =
-    let h : History = history_of (front bytes) in
-    let clip = (with_clip decoder columns rows).pixel_limit in
-    let own = effective-off decoder.pixel_limit h strict in
-    let other = effective-off clip h strict in
-    rw (is, is_part, own, other) (part_of decoder columns rows settings h inside)
-part_is decoder columns rows (NoPayload fault) image part strict inside is is_part = absurd is
+part_is decoder columns rows (Payload settings bytes) image part inside is is_part =
+    let own : History = tokens decoder.pixel_limit bytes in
+    rw (is, is_part)
+    (subst (λ (h : History). IsPartInside (pixel (origin_of decoder settings) own) columns rows
+    (image_of (origin_of decoder settings) own)
+    (image_of (origin_of (with_clip decoder columns rows) settings) h))
+    (sym (tokens_stay decoder columns rows bytes))
+    (part_of decoder columns rows settings own inside))
+part_is decoder columns rows (NoPayload fault) image part inside is is_part = absurd is
+
+-- a report of these tokens
+abbrev report_with : History → ℕ → ℕ → Report
+report_with h ignored drawn = record {
+  drawn_height = drawn;
+  raster = raster_size h;
+  ignored = ignored;
+}
+
+-- the report of the part
+report_part : (decoder : DecoderState) (columns rows : ℕ) (settings : Settings) (h : History)
+    (ignored : ℕ) → IsInsideClip decoder columns rows
+    → report_of (origin_of (with_clip decoder columns rows) settings) h ignored
+    ≡ part_report (report_of (origin_of decoder settings) h ignored) rows
+report_part decoder columns rows settings h ignored inside =
+    let low :
+    image_drawn_height (with_clip decoder columns rows).pixel_limit decoder.raster_crop h
+    ≡ min (image_drawn_height decoder.pixel_limit decoder.raster_crop h) (clip_side_of rows) =
+    omega (arith, inside.rows) in
+    ap (report_with h ignored) low
+
+none_drawn : (n : ℕ) → 0 ≡ min 0 n
+none_drawn n = omega arith
+
+pub report_is : (decoder : DecoderState) (columns rows : ℕ) (payload : Found)
+    → IsInsideClip decoder columns rows → found_report (with_clip decoder columns rows) payload
+    ≡ part_report (found_report decoder payload) rows
+report_is decoder columns rows (Payload settings bytes) inside =
+    let part : Origin = origin_of (with_clip decoder columns rows) settings in
+    let own : History = tokens decoder.pixel_limit bytes in
+    let count : ℕ = payload_ignored part.pixel_limit bytes in
+    ap (λ (h : History). report_of part h count) (tokens_stay decoder columns rows bytes)
+    ∙ ap (report_of part own) (ignored_stay decoder columns rows bytes)
+    ∙ report_part decoder columns rows settings own (payload_ignored decoder.pixel_limit bytes)
+    inside
+report_is decoder columns rows (NoPayload fault) inside =
+    ap (report_with [] 0) (none_drawn (clip_side_of rows))
 
 -- ---- faults
 
--- a limit with a clip that is inside that of another limit
-record IsNarrower (limit other : Limit) : Type 0 where
-  pixels : other.pixels ≡ limit.pixels
-  columns : other.columns ≤ limit.columns
-  rows : other.rows ≤ limit.rows
-
--- it leaves no greater area
-area_none : (limit other : Limit) (h : History) → IsNarrower limit other
-    → area_fault limit h ≡ None → area_fault other h ≡ None
-area_none limit other h less none =
-    let smaller =
-    mul-le (clipped_width other h) (clipped_height other h) (clipped_width limit h)
-    (clipped_height limit h) (omega (arith, less.columns)) (omega (arith, less.rows)) in
-    grind (arith, nat_tests, less)
-
-extent_none : (limit other : Limit) (right lower : ℕ) (h : History) → IsNarrower limit other
-    → extent_fault limit right lower h ≡ None → extent_fault other right lower h ≡ None
-extent_none limit other right lower h less none = grind (arith, nat_tests, area_none)
-
--- and no fault more
-first_none : (limit other : Limit) (h : History) → IsNarrower limit other
-    → first_fault limit h ≡ None → first_fault other h ≡ None
-first_none limit other [] less none = refl
-first_none limit other (Sixel bits ∷ h) less none =
-    let both = both_none (first_fault limit h) _ none in
-    rw (first_none limit other h less both.0)
-    (extent_none limit other (across h + span h) (down h + 6) (Sixel bits ∷ h) less both.1)
-first_none limit other (Raster text ∷ h) less none =
-    let both = both_none (first_fault limit h) _ none in
-    rw (first_none limit other h less both.0)
-    (extent_none limit other (field text 2) (field text 3) (Raster text ∷ h) less both.1)
-first_none limit other (Repeat text ∷ h) less none =
-    let both = both_none (first_fault limit h) _ none in
-    rw (first_none limit other h less both.0) both.1
-first_none limit other (Color text ∷ h) less none =
-    grind (arith, nat_tests, first_none limit other h less)
-first_none limit other (Return ∷ h) less none =
-    grind (arith, nat_tests, first_none limit other h less)
-first_none limit other (Newline ∷ h) less none =
-    grind (arith, nat_tests, first_none limit other h less)
-first_none limit other (Skip byte ∷ h) less none =
-    grind (arith, nat_tests, first_none limit other h less)
-
-pub faultless_is : (decoder : DecoderState) (columns rows : ℕ) (payload : Found)
-    → IsInsideClip decoder columns rows → found_fault decoder.pixel_limit payload ≡ None
-    → found_fault (with_clip decoder columns rows).pixel_limit payload ≡ None
-faultless_is decoder columns rows (Payload settings bytes) inside =
-    let limit : Limit = decoder.pixel_limit in
-    let other : Limit = (with_clip decoder columns rows).pixel_limit in
-    let h : History = history_of (front bytes) in
-    let less : IsNarrower limit other =
-    record { pixels = refl; columns = inside.columns; rows = inside.rows } in
-    λ none. grind (arith, nat_tests, first_none limit other h less)
-faultless_is decoder columns rows (NoPayload fault) inside = λ none. none
+pub fault_is : (decoder : DecoderState) (columns rows : ℕ) (payload : Found)
+    → found_fault (with_clip decoder columns rows).pixel_limit payload
+    ≡ found_fault decoder.pixel_limit payload
+fault_is decoder columns rows payload = grind (arith, nat_tests)
 
 -- ---- registers
 

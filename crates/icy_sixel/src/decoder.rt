@@ -174,9 +174,9 @@ impl SixelDecoder {
 
     /// Sets how many pixels an image can have: at least 1, and at most 67,108,864.
     ///
-    /// The extent of all sixels and raster attributes counts, also if the image is cropped. Of a
-    /// clipped image only the part inside the clip counts. An image is rejected as soon as it has
-    /// more pixels than the limit. Encoding has no such limit.
+    /// The extent of all sixels and raster attributes counts, also if the image is cropped or
+    /// clipped. An image is rejected as soon as it has more pixels than the limit. Encoding has no
+    /// such limit.
     pub fn set_pixel_limit(&mut self, pixels: usize)
         ensures { self.new ≡ with_pixel_limit self.old pixels }
     {
@@ -200,8 +200,7 @@ impl SixelDecoder {
     /// Sets the clip: each side is at least 1, and at most 1,000,000.
     ///
     /// An image is then the picture restricted to these columns and rows, and at most as large.
-    /// What lies outside is not stored, and does not count for the limit of pixels. The registers
-    /// and the other errors are those of the whole picture.
+    /// What lies outside is not stored. The registers and the errors are those of the whole picture.
     pub fn set_clip(&mut self, width: usize, height: usize)
         ensures { self.new ≡ with_clip self.old width height }
     {

@@ -1,6 +1,6 @@
 //! Laws of decoded images, stated by functions with empty bodies.
 
-ghost use Rattle.std.specs.Prelude.{◌≡◌, ℕ, List, None, Bool, true, false};
+ghost use Rattle.std.specs.Prelude.{◌≡◌, ℕ, List, None, Bool, true};
 ghost use Rattle.sixel_base.specs.Clip.{clipped_height, clipped_width};
 ghost use Rattle.sixel_base.specs.Dcs.{can_finish, dcs_status, has_ended};
 ghost use Rattle.sixel_base.specs.Decoder.{origin_of, with_clip, with_transparent};
@@ -13,8 +13,9 @@ ghost use Rattle.sixel_base.specs.PaintedArea.{painted_area};
 ghost use Rattle.sixel_base.specs.Settings.{Settings, mode_of};
 ghost use Rattle.sixel_base.specs.Stroke.{background, background_of};
 ghost use Rattle.sixel_base.specs.declared.state.DecoderState.{DecoderState};
+ghost use Rattle.sixel_decoder.specs.Report.{found_report};
 ghost use Rattle.icy_sixel.specs.ClippedImages.{HasNoClip, IsInsideClip, IsPartInside};
-ghost use Rattle.icy_sixel.specs.ClippedImages.{IsWholeImage, whole_first_fault, whole_pixel};
+ghost use Rattle.icy_sixel.specs.ClippedImages.{IsWholeImage, part_report, whole_pixel};
 ghost use Rattle.icy_sixel.specs.ClippedImages.{whole_painted_area};
 ghost use Rattle.icy_sixel.specs.Headline.{Headline};
 ghost use Rattle.icy_sixel.specs.StrictDecoders.{IsStrict};
@@ -79,22 +80,17 @@ pub fn transparent_images()
 /// States that an image under a clip is the part of the image inside the clip.
 ///
 /// - `whole`: without a clip, as in a new decoder, the image of a payload is its whole picture.
-/// - `whole_fault`, `whole_size`, `whole_area`: then the error is that of the whole picture, and so
-///   are the size and the painted area, by which the work of a canvas is counted.
-/// - `part`: a clip leaves the columns and rows inside it, pixel by pixel. The image that it is
-///   compared with has no clip or a larger one. A lenient image may have another part, because
-///   the area inside the clip decides which commands are ignored.
-/// - `faultless`: a payload without an error has none with a clip.
-/// - `registers`: the registers after an image do not depend on the clip.
+/// - `whole_size`, `whole_area`: then the size and the painted area, by which the work of a canvas is
+///   counted, are those of the whole picture.
+/// - `part`, `report`: a clip leaves the columns and rows inside it, pixel by pixel, and ends the
+///   drawn height. The image that it is compared with has no clip or a larger one.
+/// - `fault`, `registers`: errors and the registers after an image do not depend on the clip.
 ///
 /// The contracts of sessions, receiver and decoding in one call cite the same definitions.
 pub fn clipped_images()
     ensures whole { (decoder : DecoderState) (payload : Found) (image : Image)
         → HasNoClip decoder → found_fault decoder.pixel_limit payload ≡ None
         → IsFoundImage decoder payload image → IsWholeImage decoder payload image }
-    ensures whole_fault { (decoder : DecoderState) (tokens : History) → HasNoClip decoder
-        → first_fault decoder.pixel_limit tokens
-        ≡ whole_first_fault decoder.pixel_limit.pixels tokens }
     ensures whole_size { (decoder : DecoderState) (tokens : History) → HasNoClip decoder
         → first_fault decoder.pixel_limit tokens ≡ None
         → (clipped_width decoder.pixel_limit tokens ≡ width tokens)
@@ -103,14 +99,17 @@ pub fn clipped_images()
         → first_fault decoder.pixel_limit tokens ≡ None
         → painted_area decoder.pixel_limit tokens ≡ whole_painted_area tokens }
     ensures part { (decoder : DecoderState) (columns rows : ℕ) (payload : Found)
-        (image part : Image) → decoder.pixel_limit.lenient ≡ false
-        → IsInsideClip decoder columns rows
+        (image part : Image) → IsInsideClip decoder columns rows
         → IsFoundImage decoder payload image
         → IsFoundImage (with_clip decoder columns rows) payload part
         → IsPartInside (whole_pixel decoder payload) columns rows image part }
-    ensures faultless { (decoder : DecoderState) (columns rows : ℕ) (payload : Found)
-        → IsInsideClip decoder columns rows → found_fault decoder.pixel_limit payload ≡ None
-        → found_fault (with_clip decoder columns rows).pixel_limit payload ≡ None }
+    ensures report { (decoder : DecoderState) (columns rows : ℕ) (payload : Found)
+        → IsInsideClip decoder columns rows
+        → found_report (with_clip decoder columns rows) payload
+        ≡ part_report (found_report decoder payload) rows }
+    ensures fault { (decoder : DecoderState) (columns rows : ℕ) (payload : Found)
+        → found_fault (with_clip decoder columns rows).pixel_limit payload
+        ≡ found_fault decoder.pixel_limit payload }
     ensures registers { (decoder : DecoderState) (columns rows : ℕ) (payload : Found)
         (after : List (List ℕ)) → AreFoundRegisters decoder payload after
         → AreFoundRegisters (with_clip decoder columns rows) payload after }

@@ -74,8 +74,7 @@ enum Open {
 /// ```rust
 /// let mut decoder = SixelDecoder::new();
 /// decoder.set_register(0, background);
-/// decoder.set_pixel_limit(width.saturating_mul(height));
-/// decoder.set_clip(width, usize::MAX);
+/// decoder.set_clip(width, height);
 /// decoder.set_raster_crop(true);
 /// let receiver = SixelReceiver::with_decoder(decoder);
 /// ```

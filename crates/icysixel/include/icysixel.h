@@ -323,8 +323,9 @@ uint32_t icysixel_get_size_so_far(const icysixel *handle, icysixel_size *size);
 
 /* Returns the last row of the open image with a set pixel, plus one. It is 0 if there is none, if
  * no image is open, and after an error. The height of an image with sixels and without raster
- * attributes is a multiple of six, and this number can be less. The shape of the finished image
- * has it too, or the height if the image ends above that row. It does not allocate. */
+ * attributes is a multiple of six, and this number can be less. It counts pixels outside of the
+ * clip too, down to the clip's last row. The shape of the finished image has it too, or the height
+ * if the image ends above that row. It does not allocate. */
 size_t icysixel_get_drawn_height(const icysixel *handle);
 
 /* Returns how many rows from the top of the open image are final. No byte that follows changes a
@@ -473,7 +474,7 @@ uint8_t icysixel_get_transparent(const icysixel *handle);
 void icysixel_set_transparent(icysixel *handle, uint8_t on);
 
 /* Returns the register in which an image draws until it selects one. */
-uint8_t icysixel_get_first_register(icysixel *handle);
+uint8_t icysixel_get_first_register(const icysixel *handle);
 
 /* Sets the register in which images that are begun or decoded afterwards draw until they select
  * one. It is 0 in a new decoder. Register 0 is also the background of opaque images, so an image
@@ -485,7 +486,7 @@ void icysixel_set_first_register(icysixel *handle, uint8_t number);
 size_t icysixel_get_limit(const icysixel *handle);
 
 /* Sets how many pixels an image that is begun afterwards can have. 0 is taken as 1, and a number
- * above 67,108,864 as 67,108,864. */
+ * above 67,108,864 as 67,108,864. The whole picture counts, clipped or not. */
 void icysixel_set_limit(icysixel *handle, size_t pixels);
 
 /* Writes how many columns from the left and rows from the top an image can have: 1,000,000 each in
@@ -493,8 +494,8 @@ void icysixel_set_limit(icysixel *handle, size_t pixels);
 uint32_t icysixel_get_clip(const icysixel *handle, icysixel_size *clip);
 
 /* Sets the columns and rows that an image that is begun afterwards can have. The image is the
- * picture restricted to them. What lies outside is not stored, and does not count for the limit of
- * pixels. 0 is taken as 1, and a number above 1,000,000 as 1,000,000. */
+ * picture restricted to them. What lies outside is not stored. 0 is taken as 1, and a number above
+ * 1,000,000 as 1,000,000. */
 void icysixel_set_clip(icysixel *handle, size_t width, size_t height);
 
 /* -- Encoding -- */

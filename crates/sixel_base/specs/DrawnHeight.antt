@@ -1,9 +1,8 @@
--- How high the drawn part of a picture is inside the clip: the last row with a set pixel, plus one.
--- A picture without raster attributes is a whole number of bands high, and this is not. The measure
--- is this library's own; where sixels are drawn, by DEC's manual, is in Place.
+-- How high the drawn part of a picture is: the last row with a set pixel, plus one. A picture
+-- without raster attributes is a whole number of bands high, and this is not. The measure is this
+-- library's own; where sixels are drawn, by DEC's manual, is in Place.
 use Rattle.std.specs.Prelude.{ℕ, zero, suc, ◌+◌, max, min, nat_lt, Bool, if◌then◌else◌, List, []}
 use Rattle.std.specs.Prelude.{◌∷◌}
-use Rattle.sixel_base.specs.Clip.{clipped_bits, is_inside}
 use Rattle.sixel_base.specs.Dcs.{Stage, Heading, Failing, Reading, stage}
 use Rattle.sixel_base.specs.History.{Sixel, History}
 use Rattle.sixel_base.specs.Picture.{is_set}
@@ -25,18 +24,15 @@ abbrev pub lowered : ℕ → ℕ → ℕ → ℕ
 lowered before top rows = if nat_lt 0 rows then max before (top + rows) else before
 
 -- the last row of the picture with a set pixel, plus one, or 0 if there is none
-abbrev pub drawn_height : Limit → History → ℕ
-drawn_height limit [] = 0
-drawn_height limit (Sixel bits ∷ older) =
-    if is_inside limit older
-    then lowered (drawn_height limit older) (down older)
-    (set_rows (clipped_bits limit (down older) bits))
-    else drawn_height limit older
-drawn_height limit (_ ∷ older) = drawn_height limit older
+abbrev pub drawn_height : History → ℕ
+drawn_height [] = 0
+drawn_height (Sixel bits ∷ older) = lowered (drawn_height older) (down older) (set_rows bits)
+drawn_height (_ ∷ older) = drawn_height older
 
--- that of a payload: a command that is open draws nothing, so the end changes nothing
+-- that of a payload, down to the end of the clip: a command that is open draws nothing, so the end
+-- changes nothing
 abbrev pub payload_drawn_height : Limit → List ℕ → ℕ
-payload_drawn_height limit bytes = drawn_height limit (tokens limit bytes)
+payload_drawn_height limit bytes = min (drawn_height (tokens limit bytes)) limit.rows
 
 -- that of a DCS sequence, and 0 before its payload
 abbrev pub stage_drawn_height : Limit → Stage → ℕ
@@ -51,4 +47,4 @@ dcs_drawn_height limit bytes = stage_drawn_height limit (stage bytes)
 -- set pixel of its picture
 abbrev pub image_drawn_height : Limit → Bool → History → ℕ
 image_drawn_height limit raster_crop history =
-    min (drawn_height limit history) (image_height limit raster_crop history)
+    min (drawn_height history) (image_height limit raster_crop history)

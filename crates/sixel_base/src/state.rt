@@ -10,8 +10,8 @@ use std::marker::Model;
 
 /// Which pixels an image may have: how many, in which columns and rows.
 ///
-/// The columns from the left and the rows from the top are its clip. Nothing outside is drawn,
-/// stored or counted.
+/// The columns from the left and the rows from the top are its clip. Nothing outside is drawn or
+/// stored.
 #[derive(Debug, Clone, Copy)]
 pub struct PixelLimit {
     pixels: usize,

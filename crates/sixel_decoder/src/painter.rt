@@ -69,7 +69,7 @@ pub struct Painter<C: Canvas + Drop> {
     ghost raster_fits: { raster.1 ≤ height },
     ghost clipped_width_is: { clipped_width ≡ min width pixel_limit.columns },
     ghost clipped_height_is: { clipped_height ≡ min height pixel_limit.rows },
-    ghost area_fits: { clipped_width * clipped_height ≤ pixel_limit.pixels },
+    ghost area_fits: { width * height ≤ pixel_limit.pixels },
     ghost limit_fits: { pixel_limit.pixels ≤ area_limit },
     ghost ready_is: { IsReady C.Canvas canvas repeat clipped_width clipped_height ready },
 }
@@ -145,12 +145,12 @@ impl<C: Canvas + Drop> Painter<C> {
         let top = self.canvas.top();
         let columns = self.pixel_limit.columns();
         let rows = self.pixel_limit.rows();
+        self.drawn.add(bits);
         if from < columns && top < rows {
             let bits = clipped_bits(bits, top, rows);
             self.ready = 0;
             self.canvas
                 .draw(from, right.min(columns), bits, self.color)?;
-            self.drawn.add(bits);
         }
         Ok(())
     }
@@ -284,11 +284,15 @@ impl<C: Canvas + Drop> Painter<C> {
     }
 
     /// Returns the last row with a set pixel, plus one, or 0 if there is none.
+    ///
+    /// It is at most the rows of the clip.
     pub fn drawn_height(&self) -> usize
         ensures { (o : Origin) (h : History) → Shows o self.now h
-            → result ≡ drawn_height o.pixel_limit h }
+            → result ≡ min (drawn_height h) o.pixel_limit.rows }
     {
-        self.drawn.height(self.canvas.top())
+        self.drawn
+            .height(self.canvas.top())
+            .min(self.pixel_limit.rows())
     }
 
     /// Takes the rows that are left off the canvas, and returns them with the registers.

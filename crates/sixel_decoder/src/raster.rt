@@ -1,6 +1,6 @@
 //! Raster attributes: pixel aspect ratio, sizes that they name, and extent.
 
-ghost use Rattle.std.specs.Prelude.{◌≡◌, ◌*◌, ◌≤◌, List, ℕ, length, max, min};
+ghost use Rattle.std.specs.Prelude.{◌≡◌, ◌*◌, ◌≤◌, List, ℕ, length, max};
 ghost use Rattle.std.specs.Prelude.{nat_le, nat_lt, if◌then◌else◌, MatchResult};
 ghost use Rattle.sixel_base.specs.Fields.{fields, field};
 ghost use Rattle.sixel_base.specs.Limits.{side_limit};
@@ -60,18 +60,18 @@ pub fn last_side(before: usize, side: usize) -> usize
     if side > 0 { side } else { before }
 }
 
-/// Rejects an extent with a side or an area inside the clip above its limit.
+/// Rejects an extent with a side or an area above its limit.
 #[inline(always)]
 pub fn check_size(width: usize, height: usize, limit: PixelLimit) -> Result<()>
     ensures { MatchResult result
         (λ _. (width ≤ side_limit) × (height ≤ side_limit)
-        × (min width limit.columns * min height limit.rows ≤ limit.pixels))
+        × (width * height ≤ limit.pixels))
         (λ error. IsTooLarge width height limit error) }
 {
     if width > MAX_SIDE || height > MAX_SIDE {
         return Err(SixelError::malformed());
     }
-    if width.min(limit.columns()) * height.min(limit.rows()) > limit.pixels() {
+    if width * height > limit.pixels() {
         return Err(SixelError::too_large());
     }
     Ok(())

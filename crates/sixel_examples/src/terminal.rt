@@ -27,8 +27,7 @@ impl Images {
     pub fn new(background: [u8; 3], width: usize, height: usize) -> Self {
         let mut decoder = SixelDecoder::new();
         decoder.set_register(0, background);
-        decoder.set_pixel_limit(width.saturating_mul(height));
-        decoder.set_clip(width, usize::MAX);
+        decoder.set_clip(width, height);
         decoder.set_raster_crop(true);
         let receiver = SixelReceiver::with_decoder(decoder);
         Self { receiver }

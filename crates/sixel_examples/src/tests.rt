@@ -159,8 +159,8 @@ fn terminal(rt: HostRuntime) {
     images.begin(rt.alloc(), None, None);
     let is_truncated = is_read(images.read(b"!641~\x1b\\"), 5, Some((640, 6)));
     images.begin(rt.alloc(), None, None);
-    let is_rejected = images.read(b"\"1;1;640;481~").is_err();
-    assert!(rt; is_open & is_ended & is_cropped & is_truncated & is_rejected);
+    let is_low = is_read(images.read(b"\"1;1;640;481~\x1b\\"), 13, Some((640, 480)));
+    assert!(rt; is_open & is_ended & is_cropped & is_truncated & is_low);
 }
 
 /// What bytes are to a multiplexer: part of a sequence, its end, or where it is cut short, and how

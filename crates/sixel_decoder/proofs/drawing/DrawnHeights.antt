@@ -3,24 +3,18 @@ use Rattle.std.proofs.Common.{◌≡◌, ℕ, zero, suc, ◌≤◌, List, [], �
 use Rattle.std.proofs.Common.{length, get_or, take, refl, arith}
 use Rattle.sixel_base.specs.DrawnHeight.{drawn_height, lowered}
 use Rattle.sixel_base.specs.History.{Sixel, History}
-use Rattle.sixel_base.specs.Limits.{Limit}
 use Rattle.sixel_base.specs.Place.{down, height}
 use Rattle.sixel_decoder.specs.inside.Runs.{most_rows}
 use Rattle.sixel_decoder.proofs.drawing.SetRows.{lowered-again}
-use Rattle.sixel_decoder.proofs.drawing.SixelRuns.{with_sixels, IsInside, IsInside-sixel}
+use Rattle.sixel_decoder.proofs.drawing.SixelRuns.{with_sixels}
 use Rattle.std.proofs.lemmas.Bool.Decides.{nat_tests}
 
 -- sixels of one band
-pub drawn_height-sixels : (limit : Limit) (h : History) (sixels : List ℕ)
-    → IsInside limit (length sixels) h
-    → drawn_height limit (with_sixels h sixels)
-    ≡ lowered (drawn_height limit h) (down h) (most_rows sixels)
-drawn_height-sixels limit h [] inside = refl
-drawn_height-sixels limit h (bits ∷ more) inside =
-    let rest =
-    drawn_height-sixels limit (Sixel bits ∷ h) more
-    (IsInside-sixel limit (length more) bits h inside) in
-    grind (arith, nat_tests, rest, inside, lowered-again)
+pub drawn_height-sixels : (h : History) (sixels : List ℕ) → drawn_height (with_sixels h sixels)
+    ≡ lowered (drawn_height h) (down h) (most_rows sixels)
+drawn_height-sixels h [] = refl
+drawn_height-sixels h (bits ∷ more) =
+    grind (arith, nat_tests, drawn_height-sixels (Sixel bits ∷ h) more, lowered-again)
 
 none_set : (sixels : List ℕ) → ((k : ℕ) → get_or sixels k 0 ≡ 0) → most_rows sixels ≡ 0
 none_set [] blank = refl
@@ -39,6 +33,6 @@ pub most_rows-first : (sixels eight : List ℕ) → take (length sixels) eight �
 most_rows-first sixels eight first blank = grind (arith, nat_tests, take_set)
 
 -- no pixel is set below the image
-pub drawn_within : (limit : Limit) (h : History) → drawn_height limit h ≤ height h
-drawn_within limit [] = omega arith
-drawn_within limit (token ∷ h) = grind (arith, nat_tests, drawn_within limit h)
+pub drawn_within : (h : History) → drawn_height h ≤ height h
+drawn_within [] = omega arith
+drawn_within (token ∷ h) = grind (arith, nat_tests, drawn_within h)

@@ -122,7 +122,7 @@ Shows-sixels : {C : Type 0} {canvas : Ghosts C} (o : Origin) (h : History)
 Shows-sixels o h old new sixels shows inside drawn paid' top' lower' registers' color' repeat'
     column' width' height' raster' ratio' settings' crop' limit' =
     let passed = IsPassed-sixels o.pixel_limit o h sixels inside in
-    let lowest = drawn_height-sixels o.pixel_limit h sixels inside in
+    let lowest = drawn_height-sixels h sixels in
     grind (arith, nat_tests, named_width-sixels)
 
 -- the painter once eight sixels were drawn, of which the first ones are these

@@ -12,7 +12,7 @@ use Rattle.std.proofs.lemmas.Bool.Decides.{nat_tests}
 
 pub shown_drawn : {C : Type 0} {canvas : Ghosts C} (o : Origin) (painter : Painter C canvas)
     (h : History) → Shows o painter h
-    → drawn_rows painter.drawn (canvas.top painter.canvas) ≡ drawn_height o.pixel_limit h
+    → drawn_rows painter.drawn (canvas.top painter.canvas) ≡ drawn_height h
 shown_drawn o painter h shows = ap (drawn_rows painter.drawn) shows.top ∙ shows.drawn
 
 -- it is a row of the image

@@ -5,7 +5,6 @@ use Rattle.std.proofs.Common.{length, get_or, take, length-take, get_or-take, re
 use Rattle.std.specs.Prelude.{fold, nat_lt}
 use Rattle.sixel_base.specs.History.{Sixel, History, goes_on, read}
 use Rattle.sixel_base.specs.Payload.{first_fault, closed, growths}
-use Rattle.sixel_base.specs.Clip.{clipped_height, clipped_width}
 use Rattle.sixel_base.specs.Fault.{Faults}
 use Rattle.sixel_base.specs.Limits.{Limit}
 use Rattle.sixel_base.specs.declared.error.SixelError.{SixelError}
@@ -57,7 +56,7 @@ pub record IsInside (limit : Limit) (n : ℕ) (h : History) : Type 0 where
   pub rows : down h + 6 ≤ limit.rows
   pub wide : width h ≤ 1000000
   pub high : height h ≤ 1000000
-  pub area : clipped_width limit h * clipped_height limit h ≤ limit.pixels
+  pub area : width h * height h ≤ limit.pixels
   pub faultless : first_fault limit h ≡ None
 
 pub IsInside-sixel : (limit : Limit) (n bits : ℕ) (h : History) → IsInside limit (suc n) h

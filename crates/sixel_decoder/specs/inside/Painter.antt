@@ -40,7 +40,7 @@ pub record Shows {C : Type 0} {canvas : Ghosts C} (origin : Origin) (painter : P
   pub width : painter.width ≡ width history
   pub height : painter.height ≡ height history
   pub raster : painter.raster ≡ raster_size history
-  pub drawn : drawn_rows painter.drawn (down history) ≡ drawn_height origin.pixel_limit history
+  pub drawn : drawn_rows painter.drawn (down history) ≡ drawn_height history
   pub ratio : painter.ratio ≡ ratio (ratio_of origin.settings) history
   pub settings : painter.settings ≡ origin.settings
   pub crop : painter.raster_crop ≡ origin.raster_crop
@@ -99,10 +99,7 @@ pub record IsDrawnInside {C : Type 0} {canvas : Ghosts C} (old new : Painter C c
       (clipped_bits old.pixel_limit (canvas.top old.canvas) bits) ∷ runs
       else runs)
   pub drawn : (row : ℕ) → drawn_rows new.drawn row
-      ≡ (if is_pixel_inside old.pixel_limit from (canvas.top old.canvas)
-      then lowered (drawn_rows old.drawn row) row
-      (set_rows (clipped_bits old.pixel_limit (canvas.top old.canvas) bits))
-      else drawn_rows old.drawn row)
+      ≡ lowered (drawn_rows old.drawn row) row (set_rows bits)
   pub released : canvas.released new.canvas ≡ canvas.released old.canvas
   pub registers : new.registers ≡ old.registers
   pub settings : new.settings ≡ old.settings

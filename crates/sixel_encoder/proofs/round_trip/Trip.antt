@@ -88,10 +88,12 @@ module _ (drawing : Drawing) (definitions : List Definition) (marks : List Mark)
       → pixel origin (tokens drawing definitions marks) column line
       ≡ trip_pixel drawing (entry_at drawing column line)
   pixel-trip origin column line is draws from lc =
+      let follows =
+      Follows-palette drawing origin.pixel_limit.first_register origin.registers definitions is in
       let last : pixel origin (tokens drawing definitions marks) column line
       ≡ color_in (registers origin.registers (with_palette drawing definitions)) (background origin)
       (painted marks first_pen None column line) =
-      grind (arith, nat_tests, Follows-palette, pixel-palette, pixel-marks) in
+      grind (arith, nat_tests, follows, pixel-palette, pixel-marks) in
       grind (arith, nat_tests, register-palette, entry_at-below)
 
   -- the image of the tokens is the trip

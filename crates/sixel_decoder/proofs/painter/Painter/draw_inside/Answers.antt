@@ -38,7 +38,7 @@ returns g c =
           w.min.ensures ∙ ap (min c.args.right) columns_is in
           let drawn = w.in_ok-draw.ensures in
           rw w.self-is
-          (grind (arith, nat_tests, inside, right, bits, covers_clipped, drawn, w.add.ensures))
+          (grind (arith, nat_tests, inside, right, bits, covers_clipped, drawn, c.add.ensures))
       | else-from-columns w ↦
           let outside : is_pixel_inside limit c.args.from top ≡ false =
           elim w.else-from-columns.branch [
@@ -50,5 +50,5 @@ returns g c =
                 (le-ltb c.args.from limit.columns
                 (omega (arith, v.if-from-columns.false, columns_is))) refl
           ] in
-          rw w.self-is (grind (arith, nat_tests, outside, covers_outside))
+          rw w.self-is (grind (arith, nat_tests, outside, covers_outside, c.add.ensures))
     ]

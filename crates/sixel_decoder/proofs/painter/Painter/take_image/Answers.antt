@@ -2,6 +2,7 @@ use Rattle.std.proofs.Common.{arith, ◌≡◌, ℕ, ◌+◌, ◌-◌, ◌*◌, 
 use Rattle.std.proofs.Common.{append-nil, ⊎_elim, min}
 use Rattle.std.proofs.Math.Nat.{mul-le-mul_left}
 use Rattle.std.proofs.lemmas.Bool.{cases_lt}
+use Rattle.std.proofs.lemmas.Nat.{mul-le}
 use Rattle.sixel_base.specs.Clip.{clipped_pixel, clipped_width}
 use Rattle.sixel_base.specs.DrawnHeight.{image_drawn_height}
 use Rattle.sixel_base.specs.Limits.{Limit}
@@ -45,11 +46,14 @@ returns-clause-ends g c = λ o h shows.
     c.image_height-height.ensures
     ∙ rw (shows.crop, high, shows.height, shows.limit) refl in
     let drawn : c.min-drawn_height.result ≡ image_drawn_height limit o.raster_crop h =
-    c.min-drawn_height.ensures ∙ rw (c.drawn_height.ensures o h shows, tall) refl in
+    omega (arith, c.min-drawn_height.ensures, c.drawn_height.ensures o h shows, tall) in
     let wide : painter.clipped_width ≡ clipped_width limit h =
     painter.clipped_width_is ∙ rw (shows.width, shows.limit) refl in
     let area_fits : painter.clipped_width * painter.clipped_height ≤ limit.pixels =
-    rw shows.limit at painter.area_fits in
+    let inside =
+    mul-le painter.clipped_width painter.clipped_height painter.width painter.height
+    (omega (arith, painter.clipped_width_is)) (omega (arith, painter.clipped_height_is)) in
+    omega (arith, inside, rw shows.limit at painter.area_fits) in
     let pixels =
     picture-left (clipped_pixel o h) (g.C.Canvas.shown painter.canvas) painter.clipped_width
     height (g.C.Canvas.released painter.canvas) c.min-first_row.result
