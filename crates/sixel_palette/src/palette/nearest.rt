@@ -28,9 +28,6 @@ use std::alloc::{AllocError, Global};
 /// How many cubes there are. A side of a cube has 8 colors.
 pub const CUBES: usize = 32_768;
 
-/// The size of a palette without lists, because lanes compare all of its entries at once.
-const SMALL_PALETTE: usize = 16;
-
 /// How many groups of cubes there are. A side of a group has 32 colors.
 const GROUPS: usize = 512;
 
@@ -100,28 +97,12 @@ impl Search {
             → AreNumbered colors self.old.entries.items
             → IsNearestEntry colors (color_of code) near) }
     {
-        let key = self.nearest_key(code)?;
+        let span = self.span_of(code)?;
+        let key = least_key(&self.cubes.entries[span.start..span.end], code);
         Ok(NearestEntry {
             squared: key / 256,
             index: (key % 256) as u8,
         })
-    }
-
-    /// Returns the key of the nearest entry, which is the least of all.
-    #[inline(always)]
-    fn nearest_key(&mut self, code: u32) -> Result<u32, AllocError>
-        requires small { code < code_count }
-        requires search { IsSearch self.old }
-        ensures search { OnOk result (IsSearch self.new) }
-        ensures entries { OnOk result (self.new.entries.items ≡ self.old.entries.items) }
-        ensures key { IfOk result (λ key.
-            key ≡ least_key self.old.entries.items (color_of code)) }
-    {
-        if self.entries.len() == SMALL_PALETTE {
-            return Ok(least_key_of_sixteen(&self.entries, code));
-        }
-        let span = self.span_of(code)?;
-        Ok(least_key(&self.cubes.entries[span.start..span.end], code))
     }
 
     /// The span of the cube of a code, which is filled if it is not yet.
@@ -276,27 +257,6 @@ fn push_nearest(list: &mut Vec<Entry>, cube: &Cube, entries: &[Entry]) -> Result
     }
     list.truncate(end);
     Ok(())
-}
-
-/// The least key of sixteen entries for the color of a code.
-///
-/// The keys are found apart from their comparison, so that the compiler finds four at once.
-#[inline(always)]
-fn least_key_of_sixteen(entries: &[Entry], code: u32) -> u32
-    requires small { code < code_count }
-    requires sixteen { length entries.now ≡ 16 }
-    ensures { result ≡ least_key entries.now (color_of code) }
-{
-    let mut keys = [0; SMALL_PALETTE];
-    for lane in 0..SMALL_PALETTE {
-        let entry = entries[lane];
-        keys[lane] = key(distance_to(code, entry.color), entry.index);
-    }
-    let mut least = keys[0];
-    for position in 1..SMALL_PALETTE {
-        least = keys[position].min(least);
-    }
-    least
 }
 
 /// The least key of some entries for the color of a code.

@@ -1,7 +1,10 @@
+use Rattle.std.proofs.Common.{◌∙◌}
+use Rattle.sixel_palette.specs.inside.PaletteCodes.{color_of}
 use Rattle.sixel_palette.proofs.nearest_entries.Keys.{nearest_from_key}
 use Rattle.sixel_palette.proofs.palette.nearest.Search.nearest.Goals as goal
-use Rattle.std.proofs.Common.{arith}
-use Rattle.std.proofs.lemmas.Bool.Decides.{nat_tests}
 
 pub returns-clause-nearest : goal.returns-clause-nearest
-returns-clause-nearest c = grind (arith, nat_tests, nearest_from_key, c.in_ok-key.ensures.key)
+returns-clause-nearest c = λ colors numbered.
+    nearest_from_key colors c.args.self.now.entries.items (color_of c.args.code)
+    c.least_key-key.result numbered
+    ((rw c.deref.ensures.value at c.least_key-key.ensures) ∙ c.in_ok-span.ensures.nearest.nearest)
