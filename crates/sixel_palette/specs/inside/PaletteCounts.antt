@@ -4,7 +4,7 @@ use Rattle.std.specs.List.Sorted.{IsStrictlyIncreasing}
 use Rattle.sixel_palette.specs.declared.palette.color_counts.Ranking.{Ranking}
 use Rattle.sixel_palette.specs.Palette.{nearest, IsShown}
 use Rattle.sixel_palette.specs.Refined.{opaque_number, sum_to}
-use Rattle.sixel_palette.specs.inside.PaletteCodes.{IsListed, IsPixelWord}
+use Rattle.sixel_palette.specs.inside.PaletteCodes.{IsListed}
 use Rattle.sixel_palette.specs.inside.PaletteRanks.{IsRankBitmap}
 use Rattle.sixel_palette.specs.inside.PaletteSums.{counted_pixels}
 
@@ -19,12 +19,6 @@ pub record AreCounts (pixels codes counts : List ℕ) (count : ℕ) : Type 0 whe
 pub record HasPosition (codes : List ℕ) (word position : ℕ) : Type 0 where
   pub within : 128 ≤ word % 256 → position < length codes
   pub code : 128 ≤ word % 256 → slice_index codes position ≡ word / 256
-
--- the position is that of the color of this pixel, which is opaque
-abbrev pub IsPositionOf : List ℕ → List ℕ → ℕ → ℕ → Type 0
-IsPositionOf pixels codes pixel position =
-    (word : ℕ) × IsPixelWord pixels pixel word × (128 ≤ word % 256) × (position < length codes)
-    × (slice_index codes position ≡ word / 256)
 
 -- the colors of the image's opaque pixels have ranks
 pub record IsRankingOf (pixels : List ℕ) (ranking : Ranking) : Type 0 where

@@ -1,20 +1,17 @@
 //! The number of an image's pixels that have each of its distinct colors.
 
 ghost use Rattle.std.specs.Prelude.{◌≡◌, ◌+◌, ◌*◌, ◌/◌, ◌<◌, ◌≤◌, ℕ, List, length, IfOk};
-ghost use Rattle.std.specs.Prelude.{slice_index};
 ghost use Rattle.std.specs.List.{sum};
 ghost use Rattle.std.specs.List.Sorted.{IsStrictlyIncreasing};
 ghost use Rattle.sixel_base.specs.Limits.{area_limit};
 ghost use Rattle.sixel_palette.specs.Palette.{IsShown};
 ghost use Rattle.sixel_palette.specs.inside.PaletteCodes.{IsListed, AreColorCodes};
-ghost use Rattle.sixel_palette.specs.inside.PaletteCodes.{AreFourWords, IsPixelWord};
-ghost use Rattle.sixel_palette.specs.inside.PaletteCounts.{AreCounts, HasPosition};
-ghost use Rattle.sixel_palette.specs.inside.PaletteCounts.{IsPositionOf, IsRankingOf};
+ghost use Rattle.sixel_palette.specs.inside.PaletteCodes.{IsPixelWord};
+ghost use Rattle.sixel_palette.specs.inside.PaletteCounts.{AreCounts, HasPosition, IsRankingOf};
 ghost use Rattle.sixel_palette.specs.inside.PaletteRanks.{IsRankBitmap};
 
 use crate::palette::color_set::rank_bitmap::RankBitmap;
 use crate::palette::colors::{are_four_of, four_words, pixel_word};
-use crate::palette::indices::are_opaque;
 use std::alloc::{AllocError, Global};
 
 /// The pixels of each distinct color, and the ranks of the colors.
@@ -83,8 +80,10 @@ impl Ranking<'_> {
         for four in 0..count / 4 {
             if !are_four_of(pixels, 4 * four, last) {
                 let words = four_words(pixels, 4 * four);
+                for lane in 0..4 {
+                    position = self.count_word(counts, pixels, 4 * four + lane, words[lane]);
+                }
                 last = words[3];
-                position = self.count_four(counts, pixels, 4 * four, words);
             } else if last % 256 >= 128 {
                 counts[position] += 4;
             }
@@ -92,49 +91,6 @@ impl Ranking<'_> {
         for pixel in count / 4 * 4..count {
             self.count_word(counts, pixels, pixel, pixel_word(pixels, pixel));
         }
-    }
-
-    /// Counts four pixels of these words, and returns the position of the last one's color.
-    #[inline(always)]
-    fn count_four(&self, counts: &mut [u32], pixels: &[u8], pixel: usize, words: [u32; 4]) -> usize
-        requires area { length pixels.now / 4 ≤ area_limit }
-        requires within { pixel + 4 ≤ length pixels.now / 4 }
-        requires words { AreFourWords pixels.now pixel words }
-        requires ranking { IsRankingOf pixels.now self.now }
-        requires counts { AreCounts pixels.now self.now.codes.now counts.old pixel }
-        ensures counts { AreCounts pixels.now self.now.codes.now counts.new (pixel + 4) }
-        ensures position { HasPosition self.now.codes.now (slice_index words 3) result }
-    {
-        if are_opaque(words) {
-            // The positions come first, so that no look-up waits for a count.
-            let first = self.ranks.position_of(self.codes, words[0] / 256);
-            let second = self.ranks.position_of(self.codes, words[1] / 256);
-            let third = self.ranks.position_of(self.codes, words[2] / 256);
-            let fourth = self.ranks.position_of(self.codes, words[3] / 256);
-            self.count_at(counts, pixels, pixel, first);
-            self.count_at(counts, pixels, pixel + 1, second);
-            self.count_at(counts, pixels, pixel + 2, third);
-            self.count_at(counts, pixels, pixel + 3, fourth);
-            return fourth;
-        }
-        self.count_each(counts, pixels, pixel, words)
-    }
-
-    /// Counts the same pixels one after the other, because some may be transparent.
-    #[inline(never)]
-    fn count_each(&self, counts: &mut [u32], pixels: &[u8], pixel: usize, words: [u32; 4]) -> usize
-        requires area { length pixels.now / 4 ≤ area_limit }
-        requires within { pixel + 4 ≤ length pixels.now / 4 }
-        requires words { AreFourWords pixels.now pixel words }
-        requires ranking { IsRankingOf pixels.now self.now }
-        requires counts { AreCounts pixels.now self.now.codes.now counts.old pixel }
-        ensures counts { AreCounts pixels.now self.now.codes.now counts.new (pixel + 4) }
-        ensures position { HasPosition self.now.codes.now (slice_index words 3) result }
-    {
-        self.count_word(counts, pixels, pixel, words[0]);
-        self.count_word(counts, pixels, pixel + 1, words[1]);
-        self.count_word(counts, pixels, pixel + 2, words[2]);
-        self.count_word(counts, pixels, pixel + 3, words[3])
     }
 
     /// Counts a pixel of this word, if it is opaque, and returns the position of its color.
@@ -152,19 +108,7 @@ impl Ranking<'_> {
             return 0;
         }
         let position = self.ranks.position_of(self.codes, word / 256);
-        self.count_at(counts, pixels, pixel, position);
-        position
-    }
-
-    /// Counts an opaque pixel whose color is at this position.
-    #[inline(always)]
-    fn count_at(&self, counts: &mut [u32], pixels: &[u8], pixel: usize, position: usize)
-        requires area { length pixels.now / 4 ≤ area_limit }
-        requires within { pixel < length pixels.now / 4 }
-        requires position { IsPositionOf pixels.now self.now.codes.now pixel position }
-        requires counts { AreCounts pixels.now self.now.codes.now counts.old pixel }
-        ensures { AreCounts pixels.now self.now.codes.now counts.new (pixel + 1) }
-    {
         counts[position] += 1;
+        position
     }
 }

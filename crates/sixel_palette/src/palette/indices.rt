@@ -1,11 +1,11 @@
 //! The palette index of each pixel: that of its color's nearest entry.
 
 ghost use Rattle.std.specs.Prelude.{◌≡◌, ℕ, ◌+◌, ◌*◌, ◌/◌, ◌%◌, ◌<◌, ◌≤◌, List, length};
-ghost use Rattle.std.specs.Prelude.{slice_index, All, Contains, IfOk, IsTrue};
+ghost use Rattle.std.specs.Prelude.{slice_index, Contains, IfOk};
 ghost use Rattle.std.specs.List.Sorted.{IsStrictlyIncreasing};
 ghost use Rattle.sixel_palette.specs.Palette.{nearest, IsShown, AreIndices, no_entry};
 ghost use Rattle.sixel_palette.specs.inside.PaletteCodes.{color_of, IsListed, AreColorCodes};
-ghost use Rattle.sixel_palette.specs.inside.PaletteCodes.{AreFourWords, IsPixelWord};
+ghost use Rattle.sixel_palette.specs.inside.PaletteCodes.{IsPixelWord};
 ghost use Rattle.sixel_palette.specs.inside.PaletteNearest.{AreNearest, IsIndexOf};
 ghost use Rattle.sixel_palette.specs.inside.PaletteNearest.{IsIndex, AreIndicesTo};
 ghost use Rattle.sixel_palette.specs.inside.PaletteLookUp.{IsLookUp, HasColorsOf, FindsNearest};
@@ -72,20 +72,6 @@ struct LookUp<'a> {
 }
 
 impl LookUp<'_> {
-    /// The palette index for an opaque pixel of this word.
-    #[inline(always)]
-    fn opaque_index_of(&self, word: u32) -> u8
-        requires whole { IsLookUp self.now }
-        requires opaque { 128 ≤ word % 256 }
-        requires listed { Contains self.now.codes.now (word / 256) }
-        ensures { (entries : List (List ℕ)) (squares : List ℕ)
-            → AreNearest entries self.now.codes.now squares self.now.color_indices.now
-            → nearest entries (color_of (word / 256)) < no_entry
-            → IsIndexOf entries word result }
-    {
-        self.color_indices[self.ranks.position_of(self.codes, word / 256)]
-    }
-
     /// The palette index for a pixel of this word, 0 if it is transparent.
     #[inline(always)]
     fn index_of(&self, word: u32) -> u8
@@ -99,49 +85,8 @@ impl LookUp<'_> {
         if word % 256 < 128 {
             return 0;
         }
-        self.opaque_index_of(word)
+        self.color_indices[self.ranks.position_of(self.codes, word / 256)]
     }
-
-    /// The palette indices for four pixels of these words, which are mostly all opaque.
-    #[inline(always)]
-    fn indices_of_four(&self, words: [u32; 4]) -> [u8; 4]
-        requires whole { IsLookUp self.now }
-        requires listed { (k : ℕ) → k < 4 → 128 ≤ slice_index words k % 256
-            → Contains self.now.codes.now (slice_index words k / 256) }
-        ensures { (entries : List (List ℕ)) (squares : List ℕ) (k : ℕ)
-            → AreNearest entries self.now.codes.now squares self.now.color_indices.now → k < 4
-            → (128 ≤ slice_index words k % 256
-            → nearest entries (color_of (slice_index words k / 256)) < no_entry)
-            → IsIndexOf entries (slice_index words k) (slice_index result k) }
-    {
-        if are_opaque(words) {
-            [
-                self.opaque_index_of(words[0]),
-                self.opaque_index_of(words[1]),
-                self.opaque_index_of(words[2]),
-                self.opaque_index_of(words[3]),
-            ]
-        } else {
-            [
-                self.index_of(words[0]),
-                self.index_of(words[1]),
-                self.index_of(words[2]),
-                self.index_of(words[3]),
-            ]
-        }
-    }
-}
-
-/// Returns whether four pixels of these words are all opaque.
-#[inline(always)]
-pub fn are_opaque(words: [u32; 4]) -> bool
-    ensures { IsTrue result → (k : ℕ) → k < 4 → 128 ≤ slice_index words k % 256 }
-{
-    let first = words[0] % 256 >= 128;
-    let second = words[1] % 256 >= 128;
-    let third = words[2] % 256 >= 128;
-    let fourth = words[3] % 256 >= 128;
-    first & second & third & fourth
 }
 
 /// Stores the palette index of each pixel.
@@ -163,7 +108,9 @@ fn fill_indices(indices: &mut [u8], pixels: &[u8], look_up: &LookUp<'_>)
             fill_four_with(indices, pixels, 4 * four, [index; 4]);
         } else {
             let words = four_words(pixels, 4 * four);
-            index = fill_four(indices, pixels, 4 * four, words, look_up);
+            for lane in 0..4 {
+                index = fill_pixel(indices, pixels, 4 * four + lane, words[lane], look_up);
+            }
             last = words[3];
         }
     }
@@ -173,44 +120,29 @@ fn fill_indices(indices: &mut [u8], pixels: &[u8], look_up: &LookUp<'_>)
     }
 }
 
-/// Looks up and stores the palette indices of four pixels, and returns the last.
-#[inline(never)]
-fn fill_four(
+/// Looks up and stores the palette index for a pixel of this word, and returns it.
+#[inline(always)]
+fn fill_pixel(
     indices: &mut [u8],
     pixels: &[u8],
     pixel: usize,
-    words: [u32; 4],
+    word: u32,
     look_up: &LookUp<'_>,
 ) -> u8
-    requires size { length indices.old ≡ length pixels.now / 4 }
-    requires within { pixel + 4 ≤ length pixels.now / 4 }
-    requires words { AreFourWords pixels.now pixel words }
-    requires shown { HasColorsOf pixels.now look_up.now }
-    ensures size { length indices.new ≡ length pixels.now / 4 }
-    ensures last { (entries : List (List ℕ)) → FindsNearest pixels.now entries look_up.now
-        → IsIndexOf entries (slice_index words 3) result }
-    ensures indices { (entries : List (List ℕ)) → FindsNearest pixels.now entries look_up.now
-        → AreIndicesTo pixels.now entries pixel indices.old
-        → AreIndicesTo pixels.now entries (pixel + 4) indices.new }
-{
-    let four = look_up.indices_of_four(words);
-    fill_four_with(indices, pixels, pixel, four);
-    four[3]
-}
-
-/// Looks up and stores the palette index for a pixel of this word.
-#[inline(always)]
-fn fill_pixel(indices: &mut [u8], pixels: &[u8], pixel: usize, word: u32, look_up: &LookUp<'_>)
     requires size { length indices.old ≡ length pixels.now / 4 }
     requires within { pixel < length pixels.now / 4 }
     requires word { IsPixelWord pixels.now pixel word }
     requires shown { HasColorsOf pixels.now look_up.now }
     ensures size { length indices.new ≡ length pixels.now / 4 }
+    ensures last { (entries : List (List ℕ)) → FindsNearest pixels.now entries look_up.now
+        → IsIndexOf entries word result }
     ensures indices { (entries : List (List ℕ)) → FindsNearest pixels.now entries look_up.now
         → AreIndicesTo pixels.now entries pixel indices.old
         → AreIndicesTo pixels.now entries (pixel + 1) indices.new }
 {
-    fill_one(indices, pixels, pixel, look_up.index_of(word));
+    let index = look_up.index_of(word);
+    fill_one(indices, pixels, pixel, index);
+    index
 }
 
 /// Stores the palette indices of four pixels at once, after those of earlier pixels.

@@ -1,7 +1,29 @@
-use Rattle.std.proofs.Common.{◌≡◌, ◌+◌, ◌*◌, arith}
+use Rattle.std.proofs.Common.{◌≡◌, ◌+◌, ◌-◌, ◌*◌, arith}
 use Rattle.std.proofs.lemmas.List.{get_or-replicate}
 use Rattle.sixel_palette.proofs.traversal.Farthest.{index_from_word}
 use Rattle.sixel_palette.proofs.palette.indices.fill_indices.Goals as goal
+
+pub fill_pixel-index-requires-clause-word : goal.fill_pixel-index-requires-clause-word
+fill_pixel-index-requires-clause-word c = c.four_words-words.ensures c.loop-lane.lane (omega arith)
+
+pub loop-lane-init : goal.loop-lane-init
+loop-lane-init c = record {
+  size = c.loop-four.invariant.size;
+  each = λ entries tells k l. c.loop-four.invariant.each entries tells k (omega (arith, l));
+  last = λ entries tells some. absurd (omega (arith, some));
+}
+
+pub loop-lane-preserved : goal.loop-lane-preserved
+loop-lane-preserved c =
+    let made = c.fill_pixel-index.ensures in
+    let this : c.loop-lane.lane + 1 - 1 ≡ c.loop-lane.lane = omega arith in
+    record {
+      size = made.size;
+      each = λ entries tells k l.
+          made.indices entries tells (c.loop-lane.invariant.each entries tells) k
+          (omega (arith, l));
+      last = λ entries tells some. rw this (made.last entries tells);
+    }
 
 pub loop-four-preserved : goal.loop-four-preserved
 loop-four-preserved c =
@@ -19,12 +41,13 @@ loop-four-preserved c =
                 (h.last entries tells))) (h.each entries tells);
             last = h.last;
           })
-      | goal.else-are_four_of w ↦
-          let made = w.fill_four-index.ensures in
+      | goal.else-are_four_of+else-loop-lane-test w ↦
+          let all : w.loop-lane.lane ≡ 4 = omega arith in
+          let made = w.loop-lane.invariant in
           rw (w.indices-is, w.last-is, w.index-is, end) (record {
             size = made.size;
-            each = λ entries tells. made.indices entries tells (h.each entries tells);
-            last = made.last;
+            each = rw all at made.each;
+            last = λ entries tells. (rw all at made.last) entries tells (omega arith);
           })
     ]
 

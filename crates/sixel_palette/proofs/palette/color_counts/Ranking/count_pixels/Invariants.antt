@@ -1,4 +1,4 @@
-use Rattle.std.specs.Prelude.{◌*◌}
+use Rattle.std.specs.Prelude.{◌+◌, ◌-◌, ◌*◌, ◌<◌, slice_index}
 use Rattle.sixel_palette.specs.inside.PaletteCounts.{AreCounts, HasPosition}
 use Rattle.sixel_palette.proofs.palette.color_counts.Ranking.count_pixels.Given as goal
 
@@ -6,6 +6,13 @@ abbrev pub invariant-loop-four : goal.invariant-loop-four
 invariant-loop-four l = record {
   counts : AreCounts l.pixels l.self.codes.now l.counts (4 * l.four);
   last : HasPosition l.self.codes.now l.last l.position;
+}
+
+abbrev pub invariant-loop-lane : goal.invariant-loop-lane
+invariant-loop-lane l = record {
+  counts : AreCounts l.pixels l.self.codes.now l.counts (4 * l.four + l.lane);
+  last : 0 < l.lane
+      → HasPosition l.self.codes.now (slice_index l.words (l.lane - 1)) l.position;
 }
 
 abbrev pub invariant-loop-pixel : goal.invariant-loop-pixel

@@ -1,5 +1,5 @@
-use Rattle.std.proofs.Common.{◌≡◌, arith}
-use Rattle.sixel_palette.proofs.refinement.Counts.{counts_hidden}
+use Rattle.std.proofs.Common.{◌≡◌, ◌%◌, ◌≤◌, refl, arith}
+use Rattle.sixel_palette.proofs.refinement.Counts.{count-le, counts_hidden, counts_run}
 use Rattle.sixel_palette.proofs.traversal.Farthest.{Contains-word}
 use Rattle.sixel_palette.proofs.palette.color_counts.Ranking.count_word.Goals as goal
 
@@ -13,3 +13,21 @@ pub position_of-position-requires-clause-listed : goal.position_of-position-requ
 position_of-position-requires-clause-listed c =
     Contains-word _ _ _ _ c.requires.word c.requires.within (omega (arith, c.if-word-lt128.false))
     c.requires.ranking.listed
+
+pub overflow_add-counts : goal.overflow_add-counts
+overflow_add-counts c =
+    omega (
+      arith,
+      count-le c.args.pixels.now c.args.self.now.codes.now c.args.counts.now c.args.pixel
+          c.position_of-position.result c.position_of-position.ensures.within c.requires.counts,
+      c.requires.area,
+      c.requires.within,
+    )
+
+pub returns-clause-counts : goal.returns-clause-counts
+returns-clause-counts c =
+    let light : 128 ≤ c.args.word % 256 = omega (arith, c.if-word-lt128.false) in
+    let found = c.position_of-position.ensures in
+    counts_run _ _ c.args.counts.now c.args.pixel 1 c.args.word _ _
+    (λ k l m. let e : k ≡ c.args.pixel = omega arith in rw e c.requires.word) light found.within
+    found.position refl c.requires.counts

@@ -1,6 +1,17 @@
-use Rattle.std.proofs.Common.{arith}
+use Rattle.std.proofs.Common.{◌≡◌, ◌≤◌, ◌/◌, ◌%◌, get_or, ap, arith}
+use Rattle.sixel_palette.specs.inside.PaletteCodes.{color_of}
+use Rattle.sixel_palette.proofs.traversal.Farthest.{nearest_from_entry}
 use Rattle.sixel_palette.proofs.palette.indices.LookUp.index_of.Goals as goal
 
 pub returns : goal.returns
 returns c = λ entries squares near below.
-    c.opaque_index_of.ensures entries squares near (below (omega (arith, c.if-word-lt128.false)))
+    let light : 128 ≤ c.args.word % 256 = omega (arith, c.if-word-lt128.false) in
+    let code = c.args.word / 256 in
+    let same : color_of (get_or c.args.self.now.codes.now c.position_of.result 0) ≡ color_of code =
+    ap color_of c.position_of.ensures.position in
+    record {
+      opaque = λ o.
+          nearest_from_entry entries (color_of code) _ (below light)
+          (rw same at (near c.position_of.result c.position_of.ensures.within));
+      hidden = λ dark. absurd (omega (arith, light, dark));
+    }
