@@ -58,7 +58,7 @@ GRAYS = [
 ]
 
 # The most colors of a palette, and by how many 32nds its entries are spread for diffusion.
-SPREADS = [(65, 0), (64, 2), (17, 2), (16, 4), (3, 4), (2, 16)]
+SPREADS = [(65, 0), (64, 1), (17, 1), (16, 2), (3, 2), (2, 16)]
 # The pixels of a gradient, and as many of one color.
 GRADIENT = [(5 * x, 7 * y, 3 * (x + y)) for y in range(36) for x in range(48)]
 FLAT = [(0, 0, 255)] * len(GRADIENT)

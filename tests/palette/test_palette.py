@@ -13,14 +13,16 @@ import tempfile
 import unittest
 from pathlib import Path
 
-from build import needs, run
-from library import AUTO, CLEAR, COMPACT, DIFFUSION, INDEXED, OFF, ORDERED, PLAIN, REFINED
+from build import builds_of, needs, run
+from library import AUTO, CLEAR, COMPACT, DIFFUSION, INDEXED, OFF, ORDERED, PLAIN, REFINED, RGB
 from library import SHARED, Encoding, call, encoded
 from palette.refined import distance, grid_color, nearest, refined_entries
 
 COUNT, SEED = int(os.environ.get("FUZZ_COUNT", "300")), int(os.environ.get("FUZZ_SEED", "1"))
 # Where the error of a pixel goes: sixteenths, columns ahead, rows down. The last takes the rest.
 SHARES = [(7, 1, 0), (3, -1, 1), (5, 0, 1), (None, 1, 1)]
+# What `sixel draw` calls the kinds of dithering.
+KINDS = {OFF: "none", DIFFUSION: "diffusion", ORDERED: "ordered"}
 LIBSIXEL = "sixel2png -i {file} -o - | convert png:- -depth 8 rgb:-"
 # ImageMagick 6 applies the palette of a SIXEL file only as it writes a format with a palette.
 IMAGEMAGICK = "convert six:{file} miff:- | convert miff:- -depth 8 rgb:-"
@@ -225,6 +227,22 @@ class PaletteTest(unittest.TestCase):
                 opaque = [(at, it) for at, it in zip(indices, pixels) if it[3] >= 128]
                 error = sum(distance(entries[at], it) for at, it in opaque)
                 self.assertEqual(properties.error, error)
+
+    def test_program(self):
+        """The library writes what the program draws, with each option."""
+        options = itertools.product((2, 16, 64, 256), KINDS, (0, 5), (0, 30, AUTO))
+        cases = itertools.product(builds_of("sixel"), pictures().items(), options)
+        for program, (name, pixels), (most, kind, amount, tolerance) in cases:
+            words = ["draw", "-c", str(most), "-d", KINDS[kind]]
+            words += ["-s", str(amount)] if amount and kind != OFF else []
+            words += ["-t", str(tolerance)] if tolerance != AUTO else []
+            data = bytes(itertools.chain(*(it[:3] for it in pixels)))
+            encoding = Encoding(width=96, height=64, tolerance=tolerance, max_colors=most)
+            encoding.format, encoding.kind, encoding.amount = RGB, kind, amount
+            encoding.form = COMPACT
+            with self.subTest(name, program=program.name, words=words):
+                drawn = run(program, *words, stdin=b"P6 96 64 255\n" + data)[1]
+                self.assertEqual(encoded(data, encoding), drawn)
 
     def test_error(self):
         """The summed error of a refined palette is at most 1 % above the model's."""

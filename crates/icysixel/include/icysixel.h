@@ -504,7 +504,8 @@ void icysixel_set_clip(icysixel *handle, size_t width, size_t height);
  * its end. The call needs no handle. `length` is the number of bytes at `pixels`. They may continue
  * after the last row. Pixels of other formats than RGBA, and rows with gaps, are copied first.
  *
- * - A refined palette has at most max_colors entries. A decoder shows them without rounding.
+ * - A refined palette has at most max_colors entries. A decoder shows them without rounding. For
+ *   diffusion up to 64 entries are moved away from the mean color, unless the image is flat art.
  * - A farthest palette has at most max_colors entries, where 1 is taken as 2 and a number above 256
  *   as 256. It has neither dithering nor a tolerance.
  * - In a given palette pixels have the indices of icysixel_palette_indices. Indexed pixels have

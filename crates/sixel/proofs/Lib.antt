@@ -6,5 +6,4 @@ pub mod Drawings
 pub mod FileOutputs
 pub mod ImageSequences
 pub mod Outputs
-pub mod SpreadTexts
 mod WrittenBytes

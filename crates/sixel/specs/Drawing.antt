@@ -12,12 +12,12 @@ use Rattle.sixel_base.specs.declared.error.SixelError.TheVariants.{OutOfMemory}
 use Rattle.sixel_base.specs.Payload.{Image}
 use Rattle.sixel_palette.specs.Palette.{color_at}
 use Rattle.sixel_encoder.specs.IndexedDrawing.{IsPaletteText, palette_fault}
+use Rattle.sixel_encoder.specs.RefinedText.{IsRefinedText}
 use Rattle.sixel_palette.specs.declared.mapping.Mapping.{Mapping}
 use Rattle.sixel_encoder.specs.declared.form.TextForm.TheVariants.{Compact}
 use Rattle.sixel.specs.declared.draw_options.DrawPalette.{DrawPalette}
 use Rattle.sixel.specs.declared.draw_options.DrawPalette.TheVariants.{Standard, Refined, File}
 use Rattle.sixel.specs.Ending.{Ending, Done, Refused, Unreadable}
-use Rattle.sixel.specs.Spread.{IsSpreadText}
 
 -- What was read has the output of a call: a text, or an error with nothing written. The call is
 -- given by its fault and the texts that it can return.
@@ -50,7 +50,7 @@ abbrev pub IsRefinedOutput : Option ℕ → Mapping → Result Image NetpbmError
     → Type 0
 IsRefinedOutput max_colors mapping =
     IsDrawn (refined_fault max_colors)
-    (λ image. IsSpreadText image (color_limit max_colors image) mapping)
+    (λ image. IsRefinedText image (color_limit max_colors image) mapping Compact)
 
 -- ---- the palette of a file
 

@@ -5,7 +5,6 @@ pub mod Options
 pub mod Words
 pub mod Ending
 pub mod Sequences
-pub mod Spread
 pub mod Drawing
 pub mod WorkOutput
 pub mod Files

@@ -11,7 +11,6 @@ use crate::draw_options::{DrawOptions, DrawPalette};
 use crate::netpbm::read_image;
 use crate::palette_file::read_colors;
 use crate::picture_fault::PictureFault;
-use crate::spread::encode_spread;
 use icy_sixel::TextForm;
 use icy_sixel::encoder::Mapping;
 use std::alloc::Global;
@@ -49,7 +48,7 @@ fn draw_refined(
 {
     let image = read_image(alloc, file)?;
     let max_colors = max_colors.unwrap_or(standard_limit(&image.pixels));
-    let text = encode_spread(alloc, &image, max_colors, mapping)?;
+    let text = image.encode_refined(alloc, max_colors, mapping, TextForm::Compact)?;
     Ok(text)
 }
 

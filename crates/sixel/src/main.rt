@@ -21,7 +21,6 @@ mod picture_words;
 mod read;
 mod response;
 mod sequences;
-mod spread;
 #[cfg(test)]
 mod tests;
 mod words;

@@ -3,7 +3,8 @@ use Rattle.std.specs.Prelude.{◌≡◌, ℕ, ◌/◌, ◌<◌, ◌++◌, ◌∷
 use Rattle.std.specs.Prelude.{None}
 use Rattle.sixel_base.specs.Payload.{Image}
 use Rattle.sixel_palette.specs.Palette.{IsOpaque, color_at}
-use Rattle.sixel_palette.specs.Refined.{IsRefined}
+use Rattle.sixel_palette.specs.Refined.{IsRefined, opaque_pixels}
+use Rattle.sixel_palette.specs.Spread.{spread_amount, spread_entries}
 use Rattle.sixel_palette.specs.declared.dither.Dither.TheVariants.{Off}
 use Rattle.sixel_palette.specs.declared.palette.refined.RefinedPalette.{RefinedPalette}
 use Rattle.sixel_palette.specs.declared.mapping.Mapping.{Mapping}
@@ -30,10 +31,15 @@ ShowsPixels image drawing =
 abbrev pub no_mapping : Mapping
 no_mapping = record { dither = Off; tolerance = Squared 0 }
 
--- the bytes are the text of the image in a refined palette, which a decoder shows unrounded
+-- the bytes are the text of the image in a refined palette, spread for this kind of dithering, which
+-- a decoder shows unrounded
 pub record IsRefinedText (image : Image) (max_colors : ℕ) (mapping : Mapping) (form : TextForm)
     (bytes : List ℕ) : Type 0 where
   pub palette : RefinedPalette
   pub refined : IsRefined image.pixels max_colors palette
-  pub text : IsPaletteText image palette.colors.items mapping form bytes
-  pub exact : ShowsEntries (indexed_drawing image palette.colors.items text.indices)
+  pub colors : List (List ℕ)
+  pub spread : colors
+      ≡ spread_entries (spread_amount mapping.dither max_colors) (opaque_pixels image.pixels)
+      palette.colors.items
+  pub text : IsPaletteText image colors mapping form bytes
+  pub exact : ShowsEntries (indexed_drawing image colors text.indices)

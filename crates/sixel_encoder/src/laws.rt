@@ -167,5 +167,5 @@ pub fn exact_text()
         → image_fault image ≡ None → HasSize (IsShown image.pixels) n → n ≤ max_colors
         → ((c : List ℕ) → IsShown image.pixels c → IsRegisterColor c)
         → (is : IsRefinedText image max_colors no_mapping form text)
-        → ShowsPixels image (indexed_drawing image is.palette.colors.items is.text.indices) }
+        → ShowsPixels image (indexed_drawing image is.colors is.text.indices) }
 {}

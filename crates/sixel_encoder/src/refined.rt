@@ -16,7 +16,8 @@ use std::alloc::Global;
 
 /// Returns the SIXEL output of an image in a refined palette.
 ///
-/// It has at most `max_colors` colors.
+/// It has at most `max_colors` colors. Up to 64 are spread for error diffusion, unless the image is
+/// flat art.
 ///
 /// # Errors
 ///

@@ -7,7 +7,9 @@ ghost use Rattle.sixel_base.specs.CallFault.{FailsBy};
 ghost use Rattle.sixel_base.specs.Limits.{area_limit};
 ghost use Rattle.sixel_base.specs.Size.{verdict};
 ghost use Rattle.sixel_palette.specs.Palette.{AreIndices, IsOpaque, color_at};
-ghost use Rattle.sixel_palette.specs.Refined.{IsRefined, opaque_pixels, summed_error};
+ghost use Rattle.sixel_palette.specs.Refined.{IsRefined, IsRegisterColor, opaque_pixels};
+ghost use Rattle.sixel_palette.specs.Refined.{summed_error};
+ghost use Rattle.sixel_palette.specs.Spread.{spread_amount, spread_entries};
 ghost use Rattle.sixel_palette.specs.Dithering.{AreDithered, HasTarget, HaveTargets, Mapped};
 ghost use Rattle.sixel_palette.specs.Dithering.{before_share, below_share, errors_of, index_error};
 ghost use Rattle.sixel_palette.specs.Dithering.{indices_fault, mapped_of, next_share, no_error};
@@ -40,6 +42,7 @@ use crate::dithering::undithered::keep_entries;
 use crate::mapping::{Mapping, Tolerance};
 use crate::palette::nearest_indices::{color_bytes, nearest_indices};
 use crate::palette::refined::Refinement;
+use crate::palette::spread::spread_amount;
 use sixel_base::size::validate_color_count;
 use sixel_base::{Result, SixelError};
 use std::alloc::{AllocError, Global};
@@ -143,6 +146,8 @@ pub struct RefinedMapping {
 }
 
 /// Refines a palette of at most `room` entries for whole rows of pixels, and maps them to it.
+///
+/// A palette of at most 64 entries is spread for error diffusion, unless the image is flat art.
 pub fn map_to_refined(
     alloc: Global,
     pixels: &[u8],
@@ -156,12 +161,16 @@ pub fn map_to_refined(
     requires some { 0 < room }
     requires few { room ≤ 256 }
     ensures bytes { OnOk result (All (λ byte. byte < 256) pixels.now) }
-    ensures refined { IfOk result (λ it. (palette : RefinedPalette)
-        × IsRefined pixels.now room palette × (palette.colors.items ≡ it.colors.items)) }
+    ensures spread { IfOk result (λ it. (palette : RefinedPalette)
+        × IsRefined pixels.now room palette
+        × (it.colors.items ≡ spread_entries (spread_amount mapping.dither room)
+        (opaque_pixels pixels.now) palette.colors.items)) }
+    ensures shown { IfOk result (λ it. All IsRegisterColor it.colors.items) }
     ensures dithered { IfOk result (λ it.
         AreDithered mapping width pixels.now it.colors.items it.indices.items) }
 {
-    let refinement = Refinement::of(alloc, pixels, room)?;
+    let amount = spread_amount(mapping.dither, room);
+    let refinement = Refinement::of(alloc, pixels, room, amount)?;
     let image = MappedImage::plain(pixels, width, &refinement.entries.colors);
     let indices = indices_from(alloc, &image, Nearest::Refined(&refinement), mapping)?;
     Ok(RefinedMapping {

@@ -31,7 +31,7 @@ pub mod nearest_indices;
 pub mod refined;
 pub mod register_color;
 mod relaxation;
-mod spread;
+pub mod spread;
 
 use crate::palette::colors::shown_codes;
 use crate::palette::distance::is_apart_from;
@@ -39,7 +39,6 @@ use crate::palette::farthest::choose;
 use crate::palette::indices::indices_of;
 pub use crate::palette::refined::{RefinedPalette, refine_palette};
 pub use crate::palette::register_color::{DistinctColors, count_colors};
-pub use crate::palette::spread::spread_palette;
 use sixel_base::{Result, SixelError};
 use std::alloc::{AllocError, Global};
 

@@ -239,7 +239,8 @@ impl SixelImage {
     /// ```
     ///
     /// The palette is that of [`refine_palette`](crate::palette::refine_palette), of 1 to 256
-    /// colors. A decoder shows its colors without rounding.
+    /// colors. For error diffusion, up to 64 colors are moved away from the mean color, unless the
+    /// image is flat art. A decoder shows the colors without rounding.
     ///
     /// # Errors
     ///

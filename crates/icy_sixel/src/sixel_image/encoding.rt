@@ -148,8 +148,9 @@ impl SixelImage {
     /// Returns the SIXEL output of this image in a refined palette.
     ///
     /// The palette is that of [`refine_palette`](crate::palette::refine_palette), of 1 to 256
-    /// colors. Its colors are colors of registers, so a decoder shows the very palette. The palette
-    /// indices are those of [`palette_indices`](crate::encoder::palette_indices). Colors of
+    /// colors. For error diffusion, up to 64 colors are moved away from the mean color, unless the
+    /// image is flat art. They are colors of registers, so a decoder shows the very palette. The
+    /// palette indices are those of [`palette_indices`](crate::encoder::palette_indices). Colors of
     /// transparent pixels never affect the output.
     ///
     /// ```rust

@@ -7,6 +7,8 @@ use Rattle.sixel_base.specs.Payload.{Image}
 use Rattle.sixel_base.specs.declared.error.SixelError.{SixelError}
 use Rattle.sixel_palette.specs.Palette.{AreIndices, nearest}
 use Rattle.sixel_palette.specs.Refined.{IsRefined, base_entries, cut_entries, opaque_bins}
+use Rattle.sixel_palette.specs.Refined.{opaque_pixels}
+use Rattle.sixel_palette.specs.Spread.{spread_entries}
 use Rattle.sixel_palette.specs.GainCut.{bin_step}
 use Rattle.sixel_palette.specs.declared.palette.refined.RefinedPalette.{RefinedPalette}
 use Rattle.sixel_palette.proofs.refinement.One.{refined_same}
@@ -73,6 +75,15 @@ IsRefined-other image other max_colors palette e is =
           (far.0, IsShown-other image other e far.0 far.1, far.2);
     }
 
+-- and its entries are spread alike for both
+spread-alike : (image other : Image) (amount : ℕ) (entries : List (List ℕ))
+    → shown_image image ≡ shown_image other
+    → spread_entries amount (opaque_pixels image.pixels) entries
+    ≡ spread_entries amount (opaque_pixels other.pixels) entries
+spread-alike image other amount entries e =
+    let same = pixels-same image.pixels other.pixels (AreAlike-images image other e) in
+    λ i. spread_entries amount (λ number. same number i) entries
+
 -- ---- the text
 
 pub IsRefinedText-other : (image other : Image) (max_colors : ℕ) (mapping : Mapping)
@@ -82,7 +93,7 @@ pub IsRefinedText-other : (image other : Image) (max_colors : ℕ) (mapping : Ma
 IsRefinedText-other image other max_colors mapping form text sound e is =
     let alike = AreAlike-images image other e in
     let rows = rows-sound image sound in
-    let colors = is.palette.colors.items in
+    let colors = is.colors in
     let indices = is.text.indices in
     let wide : image.width ≡ other.width = ap (λ s. s.width) e in
     let dithered : AreDithered mapping other.width other.pixels colors indices =
@@ -91,6 +102,8 @@ IsRefinedText-other image other max_colors mapping form text sound e is =
     record {
       palette = is.palette;
       refined = IsRefined-other image other max_colors is.palette e is.refined;
+      colors = colors;
+      spread = is.spread ∙ spread-alike image other _ is.palette.colors.items e;
       text = grind (arith, nat_tests);
       exact = subst ShowsEntries drawing is.exact;
     }
@@ -106,9 +119,12 @@ pub hidden-refined : {S : Type 0} (bytes : S → List ℕ) (result : Result S Si
     → IfOk result (λ text. bytes text ≡ others)
 hidden-refined bytes (Ok text) image other most mapping form others rest fails small is e too =
     let same = pixels-same image.pixels other.pixels (AreAlike-images image other e) in
-    let colors =
+    let palette =
     (refined_same _ _ most is.palette too.palette small (IsShown-other image other e)
     (IsShown-other other image (sym e)) same is.refined too.refined).1 in
-    hidden-returned bytes (Ok text) image other is.palette.colors.items mapping form others rest
+    let colors : is.colors ≡ too.colors =
+    is.spread ∙ spread-alike image other _ is.palette.colors.items e
+    ∙ ap (spread_entries _ (opaque_pixels other.pixels)) palette ∙ sym too.spread in
+    hidden-returned bytes (Ok text) image other is.colors mapping form others rest
     fails is.text e (rw colors too.text)
 hidden-refined bytes (Err f) image other most mapping form others rest fails small is e too = tt

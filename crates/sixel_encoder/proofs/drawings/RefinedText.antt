@@ -3,7 +3,8 @@ use Rattle.std.proofs.Common.{◌≡◌, ℕ, List, map, arith}
 use Rattle.std.specs.Prelude.{All, IfOk, Result, Err, Ok}
 use Rattle.sixel_base.specs.Payload.{Image}
 use Rattle.sixel_base.specs.declared.error.SixelError.{SixelError}
-use Rattle.sixel_palette.specs.Refined.{IsRefined, IsRegisterColor}
+use Rattle.sixel_palette.specs.Refined.{IsRefined, IsRegisterColor, opaque_pixels}
+use Rattle.sixel_palette.specs.Spread.{spread_amount, spread_entries}
 use Rattle.sixel_palette.specs.declared.palette.refined.RefinedPalette.{RefinedPalette}
 use Rattle.sixel_encoder.specs.declared.form.TextForm.{TextForm}
 use Rattle.sixel_palette.specs.declared.mapping.Mapping.{Mapping}
@@ -29,16 +30,24 @@ ShowsEntries-register image colors indices all = grind (arith, nat_tests, rounde
 -- what is returned for the palette and such indices
 pub IsRefinedText-returned : {S : Type 0} (bytes : S → List ℕ) (result : Result S SixelError)
     (image : Image) (max_colors : ℕ) (mapping : Mapping) (form : TextForm)
-    (palette : RefinedPalette) (indices : List ℕ) → IsRefined image.pixels max_colors palette
-    → AreDithered mapping image.width image.pixels palette.colors.items indices
-    → IfOk result
-    (λ text. IsTextOf form (indexed_drawing image palette.colors.items indices) (bytes text))
+    (palette : RefinedPalette) (colors : List (List ℕ)) (indices : List ℕ)
+    → IsRefined image.pixels max_colors palette
+    → colors
+    ≡ spread_entries (spread_amount mapping.dither max_colors) (opaque_pixels image.pixels)
+    palette.colors.items
+    → All IsRegisterColor colors
+    → AreDithered mapping image.width image.pixels colors indices
+    → IfOk result (λ text. IsTextOf form (indexed_drawing image colors indices) (bytes text))
     → IfOk result (λ text. IsRefinedText image max_colors mapping form (bytes text))
-IsRefinedText-returned bytes (Ok text) image max_colors mapping form palette indices is are of =
+IsRefinedText-returned bytes (Ok text) image max_colors mapping form palette colors indices is
+    spread shown are of =
     record {
       palette = palette;
       refined = is;
+      colors = colors;
+      spread = spread;
       text = record { indices = indices; dithered = are; text = of };
-      exact = ShowsEntries-register image palette.colors.items indices is.shown;
+      exact = ShowsEntries-register image colors indices shown;
     }
-IsRefinedText-returned bytes (Err e) image max_colors mapping form palette indices is are of = tt
+IsRefinedText-returned bytes (Err e) image max_colors mapping form palette colors indices is
+    spread shown are of = tt

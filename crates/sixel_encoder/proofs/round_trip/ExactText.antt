@@ -28,26 +28,33 @@ module _ (image : Image) (max_colors n : ℕ) (form : TextForm) (text : List ℕ
     (sound : image_fault image ≡ None) (size : HasSize (IsShown image.pixels) n)
     (few : n ≤ max_colors) (exact : (c : List ℕ) → IsShown image.pixels c → IsRegisterColor c)
     (is : IsRefinedText image max_colors no_mapping form text) where
+  -- no entry is spread
+  same : is.colors ≡ is.palette.colors.items
+  same = is.spread
+
   -- the palette has the color of each opaque pixel
-  held : (c : List ℕ) → IsShown image.pixels c → Contains is.palette.colors.items c
+  held : (c : List ℕ) → IsShown image.pixels c → Contains is.colors c
   held c shown =
       let members = is.refined.members in
       let own = size_same image.pixels n (length members) size (members, is.refined.are, refl) in
       let whole = (is.refined.whole (omega (arith, own, few))).1 in
       let (k, l, at) = is.refined.are.complete c shown in
-      rw whole (k, omega (arith, l, length-map members register_color),
-      get_or-map register_color members k c c l ∙ ap register_color at
-      ∙ register_color-own c (exact c shown))
+      rw (same ∙ whole) (
+        k,
+        omega (arith, l, length-map members register_color),
+        get_or-map register_color members k c c l ∙ ap register_color at
+            ∙ register_color-own c (exact c shown),
+      )
 
   -- a register shows three channels
-  three : All (λ p. length p ≡ 3) is.palette.colors.items
-  three = λ k d l. grind (arith, nat_tests, is.refined.shown k d l)
+  three : All (λ p. length p ≡ 3) is.colors
+  three = rw same (λ k d l. grind (arith, nat_tests, is.refined.shown k d l))
 
   -- an image with an opaque pixel has the nearest indices of a palette that has its colors
   own-indices : (pixel : ℕ) → pixel < length image.pixels / 4 → IsOpaque image.pixels pixel
-      → AreIndices image.pixels is.palette.colors.items is.text.indices
+      → AreIndices image.pixels is.colors is.text.indices
   own-indices pixel l light =
-      let m = mapped_of no_mapping image.width image.pixels is.palette.colors.items in
+      let m = mapped_of no_mapping image.width image.pixels is.colors in
       let has = held (color_at image.pixels pixel) (pixel, l, light, refl) in
       let within = within-sound image sound in
       let rows : AreRows m =
@@ -64,17 +71,16 @@ module _ (image : Image) (max_colors n : ℕ) (form : TextForm) (text : List ℕ
 
   -- so an opaque pixel has the index of its color
   own-index : (pixel : ℕ) → pixel < length image.pixels / 4 → IsOpaque image.pixels pixel
-      → slice_index_or is.palette.colors.items (slice_index is.text.indices pixel) []
+      → slice_index_or is.colors (slice_index is.text.indices pixel) []
       ≡ color_at image.pixels pixel
   own-index pixel l light =
-      nearest-own is.palette.colors.items (color_at image.pixels pixel) _ three refl
+      nearest-own is.colors (color_at image.pixels pixel) _ three refl
       (held (color_at image.pixels pixel) (pixel, l, light, refl))
       ((own-indices pixel l light).opaque pixel l light)
 
-  pub ShowsPixels-exact :
-      ShowsPixels image (indexed_drawing image is.palette.colors.items is.text.indices)
+  pub ShowsPixels-exact : ShowsPixels image (indexed_drawing image is.colors is.text.indices)
   ShowsPixels-exact pixel l light =
-      let drawing = indexed_drawing image is.palette.colors.items is.text.indices in
+      let drawing = indexed_drawing image is.colors is.text.indices in
       let are = own-indices pixel l light in
       ap (trip_pixel drawing)
       (get_or-entries image.pixels is.text.indices pixel (omega (arith, l, are.one_each))

@@ -1,6 +1,6 @@
 -- Sums over codes and over pixels.
 use Rattle.std.proofs.Common.{◌≡◌, ℕ, zero, suc, ◌+◌, ◌*◌, ◌/◌, ◌%◌, ◌<◌, ◌≤◌, List, length, get_or}
-use Rattle.std.proofs.Common.{take, set, replicate, refl, ap, arith}
+use Rattle.std.proofs.Common.{take, set, replicate, refl, ap, arith, ◌∙◌}
 use Rattle.std.proofs.Math.Nat.{mul-le-mul_left}
 use Rattle.std.proofs.lemmas.List.{length-set, length-replicate, get_or-replicate}
 use Rattle.std.proofs.lemmas.List.{get_or-set_same, get_or-set_other, take_all}
@@ -14,7 +14,9 @@ use Rattle.sixel_palette.specs.GainCut.{bin_step}
 use Rattle.sixel_palette.specs.inside.PaletteCodes.{color_of, IsPixelWord}
 use Rattle.sixel_palette.specs.inside.PaletteSums.{counted_pixels}
 use Rattle.sixel_palette.specs.inside.PaletteCounts.{dot, AreCounts, counted_error}
+use Rattle.sixel_palette.specs.Spread.{near_number}
 use Rattle.sixel_palette.specs.inside.PaletteAssignment.{IsWeighed}
+use Rattle.sixel_palette.specs.inside.PaletteRefinement.{near_count}
 use Rattle.sixel_palette.specs.inside.PaletteNearest.{AreNearest}
 use Rattle.sixel_palette.proofs.nearest_entries.Nearest.{nearest-cap}
 pub use Rattle.sixel_palette.proofs.refinement.Sums.{sum_to-more}
@@ -39,13 +41,17 @@ counts-once counts (suc n) l =
     let all = sum_to-more (λ k. get_or counts k 0 * 1) n in
     rw next (omega (arith, counts-once counts n (omega arith)))
 
--- the counts add up to the number of opaque pixels
+-- the counts add up to the number of their pixels
+pub counted-all : (codes counts : List ℕ) → length counts ≡ length codes
+    → sum counts ≡ (counted_pixels codes counts).sum (λ _. 1)
+counted-all codes counts same =
+    let once = counts-once counts (length counts) (omega arith) in
+    grind (arith, same, take_all)
+
+-- so the number of opaque pixels
 pub counts-sum : (pixels codes counts : List ℕ) (n : ℕ) → AreCounts pixels codes counts n
     → sum counts ≡ sum_to (opaque_number (λ _. 1) pixels) n
-counts-sum pixels codes counts n h =
-    let once = counts-once counts (length counts) (omega arith) in
-    let all = h.sums (λ _. 1) in
-    grind (arith, h.same, take_all)
+counts-sum pixels codes counts n h = counted-all codes counts h.same ∙ h.sums (λ _. 1)
 
 -- there are no more pixels than there are
 pub weighed_from_counts : (pixels codes counts : List ℕ)
@@ -89,6 +95,15 @@ pub error_is : (entries : List (List ℕ)) (codes counts squares indices : List 
     → dot counts squares ≡ counted_error entries codes counts
 error_is entries codes counts squares indices same near =
     rw same (sum_to-same _ _ (length codes) (λ k l. ap (λ x. get_or counts k 0 * x) (near k l).gap))
+
+-- so are the pixels that are near to their entries
+pub near_is : (entries : List (List ℕ)) (codes counts squares indices : List ℕ)
+    → length counts ≡ length codes → AreNearest entries codes squares indices
+    → sum_to (λ k. near_count (get_or counts k 0) (get_or squares k 0)) (length counts)
+    ≡ (counted_pixels codes counts).sum (near_number entries)
+near_is entries codes counts squares indices same near =
+    rw same (sum_to-same _ _ (length codes)
+    (λ k l. ap (near_count (get_or counts k 0)) (near k l).gap))
 
 -- no pixel is counted yet
 pub counts_none : (pixels codes counts : List ℕ) → counts ≡ replicate (length codes) 0

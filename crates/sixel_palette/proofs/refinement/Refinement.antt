@@ -11,10 +11,11 @@ use Rattle.std.specs.declared.vec.Vec.{Vec}
 use Rattle.sixel_palette.specs.declared.palette.refined.RefinedPalette.{RefinedPalette}
 use Rattle.sixel_palette.specs.declared.palette.refined.Refinement.{Refinement}
 use Rattle.sixel_palette.specs.Palette.{AreIndices, IsShown, color_at, nearest, no_entry}
-use Rattle.sixel_palette.specs.Refined.{IsRefined, base_entries, cut_entries, opaque_bins}
-use Rattle.sixel_palette.specs.Refined.{register_color, summed_error}
-use Rattle.sixel_palette.specs.inside.PaletteCodes.{IsListed, color_of}
-use Rattle.sixel_palette.specs.inside.PaletteNearest.{AreIndicesTo, IsIndex}
+use Rattle.sixel_palette.specs.Refined.{IsRefined, IsRegisterColor, base_entries, cut_entries}
+use Rattle.sixel_palette.specs.Refined.{opaque_bins, opaque_pixels, register_color, summed_error}
+use Rattle.sixel_palette.specs.Spread.{spread_entries}
+use Rattle.sixel_palette.specs.inside.PaletteCodes.{AreShownCodes, IsListed, color_of}
+use Rattle.sixel_palette.specs.inside.PaletteNearest.{AreIndicesTo, AreNearest, IsIndex}
 use Rattle.sixel_palette.specs.inside.PaletteRefinement.{HasEntries, IsRefinement}
 use Rattle.sixel_palette.proofs.traversal.Choices.{members_from_codes, IsColor-shown}
 use Rattle.sixel_palette.proofs.refinement.Counts.{pixels_from_counts}
@@ -23,26 +24,20 @@ use Rattle.sixel_palette.proofs.refinement.Refined.{nearest_entry-lt, bound_of_s
 use Rattle.sixel_palette.proofs.refinement.Tops.{near_listed, tops_alike, tops_fall}
 use Rattle.sixel_palette.proofs.refinement.Tops.{tops_none, tops_occur}
 
--- the error is that of all pixels
-pub refinement-error : (pixels : List ℕ) (room : ℕ) (it : Refinement) → IsRefinement pixels room it
-    → it.entries.error ≡ summed_error it.entries.colors.items pixels
-refinement-error pixels room it is =
-    is.entries.error ∙ is.counted.sums (nearest it.entries.colors.items)
-
-module _ (pixels : List ℕ) (room : ℕ) (it : Refinement)
-    (bytes : (k : ℕ) → get_or pixels k 0 < 256) (is : IsRefinement pixels room it) where
+module _ (pixels codes : List ℕ) (entries : List (List ℕ)) (squares color_indices : List ℕ)
+    (bytes : (k : ℕ) → get_or pixels k 0 < 256) (are : AreShownCodes pixels codes)
+    (some : 0 < length codes → 0 < length entries) (register : All IsRegisterColor entries)
+    (near_codes : AreNearest entries codes squares color_indices) where
   -- with an opaque pixel there is an entry
-  pub refinement-below : (c : List ℕ) → IsShown pixels c
-      → nearest it.entries.colors.items c < no_entry
-  refinement-below c m =
-      let listed = is.codes.shown c m in
+  entries-below : (c : List ℕ) → IsShown pixels c → nearest entries c < no_entry
+  entries-below c m =
+      let listed = are.shown c m in
       let l = listed.1 in
-      nearest_entry-lt _ _ (is.entries.some (omega (arith, l))) is.entries.shown
-      (IsColor-shown _ _ bytes m)
+      nearest_entry-lt _ _ (some (omega (arith, l))) register (IsColor-shown _ _ bytes m)
 
   -- each pixel has its index
   indexed : (pixel : ℕ) → pixel < length pixels / 4
-      → (index : ℕ) × IsIndex pixels it.entries.colors.items pixel index
+      → (index : ℕ) × IsIndex pixels entries pixel index
   indexed pixel l =
       elim (cases_lt (get_or pixels (4 * pixel + 3) 0) 128) [
         | inl dark ↦
@@ -50,12 +45,12 @@ module _ (pixels : List ℕ) (room : ℕ) (it : Refinement)
         | inr light ↦
             let c = color_at pixels pixel in
             let shown : IsShown pixels c = (pixel, l, light, refl) in
-            let (k, inside, same) = is.codes.shown c shown in
-            let near = rw same at (is.entries.nearest k inside) in (
-              get_or it.entries.indices.items k 0,
+            let (k, inside, same) = are.shown c shown in
+            let near = rw same at (near_codes k inside) in (
+              get_or color_indices k 0,
               record {
                 opaque = λ _.
-                    nearest_from_entry it.entries.colors.items c _ (refinement-below c shown) near;
+                    nearest_from_entry entries c _ (entries-below c shown) near;
                 hidden = λ dark. absurd (omega (arith, dark, light));
               },
             )
@@ -63,8 +58,7 @@ module _ (pixels : List ℕ) (room : ℕ) (it : Refinement)
 
   -- and so do the first n
   first-indexed : (n : ℕ) → n ≤ length pixels / 4
-      → (indices : List ℕ) × (length indices ≡ n)
-      × AreIndicesTo pixels it.entries.colors.items n indices
+      → (indices : List ℕ) × (length indices ≡ n) × AreIndicesTo pixels entries n indices
   first-indexed zero l = ([], refl, λ k m. absurd (omega (arith, m)))
   first-indexed (suc n) l =
       let (indices, size, before) = first-indexed n (omega arith) in
@@ -81,27 +75,46 @@ module _ (pixels : List ℕ) (room : ℕ) (it : Refinement)
                   let last : get_or (indices ++ index ∷ []) k 0 ≡ index =
                   ap (λ i. get_or (indices ++ index ∷ []) i 0) (here ∙ sym size)
                   ∙ get_or-append_seam indices index [] 0 in
-                  subst (IsIndex pixels it.entries.colors.items k) (sym last)
-                  (subst (λ i. IsIndex pixels it.entries.colors.items i index) (sym here) own)
+                  subst (IsIndex pixels entries k) (sym last)
+                  (subst (λ i. IsIndex pixels entries i index) (sym here) own)
             ],
       )
 
-  -- with the palette indices of nearest entries, the entries are the refined palette
-  pub refinement-palette : (palette : RefinedPalette) → HasEntries it.entries palette
-      → AreIndices pixels it.entries.colors.items palette.indices.items
+-- the error is that of all pixels
+pub refinement-error : (pixels : List ℕ) (room amount : ℕ) (it : Refinement)
+    → IsRefinement pixels room amount it
+    → it.entries.error ≡ summed_error it.entries.colors.items pixels
+refinement-error pixels room amount it is =
+    is.entries.error ∙ is.counted.sums (nearest it.entries.colors.items)
+
+module _ (pixels : List ℕ) (room amount : ℕ) (it : Refinement)
+    (bytes : (k : ℕ) → get_or pixels k 0 < 256) (is : IsRefinement pixels room amount it) where
+  pub refinement-below : (c : List ℕ) → IsShown pixels c
+      → nearest it.entries.colors.items c < no_entry
+  refinement-below =
+      entries-below pixels it.codes.items it.entries.colors.items is.entries.squares
+      it.entries.indices.items bytes is.codes
+      (λ l. omega (arith, is.entries.size, is.entries.are.some l)) is.entries.shown
+      is.entries.nearest
+
+  -- with the palette indices of nearest entries, the entries before the spread are the refined
+  -- palette
+  pub refinement-palette : (palette : RefinedPalette) → HasEntries is.entries.refined palette
+      → AreIndices pixels is.entries.refined.colors.items palette.indices.items
       → IsRefined pixels room palette
   refinement-palette palette has indices =
       let codes = it.codes.items in
       let are = is.codes in
-      let made = is.entries in
-      let colors = it.entries.colors.items in
-      let initial = it.entries.initial.items in
+      let made = is.entries.are in
+      let refined = is.entries.refined in
+      let colors = refined.colors.items in
+      let initial = refined.initial.items in
       let weighed = λ (entries : List (List ℕ)). is.counted.sums (nearest entries) in
       let same_pixels =
       pixels_from_counts _ _ _ is.counted
       ∙ ap (opaque_bins pixels) (sym (length-map codes color_of)) in
       let shown = tops_alike _ _ are.listed are.shown _ _ _ _ made.top in
-      let occur : All (IsShown pixels) it.entries.witnesses.items = tops_occur _ _ _ _ _ shown in
+      let occur : All (IsShown pixels) refined.witnesses.items = tops_occur _ _ _ _ _ shown in
       let long = length-map codes color_of in
       record {
         shown = rw has.colors made.shown;
@@ -125,13 +138,13 @@ module _ (pixels : List ℕ) (room : ℕ) (it : Refinement)
               w.1 ∙ ap (λ p. base_entries p room) same_pixels,
             );
         indices = rw has.colors indices;
-        error = rw (has.colors, has.error) (refinement-error pixels room it is);
+        error = rw (has.colors, has.error) (made.error ∙ weighed colors);
         falls =
             rw (has.colors, has.initial) (omega (
               arith,
               weighed colors,
               weighed initial,
-              tops_fall (IsListed codes) room made.base colors it.entries.witnesses.items codes
+              tops_fall (IsListed codes) room made.base colors refined.witnesses.items codes
                   is.counts made.top,
               made.falls,
             ));
@@ -144,14 +157,19 @@ module _ (pixels : List ℕ) (room : ℕ) (it : Refinement)
             bound_of_shown _ _ _ _ made.apart.apart occur l);
       }
 
-  -- there is such a palette beside any vector of as many indices
+  -- there is such a palette beside any vector of as many indices, and its entries are spread
   pub refinement-some : (indices : Vec ℕ Global) → length indices.items ≡ length pixels / 4
       → (palette : RefinedPalette) × IsRefined pixels room palette
-      × (palette.colors.items ≡ it.entries.colors.items)
+      × (it.entries.colors.items
+      ≡ spread_entries amount (opaque_pixels pixels) palette.colors.items)
   refinement-some indices size =
-      let (own, many, each) = first-indexed (length pixels / 4) (omega arith) in
+      let refined = is.entries.refined in
+      let made = is.entries.are in
+      let (own, many, each) =
+      first-indexed pixels it.codes.items refined.colors.items made.squares refined.indices.items
+      bytes is.codes made.some made.shown made.nearest (length pixels / 4) (omega arith) in
       let palette : RefinedPalette = record {
-        colors = it.entries.colors;
+        colors = refined.colors;
         indices = record {
           ptr = indices.ptr;
           len = indices.len;
@@ -161,10 +179,10 @@ module _ (pixels : List ℕ) (room : ℕ) (it : Refinement)
           ok = (indices.ok.0 ∙ size ∙ sym many, indices.ok.1);
           small = indices.small;
         };
-        error = it.entries.error;
-        initial = it.entries.initial;
-        witnesses = it.entries.witnesses;
-        apart = it.entries.apart;
+        error = refined.error;
+        initial = refined.initial;
+        witnesses = refined.witnesses;
+        apart = refined.apart;
       } in (
         palette,
         refinement-palette palette
@@ -174,5 +192,7 @@ module _ (pixels : List ℕ) (room : ℕ) (it : Refinement)
               opaque = λ k l. (each k l).opaque;
               hidden = λ k l. (each k l).hidden;
             }),
-        refl,
+        is.entries.spread
+            ∙ ap (λ p. spread_entries amount p.sum refined.colors.items)
+            (pixels_from_counts _ _ _ is.counted),
       )

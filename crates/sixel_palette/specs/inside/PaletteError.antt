@@ -20,4 +20,4 @@ abbrev pub HasNearest : MappedImage → Nearest → Type 0
 HasNearest image (Found indices) = AreIndices image.pixels.now image.colors.now indices.items
 HasNearest image (Refined refinement) =
     (image.colors.now ≡ refinement.now.entries.colors.items)
-    × (room : ℕ) × IsRefinement image.pixels.now room refinement.now
+    × (room amount : ℕ) × IsRefinement image.pixels.now room amount refinement.now

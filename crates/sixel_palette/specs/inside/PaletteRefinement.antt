@@ -1,6 +1,7 @@
 -- A refined palette whose pixels have no indices yet, by the codes of the image's colors and their
 -- counts.
-use Rattle.std.specs.Prelude.{◌≡◌, ℕ, ◌/◌, ◌<◌, ◌≤◌, List, map, length, All}
+use Rattle.std.specs.Prelude.{◌≡◌, ℕ, ◌*◌, ◌/◌, ◌<◌, ◌≤◌, nat_le, if◌then◌else◌, List, map, length}
+use Rattle.std.specs.Prelude.{All}
 use Rattle.std.specs.List.{sum}
 use Rattle.sixel_base.specs.Limits.{area_limit}
 use Rattle.sixel_palette.specs.declared.palette.refined.RefinedEntries.{RefinedEntries}
@@ -9,6 +10,7 @@ use Rattle.sixel_palette.specs.declared.palette.refined.Refinement.{Refinement}
 use Rattle.sixel_palette.specs.PaletteBound.{IsLeastApart}
 use Rattle.sixel_palette.specs.Refined.{AreOnTop, IsRegisterColor, base_entries, cut_entries}
 use Rattle.sixel_palette.specs.Refined.{register_color}
+use Rattle.sixel_palette.specs.Spread.{is_flat, spread_entries}
 use Rattle.sixel_palette.specs.inside.PaletteCodes.{AreShownCodes, IsListed, color_of}
 use Rattle.sixel_palette.specs.inside.PaletteCounts.{AreCounts, counted_error}
 use Rattle.sixel_palette.specs.inside.PaletteNearest.{AreNearest}
@@ -39,16 +41,38 @@ pub record AreRefinedEntries (codes counts : List ℕ) (room : ℕ) (entries : R
   pub nearest : AreNearest entries.colors.items codes squares entries.indices.items
   pub error : entries.error ≡ counted_error entries.colors.items codes counts
   pub opaque : entries.opaque ≡ sum counts
+  pub flat : entries.is_flat ≡ is_flat (counted_pixels codes counts).sum entries.colors.items
   pub apart : IsLeastApart entries.witnesses.items entries.apart
 
+-- the count of a color at this squared distance from its nearest entry, if that is near
+abbrev pub near_count : ℕ → ℕ → ℕ
+near_count count squared = count * (if nat_le squared 12 then 1 else 0)
+
+-- the entries are those of a refined palette, spread by 32nds
+pub record AreSpreadEntries (codes counts : List ℕ) (room amount : ℕ) (entries : RefinedEntries)
+    : Type 0 where
+  pub refined : RefinedEntries
+  pub are : AreRefinedEntries codes counts room refined
+  pub none : amount ≡ 0 → entries ≡ refined
+  pub spread : entries.colors.items
+      ≡ spread_entries amount (counted_pixels codes counts).sum refined.colors.items
+  -- registers show them, and each code has the palette index of its color's nearest one
+  pub shown : All IsRegisterColor entries.colors.items
+  pub size : length entries.colors.items ≡ length refined.colors.items
+  pub same : length entries.indices.items ≡ length codes
+  pub squares : List ℕ
+  pub nearest : AreNearest entries.colors.items codes squares entries.indices.items
+  pub error : entries.error ≡ counted_error entries.colors.items codes counts
+  pub opaque : entries.opaque ≡ sum counts
+
 -- the palette is refined for the image
-pub record IsRefinement (pixels : List ℕ) (room : ℕ) (it : Refinement) : Type 0 where
+pub record IsRefinement (pixels : List ℕ) (room amount : ℕ) (it : Refinement) : Type 0 where
   pub area : length pixels / 4 ≤ area_limit
   pub codes : AreShownCodes pixels it.codes.items
   pub ranks : IsRankBitmap it.codes.items it.ranks
   pub counts : List ℕ
   pub counted : AreCounts pixels it.codes.items counts (length pixels / 4)
-  pub entries : AreRefinedEntries it.codes.items counts room it.entries
+  pub entries : AreSpreadEntries it.codes.items counts room amount it.entries
 
 -- the palette has these entries
 pub record HasEntries (entries : RefinedEntries) (palette : RefinedPalette) : Type 0 where

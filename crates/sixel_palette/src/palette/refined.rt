@@ -28,6 +28,7 @@ use crate::palette::indices::indices_by;
 use crate::palette::lloyd::improve;
 use crate::palette::nearest_entry::squared_to_nearest;
 use crate::palette::register_color::register_color;
+use crate::palette::spread::is_flat;
 use sixel_base::limits::MAX_AREA;
 use sixel_base::size::validate_color_count;
 use sixel_base::{Result, SixelError};
@@ -52,7 +53,7 @@ pub struct RefinedPalette {
     pub apart: u32,
 }
 
-/// The entries of a refined palette, and the palette index of each color's nearest one.
+/// Entries of a refined palette, or spread ones, and the palette index of each color's nearest one.
 #[derive(Drop)]
 pub struct RefinedEntries {
     pub colors: Vec<[u8; 3]>,
@@ -60,6 +61,8 @@ pub struct RefinedEntries {
     pub error: u64,
     /// How many pixels are opaque.
     pub opaque: u64,
+    /// Whether the pixels are flat art in the entries of the refined palette.
+    pub is_flat: bool,
     pub initial: Vec<[u8; 3]>,
     pub witnesses: Vec<[u8; 3]>,
     pub apart: u32,
@@ -138,7 +141,7 @@ fn refined_of(
     requires room { room ≤ 256 }
     ensures { IfOk result (IsRefined pixels.now room) }
 {
-    let refinement = Refinement::of(alloc, pixels, room)?;
+    let refinement = Refinement::of(alloc, pixels, room, 0)?;
     let indices = refinement.indices(alloc, pixels)?;
     let entries = refinement.entries;
     Ok(RefinedPalette {
@@ -152,20 +155,22 @@ fn refined_of(
 }
 
 impl Refinement {
-    /// Refines a palette of at most `room` entries for whole pixels.
+    /// Refines a palette of at most `room` entries for whole pixels, and spreads it by 32nds.
     pub fn of(
         alloc: Global,
         pixels: &[u8],
         room: usize,
+        amount: u8,
     ) -> std::result::Result<Refinement, AllocError>
         requires area { length pixels.now / 4 ≤ area_limit }
         requires some { 0 < room }
         requires room { room ≤ 256 }
-        ensures { IfOk result (IsRefinement pixels.now room) }
+        ensures { IfOk result (IsRefinement pixels.now room amount) }
     {
         let codes = shown_codes(alloc, pixels)?;
         let counted = counts_of(alloc, pixels, &codes)?;
-        let entries = refined_entries(alloc, &codes, &counted.counts, room)?;
+        let refined = refined_entries(alloc, &codes, &counted.counts, room)?;
+        let entries = refined.spread(alloc, &codes, &counted.counts, amount)?;
         Ok(Refinement {
             entries,
             codes,
@@ -175,7 +180,7 @@ impl Refinement {
 
     /// The palette index of each pixel's nearest entry, the first of equals.
     pub fn indices(&self, alloc: Global, pixels: &[u8]) -> std::result::Result<Vec<u8>, AllocError>
-        requires { (room : ℕ) × IsRefinement pixels.now room self.now }
+        requires { (room amount : ℕ) × IsRefinement pixels.now room amount self.now }
         ensures { IfOk result
             (λ indices. AreIndices pixels.now self.now.entries.colors.items indices.items) }
     {
@@ -216,6 +221,7 @@ fn refined_entries(
     Ok(RefinedEntries {
         error: summed(counts, &traversal.squares),
         opaque: total_of(counts),
+        is_flat: is_flat(counts, &traversal.squares),
         apart: least_apart(&witnesses),
         colors,
         indices: traversal.indices,
@@ -234,6 +240,7 @@ fn no_entries(alloc: Global) -> RefinedEntries
         indices: Vec::new(alloc),
         error: 0,
         opaque: 0,
+        is_flat: true,
         initial: Vec::new(alloc),
         witnesses: Vec::new(alloc),
         apart: 0,

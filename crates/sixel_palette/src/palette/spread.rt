@@ -1,61 +1,167 @@
-//! Entries moved away from the mean color of an image, for error diffusion.
+//! Entries of a refined palette moved away from the mean color of an image, for error diffusion.
 
-ghost use Rattle.std.specs.Prelude.{◌≡◌, ◌/◌, ◌<◌, ◌≤◌, ℕ, map, length, IsOk, MatchResult};
-ghost use Rattle.sixel_base.specs.Fault.{IsFault, TooLarge};
+ghost use Rattle.std.specs.Prelude.{◌≡◌, ◌≤◌, ℕ, List, IfOk, length, map};
+ghost use Rattle.std.specs.Prelude.{slice_index};
+ghost use Rattle.std.specs.List.{sum};
 ghost use Rattle.sixel_base.specs.Limits.{area_limit};
-ghost use Rattle.sixel_palette.specs.Spread.{opaque_mean, opaque_sums, spread_channel};
-ghost use Rattle.sixel_palette.specs.Spread.{spread_color};
-ghost use Rattle.sixel_palette.specs.inside.PaletteSums.{total};
+ghost use Rattle.sixel_palette.specs.ColorSums.{share};
+ghost use Rattle.sixel_palette.specs.Lloyd.{mean_bytes};
+ghost use Rattle.sixel_palette.specs.Refined.{sum_to};
+ghost use Rattle.sixel_palette.specs.Spread.{is_flat, spread_amount, spread_channel, spread_color};
+ghost use Rattle.sixel_palette.specs.inside.PaletteAssignment.{IsAssignment, IsWeighed};
+ghost use Rattle.sixel_palette.specs.inside.PaletteCodes.{AreColorCodes};
+ghost use Rattle.sixel_palette.specs.inside.PaletteCounts.{counted_error};
+ghost use Rattle.sixel_palette.specs.inside.PaletteNearest.{AreNearest};
+ghost use Rattle.sixel_palette.specs.inside.PaletteRefinement.{AreRefinedEntries};
+ghost use Rattle.sixel_palette.specs.inside.PaletteRefinement.{AreSpreadEntries};
+ghost use Rattle.sixel_palette.specs.inside.PaletteRefinement.{near_count};
+ghost use Rattle.sixel_palette.specs.inside.PaletteSums.{counted_pixels, total};
 
+use crate::dither::Dither;
+use crate::palette::assignment::{Assignment, assign};
+use crate::palette::color_counts::total_of;
 use crate::palette::color_sums::ColorSums;
-use crate::palette::colors::{color_of, shown_code};
+use crate::palette::colors::color_of;
+use crate::palette::refined::RefinedEntries;
 use crate::palette::register_color::register_color;
-use sixel_base::limits::MAX_AREA;
-use sixel_base::{Result, SixelError};
+use std::alloc::{AllocError, Global};
 
-/// Moves the entries of a palette away from the mean color of an image.
-///
-/// Each channel moves by `amount` 32nds of its difference from the mean of the opaque pixels, at
-/// most to 0 or 255. Each entry becomes the color that a register shows for that. Error diffusion
-/// mixes entries, so entries that lie farther out show more contrast. The image is of RGBA pixels,
-/// four bytes each. It does not allocate.
-///
-/// # Errors
-///
-/// `InvalidData` if there are more than 67,108,864 pixels. The palette is unchanged then.
-pub fn spread_palette(colors: &mut [[u8; 3]], pixels: &[u8], amount: u8) -> Result<()>
-    ensures area { area_limit < length pixels.now / 4
-        → MatchResult result (λ _. ⊥) (λ e. IsFault e TooLarge) }
-    ensures unchanged { area_limit < length pixels.now / 4 → colors.new ≡ colors.old }
-    ensures ok { length pixels.now / 4 ≤ area_limit → IsOk result }
-    ensures spread { length pixels.now / 4 ≤ area_limit
-        → colors.new ≡ map (spread_color amount (opaque_mean pixels.now)) colors.old }
+/// The greatest squared distance of a color that is near to its entry.
+const NEAR: u32 = 12;
+
+/// Returns by how many 32nds entries are spread for this dithering.
+pub fn spread_amount(dither: Dither, max_colors: usize) -> u8
+    ensures { result ≡ spread_amount dither max_colors }
 {
-    if pixels.len() / 4 > MAX_AREA {
-        return Err(SixelError::too_large());
+    match (dither, max_colors) {
+        (Dither::Diffusion { .. }, 0..=2) => 16,
+        (Dither::Diffusion { .. }, 3..=16) => 2,
+        (Dither::Diffusion { .. }, 17..=64) => 1,
+        _ => 0,
     }
-    let mean = color_of(opaque_sums(pixels).mean_code());
+}
+
+/// Returns whether at least a quarter of the pixels are near to their entries.
+pub fn is_flat(counts: &[u32], squares: &[u32]) -> bool
+    requires same { length squares.now ≡ length counts.now }
+    requires small { sum counts.now ≤ area_limit }
+    ensures { (entries : List (List ℕ)) (codes indices : List ℕ)
+        → length counts.now ≡ length codes → AreNearest entries codes squares.now indices
+        → result ≡ is_flat (counted_pixels codes counts.now).sum entries }
+{
+    total_of(counts) <= 4 * near_pixels(counts, squares)
+}
+
+/// Returns the number of pixels whose entries are near.
+#[tactic(auto, using(crate::proofs::refinement::Sums::sums))]
+#[inline(never)]
+fn near_pixels(counts: &[u32], squares: &[u32]) -> u64
+    requires same { length squares.now ≡ length counts.now }
+    requires small { sum counts.now ≤ area_limit }
+    ensures few { result ≤ area_limit }
+    ensures near { result ≡ sum_to
+        (λ k. near_count (slice_index counts.now k) (slice_index squares.now k))
+        (length counts.now) }
+{
+    let mut near = 0;
+    for position in 0..counts.len() {
+        near += near_count(counts[position], squares[position]);
+    }
+    near
+}
+
+/// Returns the count of a color whose entry is near, 0 of any other.
+fn near_count(count: u32, squared: u32) -> u64
+    ensures value { result ≡ near_count count squared }
+    ensures few { result ≤ count }
+{
+    if squared <= NEAR { u64::from(count) } else { 0 }
+}
+
+impl RefinedEntries {
+    /// Moves the entries away from the mean color by 32nds of the difference.
+    ///
+    /// Those of flat art stay. Error diffusion mixes entries, so entries that lie farther out show
+    /// more contrast.
+    pub fn spread(
+        self,
+        alloc: Global,
+        codes: &[u32],
+        counts: &[u32],
+        amount: u8,
+    ) -> Result<RefinedEntries, AllocError>
+        requires small { AreColorCodes codes.now }
+        requires weighed { IsWeighed codes.now counts.now }
+        requires few { length self.colors.items ≤ 256 }
+        ensures { IfOk result (λ entries. (room : ℕ)
+            → AreRefinedEntries codes.now counts.now room self
+            → AreSpreadEntries codes.now counts.now room amount entries) }
+    {
+        if amount == 0 || self.is_flat {
+            return Ok(self);
+        }
+        let spread = spread_assignment(alloc, codes, counts, &self.colors, amount)?;
+        let Assignment {
+            colors,
+            traversal,
+            error,
+        } = spread;
+        Ok(RefinedEntries {
+            colors,
+            indices: traversal.indices,
+            error,
+            ..self
+        })
+    }
+}
+
+/// Moves entries away from the mean color, and assigns each color to its nearest one then.
+fn spread_assignment(
+    alloc: Global,
+    codes: &[u32],
+    counts: &[u32],
+    entries: &[[u8; 3]],
+    amount: u8,
+) -> Result<Assignment, AllocError>
+    requires small { AreColorCodes codes.now }
+    requires weighed { IsWeighed codes.now counts.now }
+    requires few { length entries.now ≤ 256 }
+    ensures colors { IfOk result (λ a. a.colors.items ≡ map (spread_color amount
+        (mean_bytes (λ k. (counted_pixels codes.now counts.now).sum (share k)))) entries.now) }
+    ensures assignment { IfOk result (IsAssignment codes.now) }
+    ensures error { IfOk result (λ a.
+        a.error ≡ counted_error a.colors.items codes.now counts.now) }
+{
+    let mean = color_of(sums_of(codes, counts).mean_code());
+    let mut colors = Vec::with_capacity(alloc, entries.len())?;
+    colors.extend_from_slice(entries)?;
+    spread_colors(&mut colors, mean, amount);
+    let assignment = assign(alloc, codes, counts, &colors)?;
+    Ok(assignment)
+}
+
+/// The sums of the pixels of all colors.
+#[tactic(auto, using(crate::proofs::refinement::Sums::sums))]
+fn sums_of(codes: &[u32], counts: &[u32]) -> ColorSums
+    requires small { AreColorCodes codes.now }
+    requires weighed { IsWeighed codes.now counts.now }
+    ensures { (k : ℕ) → total result k ≡ (counted_pixels codes.now counts.now).sum (share k) }
+{
+    let mut sums = ColorSums::none();
+    for position in 0..codes.len() {
+        sums = sums.plus(ColorSums::of(color_of(codes[position]), counts[position]));
+    }
+    sums
+}
+
+/// Moves colors away from a mean, each to a color that a register shows.
+fn spread_colors(colors: &mut [[u8; 3]], mean: [u8; 3], amount: u8)
+    ensures { colors.new ≡ map (spread_color amount mean) colors.old }
+{
     for position in 0..colors.len() {
         let color = colors[position];
         colors[position] = spread_color(color, mean, amount);
     }
-    Ok(())
-}
-
-/// The sums of the opaque pixels.
-#[tactic(auto, using(crate::proofs::refinement::Sums::sums))]
-#[inline(never)]
-fn opaque_sums(pixels: &[u8]) -> ColorSums
-    requires { length pixels.now / 4 ≤ area_limit }
-    ensures { (k : ℕ) → total result k ≡ opaque_sums pixels.now k }
-{
-    let mut sums = ColorSums::none();
-    for pixel in 0..pixels.len() / 4 {
-        if let Some(code) = shown_code(pixels, pixel) {
-            sums = sums.plus(ColorSums::of(color_of(code), 1));
-        }
-    }
-    sums
 }
 
 /// The color that a register shows for a color moved away from a mean.

@@ -1,13 +1,17 @@
-use Rattle.std.proofs.Common.{◌≡◌, ◌/◌, length, ap, arith}
-use Rattle.std.specs.Prelude.{None, string_bytes}
+use Rattle.std.proofs.Common.{◌≡◌, ℕ, ◌/◌, ◌≤◌, Bool, true, false, List, length, map, refl, ap}
+use Rattle.std.proofs.Common.{◌∙◌, arith}
+use Rattle.std.specs.Prelude.{None, if◌then◌else◌, string_bytes}
+use Rattle.sixel_base.specs.CallFault.{color_count_fault}
 use Rattle.sixel_encoder.specs.Encoding.{image_fault, source_value}
 use Rattle.sixel_palette.proofs.mapped_images.GraySource.{dithered-count, dithered-entry}
 use Rattle.sixel_encoder.proofs.drawings.PaletteText.{rows-sound}
 use Rattle.sixel_encoder.proofs.drawings.RefinedText.{IsRefinedText-returned}
 use Rattle.sixel_encoder.proofs.drawings.Sizes.{rows-image, within-sound}
-use Rattle.sixel_encoder.proofs.drawings.Verdicts.{none-found}
+use Rattle.sixel_encoder.proofs.drawings.Verdicts.{none-found, none-judged}
 use Rattle.sixel_encoder.proofs.refined.encode_refined.Goals as goal
 use Rattle.sixel_encoder.proofs.refined.encode_refined.Goals.{After-deref-2}
+use Rattle.std.proofs.lemmas.Bool.Decides.{nat_tests}
+use Rattle.std.proofs.lemmas.List.{length-map}
 use Rattle.std.proofs.lemmas.Result.{IfOk-at_ok, IfOk-weaker}
 
 -- the image has no fault
@@ -22,6 +26,31 @@ count c =
     let refined = c.in_ok-refined.refined in
     dithered-count c.args.mapping image.width image.pixels refined.colors.items
     refined.indices.items c.in_ok-refined.ensures.dithered
+
+-- a spread drops no entry
+kept : (stays : Bool) (moved : List ℕ → List ℕ) (entries : List (List ℕ))
+    → length (if stays then entries else map moved entries) ≡ length entries
+kept true moved entries = refl
+kept false moved entries = length-map entries moved
+
+-- there is a register for each entry
+few : (c : After-deref-2) → length c.in_ok-refined.refined.colors.items ≤ 256
+few c =
+    let (palette, refined, spread) = c.in_ok-refined.ensures.spread in
+    let size : length c.in_ok-refined.refined.colors.items ≡ length palette.colors.items =
+    ap length spread ∙ kept _ _ _ in
+    let counted =
+    none-judged (color_count_fault c.from.result) c.validate_color_count.result _
+    c.validate_color_count.ensures c.in_ok-validate_color_count.was in
+    grind (
+      arith,
+      nat_tests,
+      size,
+      refined.few,
+      counted,
+      c.from.ensures,
+      c.from-room.ensures,
+    )
 
 pub map_to_refined-requires-clause-rows : goal.map_to_refined-requires-clause-rows
 map_to_refined-requires-clause-rows c =
@@ -42,6 +71,9 @@ encode_drawing-requires-clause-opaque c = λ pixel inside opaque.
     refined.indices.items pixel (rows-sound image (sound c)) c.in_ok-refined.ensures.dithered
     (omega (arith, count c, inside, ap length c.deref-2.ensures.value)) opaque)
 
+pub encode_drawing-requires-clause-few : goal.encode_drawing-requires-clause-few
+encode_drawing-requires-clause-few c = rw c.deref.ensures.value (few c)
+
 pub returns-clause-bytes : goal.returns-clause-bytes
 returns-clause-bytes c =
     let bytes = IfOk-at_ok _ c.in_ok-refined.was c.map_to_refined.ensures.bytes in
@@ -49,8 +81,9 @@ returns-clause-bytes c =
 
 pub returns-clause-text : goal.returns-clause-text
 returns-clause-text c =
-    let (palette, refined, same) = c.in_ok-refined.ensures.refined in
+    let (palette, refined, spread) = rw c.from-room.ensures at c.in_ok-refined.ensures.spread in
+    let made = c.in_ok-refined.refined in
     IsRefinedText-returned string_bytes c.encode_drawing.result (source_value c.args.source.now)
-    c.args.max_colors c.args.mapping c.args.form palette c.in_ok-refined.refined.indices.items
-    (rw c.from-room.ensures at refined) (rw same c.in_ok-refined.ensures.dithered)
-    (rw same (rw (c.deref.ensures.value, c.deref-2.ensures.value) at c.encode_drawing.ensures.text))
+    c.args.max_colors c.args.mapping c.args.form palette made.colors.items made.indices.items
+    refined spread c.in_ok-refined.ensures.shown c.in_ok-refined.ensures.dithered
+    (rw (c.deref.ensures.value, c.deref-2.ensures.value) at c.encode_drawing.ensures.text)

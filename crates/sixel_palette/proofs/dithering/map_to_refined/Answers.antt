@@ -8,12 +8,13 @@ pub returns-clause-bytes : goal.returns-clause-bytes
 returns-clause-bytes c = λ k d inside.
     omega (arith, get_or_default c.args.pixels.now k d 0 inside, c.type_inv.pixels k)
 
-pub returns-clause-refined : goal.returns-clause-refined
-returns-clause-refined c =
+pub returns-clause-spread : goal.returns-clause-spread
+returns-clause-spread c =
     let image = c.plain-image.result in
     let indices = c.in_ok-indices.indices in
-    refinement-some c.args.pixels.now c.args.room c.in_ok-refinement.refinement
+    rw c.spread_amount-amount.ensures at
+    (refinement-some c.args.pixels.now c.args.room _ c.in_ok-refinement.refinement
     (λ k. omega (arith, c.type_inv.pixels k)) c.in_ok-refinement.ensures
     indices (rw c.plain-image.ensures.pixels at
     (dithered-count c.args.mapping image.width image.pixels.now image.colors.now indices.items
-    c.in_ok-indices.ensures))
+    c.in_ok-indices.ensures)))

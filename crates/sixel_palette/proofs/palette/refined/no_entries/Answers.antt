@@ -33,5 +33,6 @@ returns c = λ codes counts room none uncounted.
       nearest = λ k l. absurd (omega (arith, l));
       error = grind arith;
       opaque = rw (nil_from_length counts uncounted) refl;
+      flat = rw (nil_from_length codes none) refl;
       apart = rw witnesses (search rules);
     }

@@ -34,7 +34,11 @@ returns c =
       nearest = made.relaxed;
       error =
           (rw c.deref.ensures.value at c.summed.ensures)
-          ∙ error_is _ _ _ _ _ c.requires.weighed.same made.relaxed;
+          ∙ error_is _ _ _ _ _ c.requires.weighed.same
+          made.relaxed;
       opaque = c.total_of.ensures;
-      apart = rw c.deref-2.ensures.value at c.least_apart.ensures;
+      flat =
+          (rw c.deref-2.ensures.value at c.is_flat.ensures) _ _ _ c.requires.weighed.same
+          made.relaxed;
+      apart = rw c.deref-3.ensures.value at c.least_apart.ensures;
     }

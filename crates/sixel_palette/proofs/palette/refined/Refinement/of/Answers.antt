@@ -10,6 +10,12 @@ refined_entries-requires-clause-weighed c =
     rw (c.deref-2.ensures.value, c.deref-3.ensures.value)
     (weighed_from_counts _ _ _ counted c.requires.area)
 
+pub spread-requires-clause-weighed : goal.spread-requires-clause-weighed
+spread-requires-clause-weighed c =
+    let counted = rw c.deref.ensures.value at c.in_ok-counted.ensures.counts in
+    rw (c.deref-4.ensures.value, c.deref-5.ensures.value)
+    (weighed_from_counts _ _ _ counted c.requires.area)
+
 pub returns : goal.returns
 returns c = record {
   area = c.requires.area;
@@ -18,5 +24,6 @@ returns c = record {
   counts = c.in_ok-counted.counted.counts.items;
   counted = rw c.deref.ensures.value at c.in_ok-counted.ensures.counts;
   entries =
-      rw (c.deref-2.ensures.value, c.deref-3.ensures.value) at c.in_ok-entries.ensures;
+      (rw (c.deref-4.ensures.value, c.deref-5.ensures.value) at c.in_ok-entries.ensures)
+      c.args.room (rw (c.deref-2.ensures.value, c.deref-3.ensures.value) at c.in_ok-refined.ensures);
 }

@@ -1,6 +1,6 @@
 use Rattle.std.proofs.Common.{◌≡◌, ◌++◌, drop, map, take}
 use Rattle.sixel_palette.specs.Spread.{spread_color}
-use Rattle.sixel_palette.proofs.palette.spread.spread_palette.Given as goal
+use Rattle.sixel_palette.proofs.palette.spread.spread_colors.Given as goal
 
 abbrev pub invariant-loop-position : goal.invariant-loop-position
 invariant-loop-position l =
