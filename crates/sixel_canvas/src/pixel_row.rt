@@ -1,8 +1,7 @@
 //! A row of pixels, drawn on by a run or by four sixels at once.
 
 ghost use Rattle.std.specs.Prelude.{◌≡◌, ℕ, ◌+◌, ◌-◌, ◌≤◌, ◌<◌, List, [], length};
-ghost use Rattle.std.specs.Prelude.{slice_index, slice_index_or, nat_le, nat_lt, ◌&&◌};
-ghost use Rattle.std.specs.Prelude.{if◌then◌else◌};
+ghost use Rattle.std.specs.Prelude.{slice_index, slice_index_or, if◌then◌else◌};
 ghost use Rattle.std.specs.Int.{to_le_bytes, w32};
 ghost use Rattle.sixel_base.specs.Picture.{is_set};
 ghost use Rattle.sixel_canvas.specs.inside.Band.{filled, mixed_at};
@@ -51,42 +50,16 @@ pub fn mix(pixels: &mut [[u8; 4]], at: usize, sixels: [u8; 4], bit: usize, color
     ensures mixed { (d : List ℕ) (i : ℕ) → slice_index_or pixels.new i d
         ≡ mixed_at at sixels bit color i (slice_index_or pixels.old i d) }
 {
-    let old = four_numbers(pixels, at);
+    let old = [
+        number(pixels[at]),
+        number(pixels[at + 1]),
+        number(pixels[at + 2]),
+        number(pixels[at + 3]),
+    ];
     let new = chosen(sixels, bit, number(color), old);
-    store_four(pixels, at, new);
-}
-
-/// Returns four pixels from `at` on as numbers, read at once.
-#[inline(always)]
-fn four_numbers(pixels: &[[u8; 4]], at: usize) -> [u32; 4]
-    requires { at + 4 ≤ length pixels.now }
-    ensures { (d : List ℕ) (k : ℕ) → k < 4
-        → to_le_bytes w32 (slice_index result k) ≡ slice_index_or pixels.now (at + k) d }
-{
-    let four = &pixels[at..at + 4];
-    [
-        number(four[0]),
-        number(four[1]),
-        number(four[2]),
-        number(four[3]),
-    ]
-}
-
-/// Stores four pixels from `at` on, at once.
-#[inline(always)]
-fn store_four(pixels: &mut [[u8; 4]], at: usize, numbers: [u32; 4])
-    requires { at + 4 ≤ length pixels.old }
-    ensures len { length pixels.new ≡ length pixels.old }
-    ensures stored { (d : List ℕ) (i : ℕ) → slice_index_or pixels.new i d
-        ≡ (if nat_le at i && nat_lt i (at + 4)
-        then to_le_bytes w32 (slice_index numbers (i - at)) else slice_index_or pixels.old i d) }
-{
-    pixels[at..at + 4].copy_from_slice(&[
-        numbers[0].to_le_bytes(),
-        numbers[1].to_le_bytes(),
-        numbers[2].to_le_bytes(),
-        numbers[3].to_le_bytes(),
-    ]);
+    'mixed: for j in 0..4 {
+        pixels[at + j] = new[j].to_le_bytes();
+    }
 }
 
 /// Returns lane by lane the new number where the sixel has the bit, and else the old one.
