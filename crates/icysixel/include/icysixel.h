@@ -7,10 +7,11 @@
  *
  * Handles. An `icysixel` is 16 bytes of the caller's memory, and refers to a decoder. A zeroed
  * handle is valid and empty, and so is a handle after icysixel_free. Every function can be called
- * on an empty handle. It returns ICYSIXEL_NO_HANDLE, or 0 if it returns no code, except for
- * icysixel_is_empty. A function that returns nothing cannot fail: on an empty handle it does
- * nothing. A call that takes a const handle changes nothing behind it. Do not copy a handle and do
- * not write to its members. A handle can be moved to another address between calls.
+ * on an empty handle. icysixel_new creates its decoder. Other calls that return a code return
+ * ICYSIXEL_NO_HANDLE, icysixel_is_empty returns 1, other numbers are 0, and void calls do nothing.
+ * A call that takes a const handle changes nothing behind it. Do not write to the members of a
+ * handle. Do not use two copies of it: it can be moved to another address between calls if the old
+ * copy is not used again.
  *
  * Ownership. icysixel_free frees all memory behind a handle. The library stores no pointer that the
  * caller passes. It copies input, and it copies pixels to the caller's buffers. Only
@@ -78,7 +79,7 @@ typedef struct {
 typedef struct {
     size_t consumed; /* bytes of the chunk that belong to the image; the caller parses the rest */
     uint32_t status; /* an enum icysixel_status: what to do next */
-    uint8_t byte;    /* the control byte that ended a payload, or a DCS sequence early; or 0 */
+    uint8_t byte;    /* the control byte that ended a payload or cut a DCS sequence short, or 0 */
 } icysixel_fed;
 
 /* A size in pixels. */
@@ -153,7 +154,7 @@ typedef struct {
     size_t width;         /* pixels in a row */
     size_t height;        /* rows */
     size_t stride;        /* bytes from the start of a row to the next, or 0 for no gaps */
-    uint32_t tolerance;   /* of runs, a squared distance, or ICYSIXEL_AUTO */
+    uint32_t tolerance;   /* a squared distance, for longer runs; or ICYSIXEL_AUTO */
     uint16_t max_colors;  /* entries of a refined or farthest palette at most, or 0 for 256 */
     uint16_t color_count; /* colors at `colors` */
     uint8_t format;       /* an enum icysixel_format */
@@ -241,9 +242,9 @@ enum icysixel_palette_mode {
 
 /* Where images end. */
 enum icysixel_height {
-    ICYSIXEL_HEIGHT_BANDS = 0,  /* at the last band of six rows, or below at the raster height */
-    ICYSIXEL_HEIGHT_RASTER = 1, /* at the raster height if it is above 0, else as above */
-    ICYSIXEL_HEIGHT_DRAWN = 2   /* at the raster height, or below at the last row drawn */
+    ICYSIXEL_HEIGHT_BANDS = 0,  /* at the last band of six rows, or at the raster height below it */
+    ICYSIXEL_HEIGHT_RASTER = 1, /* at the raster height, or without one as ICYSIXEL_HEIGHT_BANDS */
+    ICYSIXEL_HEIGHT_DRAWN = 2   /* at the raster height, or at the last drawn row below it */
 };
 
 /* Kinds of dithering. */
@@ -262,7 +263,7 @@ enum icysixel_form {
 /* What to do after a feed. */
 enum icysixel_status {
     ICYSIXEL_MORE = 0,        /* feed the next chunk */
-    ICYSIXEL_COMPLETE = 1,    /* the image has ended, a payload by any terminator: finish */
+    ICYSIXEL_COMPLETE = 1,    /* the image has ended, a payload by the control in `byte`: finish */
     ICYSIXEL_CANCELLED = 2,   /* CAN or SUB, in `byte`, ended a DCS sequence: finish or abort */
     ICYSIXEL_INTERRUPTED = 3, /* another control, in `byte`, ended one early: finish or abort */
     ICYSIXEL_ROWS = 4         /* from icysixel_feed_band: rows became final; feed the next bytes */
@@ -271,8 +272,8 @@ enum icysixel_status {
 /* -- Handles -- */
 
 /* Creates a decoder with default registers, no clip and a limit of 67,108,864 pixels. Its images
- * end at their last band, are not lenient, and have the background of P2. What the handle contained
- * is freed first. With ICYSIXEL_OUT_OF_MEMORY the handle is empty. */
+ * end by ICYSIXEL_HEIGHT_BANDS, are not lenient, have the background of P2 and begin with register
+ * 0. What the handle contained is freed first. With ICYSIXEL_OUT_OF_MEMORY the handle is empty. */
 uint32_t icysixel_new(icysixel *handle);
 
 /* Frees the decoder and all that it stores, and empties the handle. */
@@ -324,8 +325,8 @@ uint32_t icysixel_get_size_so_far(const icysixel *handle, icysixel_size *size);
 /* Returns the last row of the open image with a set pixel, plus one. It is 0 if there is none, if
  * no image is open, and after an error. The height of an image with sixels and without raster
  * attributes is a multiple of six, and this number can be less. It counts pixels outside of the
- * clip too, down to the clip's last row. The shape of the finished image has it too, or the height
- * if the image ends above that row. It does not allocate. */
+ * clip too, down to the clip's last row. In the shape of the finished image `drawn_height` is this
+ * number, but at most the height. It does not allocate. */
 size_t icysixel_get_drawn_height(const icysixel *handle);
 
 /* Returns how many rows from the top of the open image are final. No byte that follows changes a
@@ -359,9 +360,9 @@ uint32_t icysixel_release_rows(icysixel *handle, size_t rows);
 
 /* Closes the open image, stores it and writes its properties. It replaces an image that is stored.
  * Rows that were released are not stored. The decoder takes over the image's registers.
- * `is_complete` is 1 if the terminator was fed, or a control byte that ends the image early. The
- * errors are those of icysixel_feed, and ICYSIXEL_INCOMPLETE for a DCS sequence without terminator.
- * A payload can end anywhere. An error closes the image too. Then no image is stored and no
+ * `is_complete` is 1 if the image has ended: by its terminator or by another control byte. A
+ * payload can end anywhere. The errors are those of icysixel_feed, and ICYSIXEL_INCOMPLETE for a
+ * DCS sequence without terminator. An error closes the image too. Then no image is stored and no
  * register changes. */
 uint32_t icysixel_finish(icysixel *handle, icysixel_shape *shape);
 
@@ -384,8 +385,8 @@ uint32_t icysixel_decode_payload(icysixel *handle, const uint8_t *bytes, size_t 
 /* -- The stored image -- */
 
 /* Copies `rows` rows of the stored image from row `first` on to `buf`. The first of them starts at
- * buf[0]. Bytes between rows are unchanged. The image stays stored, so rows can be copied as often
- * as wanted. With a zeroed layout all columns are copied, in RGBA and without gaps. Columns on the
+ * buf[0]. Bytes between rows are unchanged. The image stays stored, so rows can be copied more than
+ * once. With a zeroed layout all columns are copied, in RGBA and without gaps. Columns on the
  * right of the image are transparent. It does not allocate. The errors, in this order, are:
  *
  * - ICYSIXEL_BAD_OPTION;
@@ -400,7 +401,7 @@ uint32_t icysixel_copy_pixels(const icysixel *handle, size_t first, size_t rows,
                               const icysixel_layout *layout, uint8_t *buf, size_t size);
 
 /* Transfers the pixels of the stored rows to the caller, with stride 0 and without a copy. `order`
- * is an enum icysixel_order. Red and blue are exchanged in place. The errors are
+ * is an enum icysixel_order. For BGRA red and blue are exchanged in place. The errors are
  * ICYSIXEL_BAD_OPTION and ICYSIXEL_NO_IMAGE. The call does not allocate, and does not free an
  * earlier block in `pixels`. Without a stored row `pixels` becomes zeros. The block stays valid
  * after icysixel_free. icysixel_free_bytes frees it, and so does free(pixels->data) with the
@@ -440,12 +441,12 @@ void icysixel_reset_registers(icysixel *handle);
 /* Returns where images end, an enum icysixel_height. */
 uint8_t icysixel_get_height(const icysixel *handle);
 
-/* Sets where images end that are finished or decoded afterwards. `height` is an enum
+/* Sets where images end, for images that are finished or decoded afterwards. `height` is an enum
  * icysixel_height; the error is ICYSIXEL_BAD_OPTION. Most images have a height that is no multiple
  * of six. With ICYSIXEL_HEIGHT_BANDS they have background rows at the bottom. ICYSIXEL_HEIGHT_DRAWN
  * is the height of foot, xterm and libsixel: the greater of the raster height and the drawn height.
- * It is 0 for an empty image, which then has no rows. No row is added to an image, and a clip ends
- * it first. icysixel_get_size_so_far does not depend on this setting. */
+ * It is 0 for an empty image, which then has no rows. No height adds a row to an image, or shows
+ * one below the clip. icysixel_get_size_so_far does not depend on this setting. */
 uint32_t icysixel_set_height(icysixel *handle, uint8_t height);
 
 /* Returns 1 if images of this handle are lenient. */
@@ -485,17 +486,17 @@ void icysixel_set_first_register(icysixel *handle, uint8_t number);
 /* Returns how many pixels an image can have, or 0 if the handle is empty. */
 size_t icysixel_get_limit(const icysixel *handle);
 
-/* Sets how many pixels an image that is begun afterwards can have. 0 is taken as 1, and a number
- * above 67,108,864 as 67,108,864. The whole picture counts, clipped or not. */
+/* Sets how many pixels an image can have, for images that are begun afterwards. 0 is taken as 1,
+ * and a number above 67,108,864 as 67,108,864. The whole picture counts, clipped or not. */
 void icysixel_set_limit(icysixel *handle, size_t pixels);
 
 /* Writes how many columns from the left and rows from the top an image can have: 1,000,000 each in
  * a new decoder, which clips nothing. */
 uint32_t icysixel_get_clip(const icysixel *handle, icysixel_size *clip);
 
-/* Sets the columns and rows that an image that is begun afterwards can have. The image is the
- * picture restricted to them. What lies outside is not stored. 0 is taken as 1, and a number above
- * 1,000,000 as 1,000,000. */
+/* Sets how many columns and rows an image can have, for images that are begun afterwards. The image
+ * is the picture restricted to them. What lies outside is not stored. 0 is taken as 1, and a number
+ * above 1,000,000 as 1,000,000. */
 void icysixel_set_clip(icysixel *handle, size_t width, size_t height);
 
 /* -- Encoding -- */
@@ -504,8 +505,9 @@ void icysixel_set_clip(icysixel *handle, size_t width, size_t height);
  * its end. The call needs no handle. `length` is the number of bytes at `pixels`. They may continue
  * after the last row. Pixels of other formats than RGBA, and rows with gaps, are copied first.
  *
- * - A refined palette has at most max_colors entries. A decoder shows them without rounding. For
- *   diffusion up to 64 entries are moved away from the mean color, unless the image is flat art.
+ * - A refined palette has at most max_colors entries. A decoder shows them without rounding. With
+ *   diffusion and at most 64 as max_colors, they are moved away from the mean color, unless the
+ *   image is flat art.
  * - A farthest palette has at most max_colors entries, where 1 is taken as 2 and a number above 256
  *   as 256. It has neither dithering nor a tolerance.
  * - In a given palette pixels have the indices of icysixel_palette_indices. Indexed pixels have
@@ -590,8 +592,8 @@ uint32_t icysixel_refine_palette(const uint8_t *pixels, size_t length, uint16_t 
 /* Counts the different colors of opaque pixels, whose alpha is at least 128. It needs no handle.
  *
  * If there are at most 256 and all are exact, a refined palette without dithering and tolerance has
- * them all. Then a decoder returns each opaque pixel as it is. An image that was defined in RGB has
- * exact colors. Of the colors defined in HLS few are. The only error is ICYSIXEL_OUT_OF_MEMORY. */
+ * them all. Then a decoder returns each opaque pixel as it is. Each color that SIXEL data define in
+ * RGB is exact. Few of those in HLS are. The only error is ICYSIXEL_OUT_OF_MEMORY. */
 uint32_t icysixel_count_colors(const uint8_t *pixels, size_t length, icysixel_distinct *distinct);
 
 /* Writes the palette index of each pixel in a given palette of 1 to 256 colors. It needs no handle.

@@ -27,7 +27,7 @@ pub(super) enum Failure {
 }
 
 impl Failure {
-    /// Stores an error.
+    /// Returns the kind of an error.
     fn of(error: &SixelError) -> Failure
         ensures { (may : Bool) (found : Option Fault) → found ≢ Some MissingCommand
             → Faults error.now may found → IsStored (Some (fault_of result)) error.now }
@@ -40,7 +40,7 @@ impl Failure {
         }
     }
 
-    /// Stores the error of invalid data with this text.
+    /// Returns the kind of an error of invalid data with this text.
     fn of_text(text: &str) -> Failure
         ensures fault { (fault : Fault) → fault ≢ MissingCommand → text_of fault ≡ Some text.now
             → fault_of result ≡ Some fault }
@@ -85,7 +85,7 @@ pub(super) fn first_error(failure: Option<Failure>, has_failed: bool, error: &mu
     }
 }
 
-/// Does so with the error of a feed, and stores it.
+/// Stores the error of a failed feed, or replaces it by the first one.
 #[cold]
 #[inline(never)]
 pub(super) fn stored_error(failure: &mut Option<Failure>, has_failed: bool, error: &mut SixelError)
