@@ -34,7 +34,7 @@ impl State {
         }
     }
 
-    /// Stores the image that an answer has, ended at the height that is set.
+    /// Stores the image of a result, ended at the height that is set.
     ///
     /// It writes the properties of the image. For an error it stores none and returns the code.
     pub fn store(
