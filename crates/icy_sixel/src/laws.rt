@@ -23,7 +23,7 @@ ghost use Rattle.icy_sixel.specs.TransparentImages.{IsCleared, drawn_pixel_of};
 
 use crate::decoder::SixelDecoder;
 
-/// States the theorem of this library, for every decoder, every image and every chunk boundary.
+/// States the theorem of this library, for every decoder, image and chunk boundary.
 ///
 /// - `tokens`, `no_others`: the bytes of a payload are one list of tokens.
 /// - `cut`: cuts have no effect on the outcomes of a list of images and resets.
@@ -36,7 +36,7 @@ pub fn headline()
     ensures { Headline }
 {}
 
-/// States what bytes mean to a decoder: the settings of a receiver have no part in it.
+/// States what bytes mean to a decoder, which has no settings of a receiver.
 ///
 /// - `strict`: its images are strict, have the background of P2, and begin with register 0.
 /// - `fault`, `tokens`: every token takes effect, and the error is that of the first faulty one.

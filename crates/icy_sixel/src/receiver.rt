@@ -37,7 +37,7 @@ use std::alloc::Global;
 use std::marker::Model;
 use std::{mem, result};
 
-/// Why a feed of a receiver failed, and what it did all the same.
+/// The error of a failed feed, with the bytes of the image and its status.
 #[derive(Debug, PartialEq, Eq, Drop)]
 pub struct FailedFeed {
     /// How many bytes of the chunk belong to the image.

@@ -30,7 +30,7 @@ impl From<proved::Received> for Received {
     }
 }
 
-/// Why a feed of a receiver failed, and what it did all the same.
+/// The error of a failed feed, with the bytes of the image and its status.
 #[derive(Clone, Debug, PartialEq, Eq)]
 pub struct FailedFeed {
     /// How many bytes of the chunk are the image's own.
@@ -265,10 +265,10 @@ impl SixelReceiver {
         self.decoder.reset_palette();
     }
 
-    /// Sets where images end that are finished afterwards: [`Height::Bands`] in a new decoder.
+    /// Sets where images end, if they are finished afterwards.
     ///
-    /// No row is added to an image, and a clip ends it first. [`into_decoder`](Self::into_decoder)
-    /// returns a decoder with the same setting.
+    /// It is [`Height::Bands`] in a new receiver. No height adds a row to an image, or shows one
+    /// below the clip. [`into_decoder`](Self::into_decoder) returns a decoder with the same setting.
     pub fn set_height(&mut self, height: Height) {
         self.decoder.height = height;
     }
@@ -294,7 +294,7 @@ impl SixelReceiver {
         self.decoder.core.is_lenient()
     }
 
-    /// Sets whether pixels that are not drawn are transparent, whatever P2 of an image says.
+    /// Sets whether pixels that no sixel draws are transparent, whatever P2 says.
     ///
     /// It is off in a new receiver. The setting applies to images that are begun afterwards. The
     /// `background_mode` of the image stays the one that P2 selects. So a multiplexer can encode
@@ -303,8 +303,7 @@ impl SixelReceiver {
         self.decoder.core.set_transparent(on);
     }
 
-    /// Whether images have a transparent background whatever P2 says, by
-    /// [`set_transparent`](Self::set_transparent).
+    /// Whether the background is transparent whatever P2 says: off in a new receiver.
     #[must_use]
     pub fn is_transparent(&self) -> bool {
         self.decoder.core.is_transparent()

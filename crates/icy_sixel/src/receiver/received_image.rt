@@ -17,11 +17,11 @@ use sixel_decoder::DecodedPayload;
 /// Where an image ends that a host crops.
 #[derive(Clone, Copy, Debug, PartialEq, Eq)]
 pub enum Height {
-    /// At the end of its last band, or lower if raster attributes name a greater height.
+    /// At the last band of six rows, or at the raster height below it.
     Bands,
-    /// At the last height that raster attributes name, if there is one.
+    /// At the last height in raster attributes, or without one as [`Bands`](Self::Bands).
     Raster,
-    /// At that height, or lower if a pixel below it is set, as other terminals do.
+    /// At the raster height, or at the last drawn row below it, as other terminals do.
     Drawn,
 }
 
@@ -112,7 +112,7 @@ impl ReceivedImage {
         self.drawn_height = self.drawn_height.min(height);
     }
 
-    /// Copies rows of the image to the caller's memory, as often as the caller calls it.
+    /// Copies rows of the image to the caller's memory.
     ///
     /// The rows are `first` up to before `first + rows`. They lie as those of
     /// [`SixelReceiver::copy_rows`]. Columns on the right of the image are transparent. The call

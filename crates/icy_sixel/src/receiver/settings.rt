@@ -47,7 +47,7 @@ impl SixelReceiver {
         self.lenient
     }
 
-    /// Sets whether pixels that are not drawn are transparent, whatever P2 of an image says.
+    /// Sets whether pixels that no sixel draws are transparent, whatever P2 says.
     ///
     /// It is off in a new receiver, and applies to the same images as
     /// [`set_lenient`](Self::set_lenient). The `background_mode` of the image stays the one that P2
@@ -59,7 +59,7 @@ impl SixelReceiver {
         self.transparent = on;
     }
 
-    /// Whether images have a transparent background whatever P2 says: off in a new receiver.
+    /// Whether the background is transparent whatever P2 says: off in a new receiver.
     pub fn is_transparent(&self) -> bool
         ensures { result ≡ self.now.transparent }
     {

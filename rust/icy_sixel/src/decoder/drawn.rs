@@ -25,7 +25,7 @@ impl SixelDecoder {
         self.by_copy(|copy| copy.decode_drawn(Global, bytes))
     }
 
-    /// Decodes as [`decode_from_dcs`](Self::decode_from_dcs) does, and returns the same.
+    /// Decodes as [`decode_from_dcs`](Self::decode_from_dcs) does, and returns a [`ReceivedImage`].
     ///
     /// # Errors
     ///

@@ -66,7 +66,7 @@ impl ReceivedImage {
         self.drawn_height == 0 && self.raster_height == 0
     }
 
-    /// Copies rows of the image to the caller's memory, as often as the caller calls it.
+    /// Copies rows of the image to the caller's memory.
     ///
     /// The rows are `first` up to before `first + rows`. They lie as those of
     /// [`SixelReceiver::copy_rows`](super::SixelReceiver::copy_rows). Columns on the right of the

@@ -194,7 +194,7 @@ impl<T> Vec<T> {
         let _ = self.try_shrink_to(least);
     }
 
-    /// Does so, or fails. After an error the items and the capacity are as before.
+    /// Frees such capacity, or fails. After an error items and capacity are as before.
     fn try_shrink_to(&mut self, least: usize) -> Result<(), AllocError> {
         const { assert!(size_of::<T>() > 0) };
         let (len, capacity) = (self.0.len(), self.0.capacity());
