@@ -7,6 +7,13 @@ rule names stays as it is, so that rustc rejects it if it is not Rust.
 import re
 
 CLAUSES = "requires", "ensures"
+# Requirements on the lengths of slices, and their checks. LLVM then leaves out those of the indices
+# within, but not after a check with a sum, because a sum may wrap.
+BOUNDS = {
+    r"(\w+) ≤ (\w+\.len\(\))": r"\1 <= \2",
+    r"([\w* ]+) \+ (\w+) ≤ (\w+\.len\(\))": r"\3 >= \2 && \1 <= \3 - \2",
+    r"(\w+\.len\(\)) ≡ (\w+\.len\(\))": r"\1 == \2",
+}
 SUPPORT = "crate::rattle::rattle_std"
 # The modules of `std` that only a program has.
 HOST = "env", "fs", "io", "process", "test"
@@ -23,12 +30,24 @@ def ghost(source, at):
 
 
 def clauses(source, at):
-    """The clauses between the signature of a function and its body."""
+    """The clauses between the signature of a function and its body, which checks the bounds."""
     if source.word(at) not in CLAUSES:
         return None
     end = body(source, at)
     source.cut_between(at - 1, end, " " if source.word(end) == "{" else "")
+    if source.word(end) == "{":
+        source.append(end, "".join(checks(" ".join(source.words(at, end)))))
     return end
+
+
+def checks(text):
+    """The checks of the bounds among clauses."""
+    text = re.sub(r"length (\w+) \. (?:now|old)", r"\1.len()", text)
+    for clause in re.findall(r"requires (?:\w+ )?\{ (.*?) \}", text):
+        for form, check in BOUNDS.items():
+            found = re.fullmatch(form, clause)
+            if found:
+                yield f"\n    required({found.expand(check)});"
 
 
 def body(source, at):

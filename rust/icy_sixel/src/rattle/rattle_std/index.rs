@@ -46,6 +46,16 @@ pub fn proved(condition: bool) {
     }
 }
 
+/// Checks lengths as a contract requires them.
+///
+/// LLVM then leaves out the checks of indices within.
+#[inline(always)]
+pub fn required(condition: bool) {
+    if IS_CHECKED && !condition {
+        out_of_range();
+    }
+}
+
 /// Panics. Without arguments, the checks of a function share one call.
 #[cold]
 #[inline(never)]

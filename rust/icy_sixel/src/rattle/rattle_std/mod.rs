@@ -22,7 +22,7 @@ pub use core::{fmt, mem, ptr, result};
 /// The names that each file has without an import.
 pub mod prelude {
     pub use super::boxed::Box;
-    pub use super::index::Proved;
+    pub use super::index::{Proved, required};
     pub use super::marker::Drop;
     pub(crate) use super::string::format_in as format;
     pub use super::string::String;

@@ -3,8 +3,9 @@
 extern crate std;
 
 use super::alloc::Global;
-use super::prelude::{Proved, String, Vec};
+use super::prelude::{Proved, String, Vec, required};
 use super::simd::{Choice, Lane, Mask, Simd};
+use std::panic::catch_unwind;
 use std::vec::Vec as Items;
 
 const ROUNDS: usize = 200;
@@ -125,13 +126,14 @@ fn lanes_are_extracted() {
     assert_eq!(lanes.extract::<4, 4>().to_array(), [5, 6, 7, 8]);
 }
 
-/// An index out of range panics, where indices are checked.
+/// An index out of range panics, as a wrong length does, where indices are checked.
 #[cfg(any(not(feature = "unchecked"), debug_assertions))]
 #[test]
-#[should_panic(expected = "index out of range")]
 fn indices_are_checked() {
     let items: &[u8] = &[1, 2];
-    let _ = items[Proved(items.len())];
+    assert!(catch_unwind(|| items[Proved(items.len())]).is_err());
+    required(items.len() == 2);
+    assert!(catch_unwind(|| required(items.len() > 2)).is_err());
 }
 
 /// A vector of more bytes than there are fails, and is as it was.
