@@ -25,6 +25,7 @@ def cross_build(target, compiler, *words):
     folder = ROOT / "out/processors"
     linker = f"CARGO_TARGET_{target.upper().replace('-', '_')}_LINKER"
     changed = {"RUSTC": "/usr/bin/rustc", "RUSTC_BOOTSTRAP": "1", linker: compiler}
+    changed |= {"CARGO_INCREMENTAL": "0"}
     source = 'source.crates-io.replace-with="rust"', f'source.rust.directory="{VENDORED}"'
     words += *(f"--config={it}" for it in source), f"--target={target}", f"--target-dir={folder}"
     words += "-Zbuild-std=core,alloc", "--config=profile.dev.debug=0"
