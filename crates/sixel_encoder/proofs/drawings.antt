@@ -1,3 +1,4 @@
+pub mod Background
 pub mod EncodedText
 pub mod IndexedDrawing
 pub mod IndexedText

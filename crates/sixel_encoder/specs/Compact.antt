@@ -1,7 +1,7 @@
 -- The compact text of a drawing: it draws the pixels of the plain text in fewer bytes. Registers
--- that no pixel has are not defined. A run may cover pixels that a later segment of the band draws
--- over. The rows of a band share passes, and no band follows the last that is used. Where the plain
--- text is shorter, that is the text.
+-- that no pixel has are not defined, apart from the background of an opaque drawing. A run may cover
+-- pixels that a later segment of the band draws over. The rows of a band share passes, and no band
+-- follows the last that is used. Where the plain text is shorter, that is the text.
 use Rattle.std.specs.Prelude.{◌≡◌, ℕ, zero, suc, ◌+◌, ◌-◌, ◌*◌, ◌==◌, nat_le, nat_lt, Bool}
 use Rattle.std.specs.Prelude.{◌&&◌, if◌then◌else◌, List, [], ◌∷◌, ◌++◌, length, map, replicate}
 use Rattle.std.specs.Prelude.{codes, false, not, Option, Some, None, is_some, slice_index}

@@ -1,8 +1,8 @@
 //! Laws of the SIXEL output and its meaning, stated by functions with empty bodies.
 
 ghost use Rattle.std.specs.Prelude.{◌≡◌, ℕ, ◌≤◌, ◌<◌, ◌*◌, Bool, List, ◌∷◌, ◌++◌, length, codes};
-ghost use Rattle.std.specs.Prelude.{Some, None, All};
-ghost use Rattle.sixel_base.specs.declared.settings.BackgroundMode.TheVariants.{Transparent};
+ghost use Rattle.std.specs.Prelude.{Some, None, All, false};
+ghost use Rattle.sixel_base.specs.declared.settings.BackgroundMode.TheVariants.{Opaque, Transparent};
 ghost use Rattle.sixel_base.specs.Bytes.{before_terminator, front, first_terminator, count};
 ghost use Rattle.sixel_base.specs.Color.{byte_of};
 ghost use Rattle.sixel_base.specs.Decoder.{new_decoder, origin_of};
@@ -15,14 +15,16 @@ ghost use Rattle.sixel_encoder.specs.Text.{Drawing, parameters_text, text_of};
 ghost use Rattle.sixel_encoder.specs.Encoding.{image_fault, IsDrawing, IsText, shown_image};
 ghost use Rattle.sixel_base.specs.Dcs.{Reading, stage};
 ghost use Rattle.sixel_base.specs.Limits.{Limit};
-ghost use Rattle.sixel_base.specs.OneShot.{Payload, found};
+ghost use Rattle.sixel_base.specs.OneShot.{AreFoundRegisters, Payload, found};
 ghost use Rattle.sixel_encoder.specs.Compact.{compact_text};
+ghost use Rattle.sixel_encoder.specs.Form.{form_text};
 ghost use Rattle.sixel_palette.specs.declared.mapping.Mapping.{Mapping};
 ghost use Rattle.sixel_encoder.specs.declared.form.TextForm.{TextForm};
 ghost use Rattle.sixel_encoder.specs.Marks.{IsDrawnText};
 ghost use Rattle.sixel_encoder.specs.IndexedDrawing.{indexed_drawing};
 ghost use Rattle.sixel_encoder.specs.RefinedText.{IsRefinedText, ShowsPixels, no_mapping};
 ghost use Rattle.sixel_encoder.specs.Trip.{IsWritable, payload_text, drawing_settings, rounded};
+ghost use Rattle.sixel_encoder.specs.Trip.{HasBackground};
 ghost use Rattle.sixel_encoder.specs.Trip.{trip, CanRead, CanShow, IsTrip, IsReadAs, IsOneString};
 
 /// States that an output is its parameters, a payload and the string terminator.
@@ -100,6 +102,20 @@ pub fn compact_text()
         → IsReadAs decoder (compact_text drawing) (trip decoder.raster_crop drawing) }
     ensures short { (drawing : Drawing)
         → length (compact_text drawing) ≤ length (text_of drawing) }
+{}
+
+/// States that register 0 has the background after an opaque drawing.
+///
+/// The background is palette entry 0, as a percentage and back. Terminals that paint what is not
+/// drawn in the color of register 0 paint it in the background. An image of an icy_sixel decoder
+/// has the color there that register 0 had before.
+pub fn background()
+    ensures { (decoder : DecoderState) (drawing : Drawing) (form : TextForm)
+        (after : List (List ℕ)) → IsWritable drawing → drawing.background_mode ≡ Opaque
+        → 0 < length drawing.colors → length decoder.registers ≡ 256
+        → decoder.pixel_limit.lenient ≡ false
+        → AreFoundRegisters decoder (found (form_text form drawing)) after
+        → HasBackground drawing after }
 {}
 
 /// States that a percentage survives the conversion to a byte.

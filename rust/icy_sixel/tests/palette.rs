@@ -1,7 +1,7 @@
 //! A palette of more colors than it has entries for, and images in palettes.
 
 use icy_sixel::SixelError::{BufferSizeMismatch, InvalidData, InvalidDimensions};
-use icy_sixel::{Amplitude, Mapping, Tolerance, choose_palette, palette_indices};
+use icy_sixel::{Amplitude, BackgroundMode, Mapping, Tolerance, choose_palette, palette_indices};
 use icy_sixel::{Dither, EncodeOptions, Encoding, PaletteMode, PixelFormat, SixelImage, TextForm};
 use icy_sixel::{refine_palette, sixel_encode, witnesses_hold};
 
@@ -74,6 +74,23 @@ fn texts_in_palettes() {
     {
         assert_eq!(image.encode_refined(2, dither, TextForm::Compact).unwrap(), refined);
     }
+}
+
+/// Entry 0 of an opaque image is register 0 in both forms, though no pixel has it.
+#[test]
+fn backgrounds() {
+    let colors = [[0, 255, 0], [0, 0, 0], [255, 255, 255]];
+    let text = |mode, form| {
+        let image = SixelImage::from_rgba(ROW.to_vec(), 3, 1).with_background_mode(mode);
+        image.encode_indexed(&colors, &[2, 1, 2], form).unwrap()
+    };
+    let green = "\x1bP9;0;0q\"1;1;3;1#0;2;0;100;0";
+    let plain = format!("{green}#1;2;0;0;0#2;2;100;100;100#1?@?$#2@?@$-\x1b\\");
+    assert_eq!(text(BackgroundMode::Opaque, TextForm::Plain), plain);
+    let compact = format!("{green}#2;2;0;0;0#1;2;100;100;100#1@@@$#2?@\x1b\\");
+    assert_eq!(text(BackgroundMode::Opaque, TextForm::Compact), compact);
+    let compact = format!("{HEAD}#1;2;0;0;0#0;2;100;100;100#0@@@$#1?@\x1b\\");
+    assert_eq!(text(BackgroundMode::Transparent, TextForm::Compact), compact);
 }
 
 /// Two rows have one text in all formats, with and without a byte between them.

@@ -202,7 +202,8 @@ impl SixelImage {
     /// Its palette is that of [`encode_with`](Self::encode_with), and so are its errors. A decoder
     /// returns the same image from both outputs. The registers that it has afterwards differ. The
     /// compact output defines only palette entries that a pixel has, and numbers them by their runs
-    /// of pixels. It is never longer.
+    /// of pixels. On an opaque background entry 0 is defined, too, in register 0. The compact
+    /// output is never longer.
     ///
     /// Runs may cover pixels that a later run draws over. Rows of several colors share a pass. A
     /// row ends with its last set pixel.

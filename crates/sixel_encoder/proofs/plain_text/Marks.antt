@@ -77,7 +77,7 @@ register_entry-append (definition ∷ a) b before register =
     (cond (definition.register == register) (Some definition.entry) before) register
 
 -- each register has the entry of its number
-register_entry-plain : (n entry : ℕ) → entry < n
+pub register_entry-plain : (n entry : ℕ) → entry < n
     → register_entry (joined plain_definition n) None entry ≡ Some entry
 unfolding joined
 register_entry-plain zero entry l = absurd (omega arith)

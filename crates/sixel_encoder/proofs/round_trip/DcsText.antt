@@ -71,11 +71,11 @@ settings-numbers drawing =
 -- ---- any payload with the parameters of a drawing
 
 -- a payload and the string terminator
-abbrev ended_payload : List ℕ → List ℕ
+abbrev pub ended_payload : List ℕ → List ℕ
 ended_payload payload = payload ++ 27 ∷ codes "\\"
 
 -- the DCS sequence of a payload
-abbrev sequence_of : Drawing → List ℕ → List ℕ
+abbrev pub sequence_of : Drawing → List ℕ → List ℕ
 sequence_of drawing payload = parameters_text drawing ++ ended_payload payload
 
 -- what follows the introducer

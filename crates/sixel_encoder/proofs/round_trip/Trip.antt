@@ -1,7 +1,7 @@
 -- The round trip: what the payload of marks that draw a drawing means is the drawing's trip,
 -- without a fault.
-use Rattle.std.specs.Prelude.{None, slice_index_or}
-use Rattle.std.proofs.Common.{List, arith, length, ℕ, ◌*◌, ◌++◌, false, ◌<◌, ◌∷◌, ◌≡◌, ◌≤◌, []}
+use Rattle.std.specs.Prelude.{None, Some, slice_index_or}
+use Rattle.std.proofs.Common.{List, arith, length, ℕ, ◌*◌, ◌++◌, false, ◌<◌, ◌∷◌, ◌≡◌, ◌≤◌, [], map}
 use Rattle.std.proofs.lemmas.List.{get_or_past}
 use Rattle.std.proofs.lemmas.List.FromFn.{get_or-map-range_with_len, length-map-range_with_len}
 use Rattle.std.proofs.lemmas.Nat.{mul-le}
@@ -12,6 +12,7 @@ use Rattle.sixel_base.specs.History.{history_of}
 use Rattle.sixel_base.proofs.ToleratedTokens.{effective-off, fault-sound}
 use Rattle.sixel_base.specs.Limits.{Limit}
 use Rattle.sixel_base.specs.Payload.{Image, image_of, payload_fault, payload_image}
+use Rattle.sixel_base.specs.Payload.{payload_registers}
 use Rattle.sixel_base.specs.Picture.{picture}
 use Rattle.sixel_base.specs.Settings.{mode_of}
 use Rattle.sixel_base.specs.Size.{banded}
@@ -19,12 +20,13 @@ use Rattle.sixel_base.specs.Stroke.{Origin, background, pixel, registers}
 use Rattle.sixel_base.specs.declared.state.DecoderState.{DecoderState}
 use Rattle.sixel_encoder.specs.Marks.{Definition, Draws, Mark, first_pen, marks_payload, painted}
 use Rattle.sixel_encoder.specs.Text.{Drawing, bands, entry_at}
-use Rattle.sixel_encoder.specs.Trip.{CanShow, IsWritable, blank, drawing_settings, trip, trip_pixel}
+use Rattle.sixel_encoder.specs.Trip.{CanShow, IsWritable, blank, drawing_settings, rounded, trip}
+use Rattle.sixel_encoder.specs.Trip.{trip_pixel}
 use Rattle.sixel_encoder.proofs.round_trip.DrawnHeight.{cropped_height-tokens}
 use Rattle.sixel_encoder.proofs.round_trip.Extent.{first_fault-other}
 use Rattle.sixel_encoder.proofs.JoinedLists.{joined-same}
 use Rattle.sixel_encoder.proofs.round_trip.PenSteps.{Follows, Follows-marks}
-use Rattle.sixel_encoder.specs.Marks.{moved_by}
+use Rattle.sixel_encoder.specs.Marks.{moved_by, register_entry}
 use Rattle.sixel_encoder.proofs.round_trip.TextHistory.{payload-read}
 use Rattle.sixel_encoder.proofs.round_trip.TextPalette.{Follows-palette, pixel-palette}
 use Rattle.sixel_encoder.proofs.round_trip.TextPalette.{register-palette}
@@ -115,6 +117,23 @@ module _ (drawing : Drawing) (definitions : List Definition) (marks : List Mark)
       let whole = effective-off decoder.pixel_limit (history_of (front text)) can.strict in
       rw (whole, payload-read drawing definitions marks is draws rest) (image-tokens _ is draws
       (IsOrigin-new decoder drawing can.registers can.painted) can.columns can.rows)
+
+  -- and leaves a register that is defined the color of its entry
+  pub payload-register :
+      (decoder : DecoderState) (rest : List ℕ) (register entry : ℕ) → IsWritable drawing
+      → Draws drawing definitions marks → length decoder.registers ≡ 256
+      → decoder.pixel_limit.lenient ≡ false
+      → register_entry definitions None register ≡ Some entry
+      → slice_index_or (payload_registers (origin_of decoder (drawing_settings drawing))
+      (marks_payload drawing definitions marks ++ 27 ∷ rest)) register []
+      ≡ map rounded (slice_index_or drawing.colors entry [])
+  payload-register decoder rest register entry is draws size strict e =
+      let text = marks_payload drawing definitions marks ++ 27 ∷ rest in
+      let whole = effective-off decoder.pixel_limit (history_of (front text)) strict in
+      let follows = Follows-tokens 0 decoder.registers is draws in
+      rw (whole, payload-read drawing definitions marks is draws rest, follows.defined)
+      (register-palette decoder.registers drawing definitions register entry is draws.defined size
+      e)
 
   -- and has no fault within a limit that has room for it in whole bands
   pub payload-sound : (limit : Limit) (rest : List ℕ) → IsWritable drawing
