@@ -57,6 +57,18 @@ GRAYS = [
     ("-d none", [51, 150, 150], [0, 0, 0]),
 ]
 
+# Arguments of `draw`, colored pixels, and how they are drawn in black and white. The gray of green
+# is 149. The squared distances of red are 65025 from black and 130050 from white, and that of its
+# gray 76 is 17328 from black. 7/5 of the mean is 75861 in colors and 20216 in grays.
+GREEN, RED = (0, 255, 0), (255, 0, 0)
+HUES = [
+    ("-d none -t 0", [GREEN], [0]),
+    ("-d ordered -t 0 -s 1", [GREEN], [255]),
+    ("-d diffusion -t 0", [GREEN], [255]),
+    ("-d none", [(255, 255, 255), *5 * [RED]], [255, 0, 0, 0, 0, 0]),
+    ("-d none -t 75861", [(255, 255, 255), *5 * [RED]], 6 * [255]),
+]
+
 # The most colors of a palette, and by how many 32nds its entries are spread for diffusion.
 SPREADS = [(65, 0), (64, 1), (17, 1), (16, 2), (3, 2), (2, 16)]
 # The pixels of a gradient, and as many of one color.
@@ -159,6 +171,17 @@ class TestPrograms(ProgramTest):
                 ]
                 self.assertEqual(ordered[0], ordered[1])
                 self.assertNotEqual(ordered[0], ordered[2])
+
+    def test_hues(self):
+        """Dithering draws the brightness in grays, and a tolerance counts no hue."""
+        with tempfile.NamedTemporaryFile() as file:
+            Path(file.name).write_bytes(b"P5 2 1 255\n\0\xff")
+            for program, (words, colors, drawn) in itertools.product(self.builds(), HUES):
+                with self.subTest(program=program.name, words=words):
+                    picture = b"P6 %d 1 255\n%s" % (len(colors), b"".join(map(bytes, colors)))
+                    text = self.drawn(program, f"-p {file.name} {words}", picture)
+                    pixels = run(program, "pam", stdin=text)[1].split(b"ENDHDR\n")[1]
+                    self.assertEqual(list(pixels[: 4 * len(colors) : 4]), drawn)
 
     def test_spread(self):
         """Few entries are spread for diffusion, as the model says, but not those of flat art."""

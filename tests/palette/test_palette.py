@@ -70,7 +70,7 @@ def chosen(colors, color, tolerance, neighbors):
 
 
 def source(colors, pixels):
-    """The pixels that error diffusion maps: in a palette of grays their brightness."""
+    """The pixels that dithering maps: in a palette of grays their brightness."""
     if any(len(set(it)) > 1 for it in colors):
         return pixels
     levels = ((77 * r + 150 * g + 29 * b) // 256 for r, g, b, _ in pixels)
@@ -180,7 +180,7 @@ class PaletteTest(unittest.TestCase):
             colors += rng.sample(colors, rng.randint(0, 1))
             if rng.random() < 0.2:
                 colors = [(it, it, it) for it, *_ in colors]
-            diffused = source(colors, pixels)
+            dithered = source(colors, pixels)
             amount = rng.choice([1, 3, 7, 8, 64, 255])
             exact, kept = {"tolerance": 0}, {"tolerance": rng.choice([1, 12, 200, 5000])}
             cases = [(OFF, amount, it, it) for it in (exact, kept)]
@@ -188,12 +188,12 @@ class PaletteTest(unittest.TestCase):
             strength = {"strength": min(amount, 8)}
             cases += [(DIFFUSION, amount, it, it | strength) for it in (exact, kept)]
             automatic = [
-                (OFF, amount, pixels, {}),
-                (ORDERED, 0, pixels, {"amplitude": automatic_amplitude(colors, pixels)}),
-                (DIFFUSION, 0, diffused, {"strength": 7}),
+                (OFF, amount, {}),
+                (ORDERED, 0, {"amplitude": automatic_amplitude(colors, dithered)}),
+                (DIFFUSION, 0, {"strength": 7}),
             ]
-            for kind, number, wanted, options in automatic:
-                options["tolerance"] = automatic_tolerance(kind, colors, wanted)
+            for kind, number, options in automatic:
+                options["tolerance"] = automatic_tolerance(kind, colors, dithered)
                 cases.append((kind, number, {"tolerance": AUTO}, options))
             for kind, number, passed, options in cases:
                 with self.subTest(turn=turn, kind=kind, amount=number, **passed):
@@ -202,7 +202,7 @@ class PaletteTest(unittest.TestCase):
                         "icysixel_palette_indices", pixels, 4 * len(pixels), width, colors,
                         len(colors), bytes([kind, number]), *passed.values(), found, len(pixels),
                     )
-                    wanted = diffused if kind == DIFFUSION else pixels
+                    wanted = pixels if kind == OFF else dithered
                     self.assertEqual(list(found.raw), mapped(width, wanted, colors, **options))
             self.assertEqual(mapped(width, pixels, colors), nearest_of(colors, pixels))
 

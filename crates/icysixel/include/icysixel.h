@@ -230,7 +230,7 @@ enum icysixel_background {
 };
 
 /* A tolerance by the palette: its mean squared error, or 7/5 of it without dithering. It is at
- * least 12, or 0 if there is no error. */
+ * least 12, or 0 if there is no error. In a palette of grays it is that of the brightness. */
 #define ICYSIXEL_AUTO UINT32_MAX
 
 /* Palettes of encoded images. Indexed pixels have the given palette in each mode. */
@@ -599,7 +599,7 @@ uint32_t icysixel_count_colors(const uint8_t *pixels, size_t length, icysixel_di
 /* Writes the palette index of each pixel in a given palette of 1 to 256 colors. It needs no handle.
  *
  * The pixels are rows of `width` without gaps. Without dithering and tolerance an opaque pixel has
- * the index of its nearest entry, the first of these. In a palette of grays, diffusion maps the
+ * the index of its nearest entry, the first of these. In a palette of grays, dithering maps the
  * brightness of the pixels. A transparent pixel has index 0, and its color has no effect. The
  * tolerance is that of icysixel_encoding. `indices` has a capacity of at least one byte for each
  * pixel, and the bytes after these are unchanged. The errors, in this order, are:

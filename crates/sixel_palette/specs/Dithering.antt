@@ -14,7 +14,7 @@ use Rattle.sixel_base.specs.declared.error.SixelError.TheVariants.{InvalidDimens
 use Rattle.sixel_base.specs.declared.error.SixelError.TheVariants.{BufferSizeMismatch}
 use Rattle.sixel_palette.specs.Palette.{color_at, distance, nearest, IsOpaque, IsNearest}
 use Rattle.sixel_palette.specs.Refined.{opaque_pixels, sum_to, summed_error}
-use Rattle.sixel_palette.specs.Gray.{source_pixels}
+use Rattle.sixel_palette.specs.Gray.{measured_pixels, source_pixels}
 use Rattle.sixel_palette.specs.declared.dither.Amplitude.{Amplitude}
 use Rattle.sixel_palette.specs.declared.dither.Amplitude.TheVariants.{Auto as AutoAmplitude, Levels}
 use Rattle.sixel_palette.specs.declared.dither.Dither.{Dither}
@@ -278,8 +278,8 @@ automatic_tolerance dither mean = max 12 mean
 abbrev pub tolerance_of : Dither → Tolerance → List (List ℕ) → List ℕ → ℕ
 tolerance_of dither (Squared tolerance) colors pixels = tolerance
 tolerance_of dither Auto colors pixels =
-    if summed_error colors pixels == 0 then 0
-    else automatic_tolerance dither (mean_error colors pixels)
+    if summed_error colors (measured_pixels dither colors pixels) == 0 then 0
+    else automatic_tolerance dither (mean_error colors (measured_pixels dither colors pixels))
 
 -- the square root of a number, rounded down, but at most so much
 unfoldable pub root : ℕ → ℕ → ℕ

@@ -1,11 +1,11 @@
--- The grays of a picture, which error diffusion maps to a palette of grays. No gray repays the
--- error of a hue. The brightness is the luma of ITU-R BT.601, in 256ths.
+-- The grays of a picture, which dithering maps to a palette of grays. No gray repays the error of a
+-- hue. The brightness is the luma of ITU-R BT.601, in 256ths.
 use Rattle.std.specs.Prelude.{ℕ, zero, suc, ◌+◌, ◌*◌, ◌/◌, ◌==◌, ◌&&◌, Bool, true, false, List, []}
 use Rattle.std.specs.Prelude.{◌∷◌, length, if◌then◌else◌, slice_index, slice_index_or}
 use Rattle.sixel_base.specs.Picture.{joined}
 use Rattle.sixel_palette.specs.Palette.{color_at}
 use Rattle.sixel_palette.specs.declared.dither.Dither.{Dither}
-use Rattle.sixel_palette.specs.declared.dither.Dither.TheVariants.{Off, Diffusion, Ordered}
+use Rattle.sixel_palette.specs.declared.dither.Dither.TheVariants.{Off}
 
 -- the channels of a color are equal
 abbrev pub is_gray : List ℕ → Bool
@@ -33,13 +33,18 @@ gray_pixel pixels pixel =
 abbrev pub gray_pixels : List ℕ → List ℕ
 gray_pixels pixels = joined (gray_pixel pixels) (length pixels / 4)
 
--- error diffusion in a palette of grays maps the grays of an image
+-- dithering in a palette of grays maps the grays of an image
 abbrev pub maps_grays : Dither → List (List ℕ) → Bool
 maps_grays Off colors = false
-maps_grays (Ordered amplitude) colors = false
-maps_grays (Diffusion strength) colors = are_gray colors (length colors)
+maps_grays dither colors = are_gray colors (length colors)
 
 -- the pixels that are mapped
 abbrev pub source_pixels : Dither → List (List ℕ) → List ℕ → List ℕ
 source_pixels dither colors pixels =
     if maps_grays dither colors then gray_pixels pixels else pixels
+
+-- the pixels of which an automatic tolerance is measured: without dithering the grays, too
+abbrev pub measured_pixels : Dither → List (List ℕ) → List ℕ → List ℕ
+measured_pixels Off colors pixels =
+    if are_gray colors (length colors) then gray_pixels pixels else pixels
+measured_pixels dither colors pixels = pixels

@@ -61,8 +61,9 @@ use std::alloc::{AllocError, Global};
 /// before it on ties. Without dithering the summed squared error is at most the least one plus the
 /// tolerance for each opaque pixel.
 ///
-/// In a palette of grays, error diffusion maps the brightness of the pixels, because no gray repays
-/// the difference of a hue. What pixels pass on is gray then.
+/// In a palette of grays, dithering maps the brightness of the pixels, because no gray repays the
+/// difference of a hue. What pixels pass on is gray then. Without dithering the colors are mapped,
+/// and only the automatic tolerance is that of the brightness.
 ///
 /// A transparent pixel, whose alpha is below 128, has index 0. Its color has no effect: it neither
 /// receives nor passes on a difference.
@@ -262,7 +263,7 @@ fn mapped_indices(
         indices.items) }
 {
     channel_bytes(image.pixels, image.colors);
-    let tolerance = tolerance_of(image, &nearest, mapping);
+    let tolerance = tolerance_of(alloc, image, &nearest, mapping)?;
     let image = MappedImage {
         tolerance,
         ..*image

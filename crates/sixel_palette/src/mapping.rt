@@ -27,6 +27,7 @@ pub enum Tolerance {
     /// The mean squared error of the palette, or 7/5 of it without dithering.
     ///
     /// It is over the opaque pixels, and at least 12. It is 0 if each of their colors is an entry.
+    /// In a palette of grays it is that of their brightness.
     Auto,
     /// A squared distance. With 0 each pixel has the nearest entry.
     Squared(u32),

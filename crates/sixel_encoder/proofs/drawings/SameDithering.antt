@@ -22,7 +22,8 @@ use Rattle.sixel_encoder.specs.IndexedDrawing.{entries_of, indexed_drawing}
 use Rattle.sixel_palette.proofs.mapped_images.DitheredIndices.{AreRowsOf, visit-inside}
 use Rattle.sixel_palette.proofs.mapped_images.GraySource.{AreRowsOf-source, IsSource-pixels}
 use Rattle.sixel_palette.proofs.mapped_images.GraySource.{dithered-count}
-use Rattle.sixel_palette.proofs.mapped_images.GraySource.{entry-source, source-alike}
+use Rattle.sixel_palette.proofs.mapped_images.GraySource.{entry-source, measured-alike}
+use Rattle.sixel_palette.proofs.mapped_images.GraySource.{source-alike}
 use Rattle.sixel_encoder.proofs.drawings.IndexedDrawing.{get_or-entries}
 use Rattle.sixel_palette.proofs.mapped_images.KeptEntries.{IsIndex-same}
 use Rattle.sixel_palette.proofs.mapped_images.PaletteError.{number-dark, number-light, sum_to-same}
@@ -95,7 +96,9 @@ pixels-same p q alike number = grind (arith, nat_tests, sum_to-same, number-dark
 -- so are the tolerance and the amplitude
 tolerance-alike : (dither : Dither) (tolerance : Tolerance) (colors : List (List ℕ)) (p q : List ℕ)
     → AreAlike p q → tolerance_of dither tolerance colors p ≡ tolerance_of dither tolerance colors q
-tolerance-alike dither tolerance colors p q alike = grind (arith, nat_tests, pixels-same)
+tolerance-alike dither tolerance colors p q alike =
+    let measured = measured-alike dither colors p q alike in
+    grind (arith, nat_tests, measured, pixels-same)
 
 amplitude-alike : (amplitude : Amplitude) (colors : List (List ℕ)) (p q : List ℕ) → AreAlike p q
     → amplitude_of amplitude colors p ≡ amplitude_of amplitude colors q

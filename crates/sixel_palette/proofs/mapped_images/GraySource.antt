@@ -6,13 +6,14 @@ use Rattle.std.proofs.lemmas.Bool.{and_parts, cases_lt}
 use Rattle.std.proofs.lemmas.List.{get_or_default, get_or_past}
 use Rattle.sixel_palette.specs.Palette.{AreIndices, IsOpaque, color_at, distance, square_gap}
 use Rattle.sixel_palette.specs.declared.dither.Dither.{Dither}
+use Rattle.sixel_palette.specs.declared.dither.Dither.TheVariants.{Diffusion, Off, Ordered}
 use Rattle.sixel_palette.specs.declared.mapping.Mapping.{Mapping}
 use Rattle.sixel_palette.specs.Dithering.{AreDithered, entry_of, mapped_of, target_of, Mapped}
 use Rattle.sixel_palette.specs.Dithering.{errors_of, no_error, opaque_error, passed_on, received}
 use Rattle.sixel_palette.specs.Dithering.{sixteenths, target_of_visit, error_above, error_before}
 use Rattle.sixel_palette.specs.Dithering.{error_behind, error_beyond}
 use Rattle.sixel_palette.specs.Gray.{are_gray, gray_color, gray_pixel, gray_pixels, is_gray}
-use Rattle.sixel_palette.specs.Gray.{maps_grays, source_pixels}
+use Rattle.sixel_palette.specs.Gray.{maps_grays, measured_pixels, source_pixels}
 use Rattle.sixel_palette.proofs.mapped_images.DitheredIndices.{AreRowsOf, HasTarget-pixel}
 use Rattle.sixel_palette.proofs.mapped_images.SameVisits.{AreAlike}
 use Rattle.std.proofs.lemmas.Bool.Decides.{nat_tests}
@@ -108,6 +109,12 @@ chosen-alike p q false alike = alike
 pub source-alike : (dither : Dither) (colors : List (List ℕ)) (p q : List ℕ) → AreAlike p q
     → AreAlike (source_pixels dither colors p) (source_pixels dither colors q)
 source-alike dither colors p q alike = chosen-alike p q (maps_grays dither colors) alike
+
+pub measured-alike : (dither : Dither) (colors : List (List ℕ)) (p q : List ℕ) → AreAlike p q
+    → AreAlike (measured_pixels dither colors p) (measured_pixels dither colors q)
+measured-alike Off colors p q alike = chosen-alike p q (are_gray colors (length colors)) alike
+measured-alike (Ordered amplitude) colors p q alike = alike
+measured-alike (Diffusion strength) colors p q alike = alike
 
 -- ---- entries that are colors of the image
 

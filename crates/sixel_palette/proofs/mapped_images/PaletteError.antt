@@ -11,8 +11,7 @@ use Rattle.sixel_palette.proofs.colors.Colors.{Contains-nearest, IsColor, distan
 use Rattle.sixel_palette.proofs.colors.Distance.{distance_self}
 use Rattle.sixel_palette.proofs.nearest_entries.Nearest.{nearest-cap, nearest-le, nearest-reached}
 use Rattle.sixel_palette.proofs.colors.Shown.{IsColor-color_at}
-use Rattle.sixel_palette.specs.declared.dither.Dither.{Dither}
-use Rattle.sixel_palette.specs.declared.mapping.Mapping.{Mapping}
+use Rattle.sixel_palette.specs.declared.dither.Dither.TheVariants.{Diffusion}
 use Rattle.sixel_palette.specs.declared.mapping.Tolerance.TheVariants.{Auto}
 use Rattle.sixel_palette.specs.Dithering.{AreMapped, IsIndex, Mapped, entry_distance, index_error}
 use Rattle.sixel_palette.specs.Dithering.{pixel_index_error, root, serpentine, tolerance_of}
@@ -77,15 +76,16 @@ module _ (colors : List (List ℕ)) (pixels : List ℕ) where
       Contains-nearest colors (color_at pixels pixel) three refl (omega (arith, none, part, own))
 
   -- as one has whose automatic tolerance is 0
-  pub error-none : (m : Mapping) → m.tolerance ≡ Auto
-      → tolerance_of m.dither m.tolerance colors pixels ≡ 0 → summed_error colors pixels ≡ 0
-  error-none m auto none = grind (arith, nat_tests, cases_eq (summed_error colors pixels) 0)
+  pub error-none : (strength : ℕ) → tolerance_of (Diffusion strength) Auto colors pixels ≡ 0
+      → summed_error colors pixels ≡ 0
+  error-none strength none = grind (arith, nat_tests, cases_eq (summed_error colors pixels) 0)
 
 -- and the other way round: without an error no opaque pixel's color is no entry
-pub tolerance-held : (dither : Dither) (colors : List (List ℕ)) (pixels : List ℕ)
+pub tolerance-held : (strength : ℕ) (colors : List (List ℕ)) (pixels : List ℕ)
     → ((pixel : ℕ) → pixel < length pixels / 4 → IsOpaque pixels pixel
-    → Contains colors (color_at pixels pixel)) → tolerance_of dither Auto colors pixels ≡ 0
-tolerance-held dither colors pixels held =
+    → Contains colors (color_at pixels pixel))
+    → tolerance_of (Diffusion strength) Auto colors pixels ≡ 0
+tolerance-held strength colors pixels held =
     let le =
     sum_to-le (opaque_number (nearest colors) pixels) (opaque_number (λ _. 1) pixels) 0
     (length pixels / 4) (λ pixel l.

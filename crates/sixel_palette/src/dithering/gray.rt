@@ -1,4 +1,4 @@
-//! The grays of a picture, which error diffusion maps to a palette of grays.
+//! The grays of a picture, which dithering maps to a palette of grays.
 
 ghost use Rattle.std.specs.Prelude.{◌≡◌, ◌*◌, ◌/◌, IfOk, length};
 ghost use Rattle.sixel_palette.specs.Gray.{are_gray, brightness, gray_pixels, is_gray, maps_grays};
@@ -10,10 +10,7 @@ use std::alloc::{AllocError, Global};
 pub fn maps_grays(dither: Dither, colors: &[[u8; 3]]) -> bool
     ensures { result ≡ maps_grays dither colors.now }
 {
-    match dither {
-        Dither::Off | Dither::Ordered { .. } => false,
-        Dither::Diffusion { .. } => are_gray(colors),
-    }
+    dither != Dither::Off && are_gray(colors)
 }
 
 /// Returns the pixels of an image in gray.
@@ -49,7 +46,7 @@ fn brightness(color: [u8; 3]) -> u8
 }
 
 /// Returns whether each color is gray.
-fn are_gray(colors: &[[u8; 3]]) -> bool
+pub fn are_gray(colors: &[[u8; 3]]) -> bool
     ensures { result ≡ are_gray colors.now (length colors.now) }
 {
     let mut gray = true;

@@ -1,17 +1,22 @@
 //! The summed squared error of a palette, and the tolerance and the amplitude that follow from it.
 
-ghost use Rattle.std.specs.Prelude.{◌≡◌, ◌*◌, ◌/◌, ◌≤◌, max};
+ghost use Rattle.std.specs.Prelude.{◌≡◌, ◌*◌, ◌/◌, ◌≤◌, IfOk, max};
 ghost use Rattle.sixel_palette.specs.Palette.{AreIndices, no_entry};
 ghost use Rattle.sixel_palette.specs.Refined.{opaque_pixels, summed_error};
 ghost use Rattle.sixel_palette.specs.Dithering.{amplitude_of, root, tolerance_of};
+ghost use Rattle.sixel_palette.specs.Gray.{measured_pixels};
+ghost use Rattle.sixel_palette.specs.inside.Mapped.{IsMappable};
 ghost use Rattle.sixel_palette.specs.inside.PaletteError.{HasNearest, IsErrorOf};
 
 use crate::dither::{Amplitude, Dither};
+use crate::dithering::gray::{are_gray, gray_pixels};
 use crate::dithering::mapped::MappedImage;
 use crate::dithering::nearest::Nearest;
 use crate::mapping::{Mapping, Tolerance};
 use crate::palette::colors::is_opaque;
 use crate::palette::distance::distance;
+use crate::palette::nearest_indices::nearest_indices;
+use std::alloc::{AllocError, Global};
 
 /// The summed squared error of a palette, and the number of opaque pixels.
 #[derive(Clone, Copy)]
@@ -21,15 +26,21 @@ struct PaletteError {
 }
 
 /// Returns the tolerance for the palette of an image.
-pub fn tolerance_of(image: &MappedImage<'_>, nearest: &Nearest<'_>, mapping: Mapping) -> u32
-    requires { HasNearest image.now nearest.now }
-    ensures { result ≡ tolerance_of mapping.dither mapping.tolerance image.now.colors.now
-        image.now.pixels.now }
+pub fn tolerance_of(
+    alloc: Global,
+    image: &MappedImage<'_>,
+    nearest: &Nearest<'_>,
+    mapping: Mapping,
+) -> Result<u32, AllocError>
+    requires image { IsMappable image.now }
+    requires nearest { HasNearest image.now nearest.now }
+    ensures { IfOk result (λ tolerance. tolerance ≡ tolerance_of mapping.dither mapping.tolerance
+        image.now.colors.now image.now.pixels.now) }
 {
-    match mapping.tolerance {
+    let squared = match mapping.tolerance {
         Tolerance::Squared(squared) => squared,
         Tolerance::Auto => {
-            let error = palette_error(image, nearest);
+            let error = measured_error(alloc, image, nearest, mapping.dither)?;
             if error.sum == 0 {
                 0
             } else if mapping.dither == Dither::Off {
@@ -38,7 +49,32 @@ pub fn tolerance_of(image: &MappedImage<'_>, nearest: &Nearest<'_>, mapping: Map
                 error.mean().max(12)
             }
         }
+    };
+    Ok(squared)
+}
+
+/// Returns the error of the palette, in undithered grays that of the brightness.
+fn measured_error(
+    alloc: Global,
+    image: &MappedImage<'_>,
+    nearest: &Nearest<'_>,
+    dither: Dither,
+) -> Result<PaletteError, AllocError>
+    requires image { IsMappable image.now }
+    requires nearest { HasNearest image.now nearest.now }
+    ensures { IfOk result (IsErrorOf image.now.colors.now
+        (measured_pixels dither image.now.colors.now image.now.pixels.now)) }
+{
+    if dither != Dither::Off || !are_gray(image.colors) {
+        return Ok(palette_error(image, nearest));
     }
+    let grays = gray_pixels(alloc, image.pixels)?;
+    let nearest = nearest_indices(alloc, &grays, image.colors)?;
+    let image = MappedImage {
+        pixels: &grays,
+        ..*image
+    };
+    Ok(palette_error(&image, &Nearest::Found(nearest)))
 }
 
 /// Returns the amplitude for the palette of an image.

@@ -21,7 +21,7 @@ returns-in-Diffusion c =
     let pixels = image.pixels.now in
     let colors = image.colors.now in
     let auto : c.args.mapping.tolerance ≡ Auto = grind arith in
-    let exact = sym c.tolerance_of-tolerance.ensures ∙ c.if-tolerance-eq0.true in
+    let exact = sym c.in_ok-tolerance.ensures ∙ c.if-tolerance-eq0.true in
     let m = mapped_of c.args.mapping image.width pixels colors in
     let three = c.channel_bytes.ensures.three in
     let rows : AreRows m = grind (arith, nat_tests) in
@@ -29,7 +29,10 @@ returns-in-Diffusion c =
     subst (λ (d : Dither). AreMapped m (target_of d m indices.items) indices.items)
     (sym c.in-Diffusion.is) (AreMapped-diffused m indices.items rows
     (record { three = three; bytes = c.channel_bytes.ensures.bytes })
-    (held-none colors pixels three (error-none colors pixels c.args.mapping auto exact)) exact are))
+    (held-none colors pixels three (error-none colors pixels c.in-Diffusion.strength (grind (
+      arith,
+      nat_tests,
+    )))) exact are))
     c.indices-in-Diffusion.ensures
 
 pub returns-in-Diffusion-2 : goal.returns-in-Diffusion-2

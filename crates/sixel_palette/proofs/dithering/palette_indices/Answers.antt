@@ -42,15 +42,16 @@ returns-clause-exact c = λ strength is none held.
     let s = source_pixels dither colors pixels in
     let of = IsSource-pixels dither colors pixels in
     let m = mapped_of c.args.mapping c.args.width s colors in
-    let own = mapped_of c.args.mapping c.args.width pixels colors in
+    let plain = mapped_of c.args.mapping c.args.width pixels colors in
     let indices = c.in_ok-dithered_indices.field-0.items in
-    let rows = rows-of c own refl refl refl in
+    let rows = rows-of c plain refl refl refl in
     let same : (pixel : ℕ) → pixel < length pixels / 4 → IsOpaque pixels pixel
     → color_at s pixel ≡ color_at pixels pixel =
     λ pixel l light. grind (arith, nat_tests, chosen-own) in
     let kept : AreHeld m = λ pixel l light. grind (arith, nat_tests) in
+    let own = tolerance-held strength colors s kept in
     let exact : tolerance_of dither c.args.mapping.tolerance colors s ≡ 0 =
-    grind (arith, nat_tests, colors, s, tolerance-held, kept) in
+    grind (arith, is, none, own) in
     let three : All (λ p. length p ≡ 3) colors =
     λ k e l. grind (arith, nat_tests, get_or_default, colors) in
     AreIndices-source pixels s colors indices of same
