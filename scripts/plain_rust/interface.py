@@ -7,7 +7,7 @@ SIZES = {"uint8_t": 1, "uint16_t": 2, "uint32_t": 4, "uint64_t": 8, "size_t": 8}
 STRUCT = re.compile(r"^typedef struct \{\n(.*?)^\} (icysixel\w*);", re.M | re.S)
 MEMBER = re.compile(r"^    (\w+) (\*?)\w+(?:\[(\d+)\])?;", re.M)
 # The structs of the header whose names differ by more than a prefix.
-NAMES = {"Slot": "icysixel", "Handle": "void *", "BufferLayout": "icysixel_layout"}
+NAMES = {"Handle": "icysixel", "StatePointer": "void *"}
 REFERENCE = re.compile(r"& (mut )?(?:\[ (.+) \]|(\w+))")
 
 

@@ -1,4 +1,4 @@
--- A handle and its parts own what a box of the state owns.
+-- A pointer and its parts own what a box of the state owns.
 use Rattle.icysixel.proofs.Steps
 use Steps.{◌≡◌, true, [], Option, Some, arith, nat_tests, impl, tnil, dnil, Slot, plain}
 use Rattle.std.specs.Prelude.{is_some}
@@ -9,8 +9,8 @@ use Rattle.std_heap.specs.contracts.GlobalAllocator.TheImpl.{ghosts, dict}
 use Rattle.std_heap.proofs.Global.TheLaws as heap
 use Rattle.icysixel.specs.contracts.state.State as State
 use Rattle.icysixel.proofs.state.State.TheLaws as state
-use Rattle.icysixel.specs.contracts.handle.parts.Parts as Parts
-use Rattle.icysixel.specs.contracts.handle.Handle as Handle
+use Rattle.icysixel.specs.contracts.state_pointer.box_parts.BoxParts as BoxParts
+use Rattle.icysixel.specs.contracts.state_pointer.StatePointer as StatePointer
 
 -- the allocator that an export has
 abbrev pub al : Al
@@ -26,15 +26,15 @@ abbrev pub E : Bx
 E = record { row = State.the_row; laws = state.the_row_laws; al = al }
 
 abbrev pub FromParts : Slot 0
-FromParts = plain (λ _. Parts.the_row State.the_row Heap.the_row ghosts)
+FromParts = plain (λ _. BoxParts.the_row State.the_row Heap.the_row ghosts)
 
-abbrev pub FromHandle : Slot 0
-FromHandle = plain (λ _. Handle.the_row)
+abbrev pub FromPointer : Slot 0
+FromPointer = plain (λ _. StatePointer.the_row)
 
 abbrev pub FromHeap : Slot 0
 FromHeap = plain (λ _. Heap.the_row)
 
--- the state that a handle has
+-- the state that a pointer has
 pub some_of : (o : Option State.the_row.Denot) → is_some o ≡ true
     → (x : State.the_row.Denot) × (o ≡ Some x)
 some_of o held = grind (arith, nat_tests)

@@ -12,7 +12,7 @@ use Rattle.sixel_decoder.specs.declared.received.Received.{Received}
 use Rattle.icysixel.specs.Changes.{AreKept}
 use Rattle.icysixel.specs.Code.{IsCodeOf, status_code, status_byte}
 use Rattle.icysixel.specs.declared.state.State.{State}
-use Rattle.icysixel.specs.declared.sessions.Fed.{Fed}
+use Rattle.icysixel.specs.declared.stream.Fed.{Fed}
 
 -- what C receives of a feed
 abbrev pub fed_of : Received → Fed

@@ -2,15 +2,15 @@ pub mod Blocks
 pub mod Changes
 pub mod Code
 pub mod Colors
+pub mod Descriptions
 pub mod Encodings
 pub mod Feed
-pub mod RowMemory
 pub mod Finish
 pub mod Formats
 pub mod Heights
 pub mod RefinedOutput
+pub mod RowCopies
 pub mod Rows
 pub mod Shape
 pub mod Version
-pub mod Words
 pub mod inside

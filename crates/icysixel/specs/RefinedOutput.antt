@@ -3,7 +3,7 @@ use Rattle.std.specs.Prelude.{◌≡◌, ℕ, ◌/◌, min, List, length, drop, 
 use Rattle.sixel_palette.specs.Refined.{IsRefined}
 use Rattle.sixel_palette.specs.declared.palette.refined.RefinedPalette.{RefinedPalette}
 use Rattle.icysixel.specs.Colors.{first_colors}
-use Rattle.icysixel.specs.declared.refined.Refined.{Refined}
+use Rattle.icysixel.specs.declared.refine_palette.Refined.{Refined}
 use Rattle.icysixel.specs.declared.registers.Color.{Color}
 
 -- the buffers begin with a refined palette of the pixels and their indices

@@ -1,5 +1,5 @@
 -- Definitions that private contracts cite.
 pub mod Bytes
-pub mod Encoded
-pub mod Handle
 pub mod Lending
+pub mod SourceLayout
+pub mod StatePointer

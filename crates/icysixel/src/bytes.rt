@@ -1,16 +1,17 @@
-//! A block of memory that the library transfers to its caller.
+//! A block of memory that the library transfers to its caller: `icysixel_bytes` of the header.
 
 ghost use Rattle.std.specs.Prelude.{◌≡◌, ◌≤◌, ℕ, List, [], length};
 ghost use Rattle.std.specs.Mem.{manually_drop_value};
 ghost use Rattle.icysixel.specs.Blocks.{IsNoBlock};
 ghost use Rattle.icysixel.specs.inside.Bytes.{bytes_own};
 
-mod measured;
+mod vec_parts;
 
-use measured::Measured;
 use std::alloc::{Allocator, Global};
 use std::marker::Model;
+use std::mem;
 use std::ptr::null_mut;
+use vec_parts::VecParts;
 
 /// A block with its length and capacity, and the ownership of it.
 ///
@@ -52,19 +53,19 @@ impl Bytes {
         if bytes.is_empty() {
             return Bytes::none(alloc);
         }
-        Bytes::of_measured(Measured::of(alloc, bytes))
+        Bytes::of_parts(VecParts::of(alloc, bytes))
     }
 
-    fn of_measured(measured: Measured) -> Bytes
-        ensures { result.items ≡ (manually_drop_value measured.bytes).items }
+    fn of_parts(parts: VecParts) -> Bytes
+        ensures { result.items ≡ (manually_drop_value parts.bytes).items }
     {
-        let Measured {
+        let VecParts {
             at,
             len,
             capacity,
             alloc,
             bytes: _,
-        } = measured;
+        } = parts;
         Bytes {
             at,
             len,
@@ -85,4 +86,14 @@ impl Bytes {
             unsafe { alloc.deallocate(at, capacity, 1) };
         }
     }
+}
+
+/// Frees a block that was transferred, if there is one.
+#[unsafe(no_mangle)]
+pub extern "C" fn icysixel_free_bytes(alloc: Global, bytes: &mut Bytes)
+    ensures bytes { bytes.new.items ≡ [] }
+    ensures none { IsNoBlock bytes.new.at bytes.new.len bytes.new.capacity }
+{
+    let none = Bytes::none(alloc);
+    mem::replace(bytes, none).free(&alloc);
 }

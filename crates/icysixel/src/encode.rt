@@ -15,12 +15,13 @@ ghost use Rattle.icysixel.specs.Encodings.{has_options, row_stride, rows_fault};
 ghost use Rattle.icysixel.specs.Formats.{is_rgba, rgba_pixels};
 ghost use Rattle.icysixel.specs.Rows.{extent};
 ghost use Rattle.icysixel.specs.declared.encoding.PaletteMode.TheVariants.{Indexed};
-ghost use Rattle.icysixel.specs.inside.Encoded.{rows_layout};
+ghost use Rattle.icysixel.specs.inside.SourceLayout.{source_layout};
 
 use crate::bytes::Bytes;
 use crate::code::{Code, code_of};
 use crate::encoding::{Encoding, PaletteMode};
-use crate::rows::{Layout, stride_of};
+use crate::layout::stride_of;
+use crate::source_layout::SourceLayout;
 use icy_sixel::{SixelError, validate_encode_dimensions};
 use sixel_encoder::{
     Source, encode_in_palette, encode_refined, encode_source, encode_with_indices,
@@ -66,7 +67,7 @@ impl Encoding {
     }
 
     /// The layout of the rows in this number of bytes, or the code of the error.
-    fn layout(&self, bytes: usize) -> Result<Layout, u32>
+    fn layout(&self, bytes: usize) -> Result<SourceLayout, u32>
         ensures sizes { (fault : SixelError)
             → encode_fault self.now.width self.now.height ≡ Some fault
             → IsErrAnd result (λ code. IsCodeOf code fault) }
@@ -78,10 +79,10 @@ impl Encoding {
             → bytes_of self.now ≡ Some size → bytes < size → result ≡ Err 11 }
         ensures enough { (size : ℕ) → encode_fault self.now.width self.now.height ≡ None
             → bytes_of self.now ≡ Some size → size ≤ bytes
-            → result ≡ Ok (rows_layout self.now) }
+            → result ≡ Ok (source_layout self.now) }
         ensures refused { IfErr result (λ code. code ≢ 0) }
         ensures sized { OnOk result (encode_fault self.now.width self.now.height ≡ None) }
-        ensures found { IfOk result (λ found. found ≡ rows_layout self.now) }
+        ensures found { IfOk result (λ found. found ≡ source_layout self.now) }
         ensures wide { OnOk result (row_len self.now ≤ row_stride self.now) }
         ensures within { OnOk result
             (extent (row_stride self.now) (row_len self.now) self.now.height ≤ bytes) }
@@ -90,7 +91,7 @@ impl Encoding {
             return Err(code_of(&error));
         }
         let row_len = self.pixel_format().pixel_len() * self.width;
-        let layout = Layout {
+        let layout = SourceLayout {
             stride: stride_of(self.stride, row_len),
             row_len,
             height: self.height,
@@ -104,9 +105,14 @@ impl Encoding {
     }
 
     /// The SIXEL output of pixels in this layout, or the code of the error.
-    fn text_in_layout(&self, alloc: Global, layout: Layout, pixels: &[u8]) -> Result<String, u32>
+    fn text_in_layout(
+        &self,
+        alloc: Global,
+        layout: SourceLayout,
+        pixels: &[u8],
+    ) -> Result<String, u32>
         requires sizes { encode_fault self.now.width self.now.height ≡ None }
-        requires layout { layout ≡ rows_layout self.now }
+        requires layout { layout ≡ source_layout self.now }
         requires wide { row_len self.now ≤ row_stride self.now }
         requires within { extent (row_stride self.now) (row_len self.now) self.now.height
             ≤ length pixels.now }

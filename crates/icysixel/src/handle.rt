@@ -1,81 +1,109 @@
-//! A pointer to a state that C stores, or none.
+//! A handle, an `icysixel` of the header, and the calls that create and free its decoder.
 
-ghost use Rattle.std.specs.Prelude.{◌≡◌, Option, Some, None, is_some, true, IfOk};
+ghost use Rattle.std.specs.Prelude.{◌≡◌, ◌≢◌, Option, Some, None, is_some, nat_lt, IfSome};
+ghost use Rattle.std.specs.Prelude.{true, cond};
+ghost use Rattle.sixel_base.specs.Decoder.{new_decoder};
+ghost use Rattle.icy_sixel.specs.Receiver.{idle};
+ghost use Rattle.icy_sixel.specs.declared.receiver.received_image.Height.TheVariants.{Bands};
 ghost use Rattle.icysixel.specs.declared.state.State.{State};
-ghost use Rattle.icysixel.specs.inside.Handle.{state_coded, handle_owns};
 
-mod parts;
-
+use crate::code::Code;
 use crate::state::State;
-use parts::Parts;
+use crate::state_pointer::StatePointer;
 use std::alloc::Global;
-use std::marker::Model;
-use std::ptr::null_mut;
+use std::mem;
 
-/// A pointer to a state and the ownership of it, or a pointer without meaning.
+/// A state, or none.
 #[repr(C)]
 #[derive(Drop)]
 pub struct Handle {
-    at: *mut u8,
-    alloc: Global,
-    pub ghost state: { Option State } by { state_coded },
-}
-
-impl Model for Handle {
-    ghost also_owns = { λ h. handle_owns h.alloc h.at h.state };
+    held: u8,
+    pointer: StatePointer,
+    ghost agrees: { is_some pointer.state ≡ nat_lt 0 held },
 }
 
 impl Handle {
     ghost use Rattle.std.specs.Borrow.{sem};
-    ghost use Rattle.icysixel.specs.inside.Lending.{LendsState};
+    ghost use Rattle.icysixel.specs.inside.Lending.{LendsHeld};
 
-    /// A handle without a state.
-    pub fn none(alloc: Global) -> Handle
-        ensures { result.state ≡ None }
+    /// Takes the state out, if there is one, and leaves an empty handle.
+    pub fn take(&mut self, alloc: Global) -> Option<Box<State>>
+        ensures empty { self.new.pointer.state ≡ None }
+        ensures some { IfSome result (λ state. self.old.pointer.state ≡ Some state.value) }
+        ensures none { result ≡ None → self.old.pointer.state ≡ None }
     {
-        let at = null_mut();
-        Handle { at, alloc }
+        if self.held == 0 {
+            return None;
+        }
+        let none = Handle {
+            held: 0,
+            pointer: StatePointer::none(alloc),
+        };
+        let Handle { held: _, pointer } = mem::replace(self, none);
+        Some(pointer.into_box())
     }
 
-    /// A handle of the state in a box.
-    pub fn of(state: Box<State>) -> Handle
-        ensures { result.state ≡ Some state.value }
+    /// Whether there is a state.
+    pub fn is_held(&self) -> bool
+        ensures { result ≡ is_some self.now.pointer.state }
     {
-        Handle::of_parts(Parts::of(state))
+        self.held != 0
     }
 
-    /// The state of the handle, in a box.
-    pub fn into_box(self) -> Box<State>
-        requires { is_some self.state ≡ true }
-        ensures { self.state ≡ Some result.value }
+    /// Lends the state.
+    pub fn state(&mut self) -> &mut State
+        requires { is_some self.old.pointer.state ≡ true }
+        ensures* writes_back { sem 𝓛 (LendsHeld self.entry result) }
+        ensures value { self.old.pointer.state ≡ Some result.now }
     {
-        self.into_parts().into_box()
+        self.pointer.lend()
     }
 
-    /// Lends the state of the handle.
-    pub fn lend(&mut self) -> &mut State
-        requires { is_some self.old.state ≡ true }
-        ensures* writes_back { sem 𝓛 (LendsState self.entry result) }
-        ensures value { self.old.state ≡ Some result.now }
+    /// Stores a state.
+    pub fn put(&mut self, state: Box<State>)
+        ensures { self.new.pointer.state ≡ Some state.value }
     {
-        let at = self.at as *mut State;
-        unsafe { &mut *at }
+        *self = Handle {
+            held: 1,
+            pointer: StatePointer::of(state),
+        };
     }
+}
 
-    fn of_parts(parts: Parts<State, Global>) -> Handle
-        ensures { result.state ≡ Some parts.value }
-    {
-        let Parts { ptr, alloc } = parts;
-        let at = ptr as *mut u8;
-        Handle { at, alloc }
-    }
+/// Creates a decoder, and frees the one before.
+#[unsafe(no_mangle)]
+pub extern "C" fn icysixel_new(alloc: Global, handle: &mut Handle) -> u32
+    ensures codes { result ≢ 0 → result ≡ 8 }
+    ensures held { result ≡ 0 → is_some handle.new.pointer.state ≡ true }
+    ensures made { (state : State) → handle.new.pointer.state ≡ Some state
+        → state.receiver ≡ idle new_decoder }
+    ensures no_image { (state : State) → handle.new.pointer.state ≡ Some state
+        → state.image ≡ None }
+    ensures height { (state : State) → handle.new.pointer.state ≡ Some state
+        → state.height ≡ Bands }
+    ensures refused { result ≢ 0 → handle.new.pointer.state ≡ None }
+{
+    icysixel_free(alloc, handle);
+    let Some(state) = Box::new(alloc, State::new()).ok() else {
+        return Code::OutOfMemory as u32;
+    };
+    handle.put(state);
+    Code::Success as u32
+}
 
-    fn into_parts(self) -> Parts<State, Global>
-        requires { is_some self.state ≡ true }
-        ensures { self.state ≡ Some result.value }
-    {
-        let Handle { at, alloc } = self;
-        let ptr = at as *mut State;
-        Parts { ptr, alloc }
-    }
+/// Frees the decoder and all that it stores.
+#[unsafe(no_mangle)]
+pub extern "C" fn icysixel_free(alloc: Global, handle: &mut Handle)
+    ensures { handle.new.pointer.state ≡ None }
+{
+    let _freed = handle.take(alloc);
+}
+
+/// Returns 1 if the handle is empty, and 0 if it has a decoder.
+#[unsafe(no_mangle)]
+pub extern "C" fn icysixel_is_empty(handle: &mut Handle) -> u8
+    ensures same { handle.new.pointer.state ≡ handle.old.pointer.state }
+    ensures value { result ≡ cond (is_some handle.old.pointer.state) 0 1 }
+{
+    u8::from(!handle.is_held())
 }

@@ -5,7 +5,7 @@ ghost use Rattle.icy_sixel.specs.Receiver.{drawn_height, in_payload, is_open, si
 ghost use Rattle.icysixel.specs.declared.state.State.{State};
 
 use crate::code::Code;
-use crate::slot::Slot;
+use crate::handle::Handle;
 
 /// A size in pixels.
 #[repr(C)]
@@ -17,78 +17,78 @@ pub struct Size {
 
 /// Returns 1 if an image is open, and 0 if not.
 #[unsafe(no_mangle)]
-pub extern "C" fn icysixel_is_receiving(slot: &mut Slot) -> u8
-    ensures same { slot.new.handle.state ≡ slot.old.handle.state }
-    ensures none { slot.old.handle.state ≡ None → result ≡ 0 }
-    ensures value { (state : State) → slot.old.handle.state ≡ Some state
+pub extern "C" fn icysixel_is_receiving(handle: &mut Handle) -> u8
+    ensures same { handle.new.pointer.state ≡ handle.old.pointer.state }
+    ensures none { handle.old.pointer.state ≡ None → result ≡ 0 }
+    ensures value { (state : State) → handle.old.pointer.state ≡ Some state
         → result ≡ cond (is_open state.receiver.image.form) 1 0 }
 {
-    if !slot.is_held() {
+    if !handle.is_held() {
         return 0;
     }
-    u8::from(slot.state().receiver.is_receiving())
+    u8::from(handle.state().receiver.is_receiving())
 }
 
 /// Returns 1 if the payload of the open image has begun and no feed has failed.
 #[unsafe(no_mangle)]
-pub extern "C" fn icysixel_in_payload(slot: &mut Slot) -> u8
-    ensures same { slot.new.handle.state ≡ slot.old.handle.state }
-    ensures none { slot.old.handle.state ≡ None → result ≡ 0 }
-    ensures accepted { (state : State) → slot.old.handle.state ≡ Some state
+pub extern "C" fn icysixel_in_payload(handle: &mut Handle) -> u8
+    ensures same { handle.new.pointer.state ≡ handle.old.pointer.state }
+    ensures none { handle.old.pointer.state ≡ None → result ≡ 0 }
+    ensures accepted { (state : State) → handle.old.pointer.state ≡ Some state
         → state.receiver.image.is_refused ≡ false
         → result ≡ cond (in_payload state.receiver.image.form state.receiver.image.bytes) 1 0 }
-    ensures refused { (state : State) → slot.old.handle.state ≡ Some state
+    ensures refused { (state : State) → handle.old.pointer.state ≡ Some state
         → state.receiver.image.is_refused ≡ true → result ≡ 0 }
 {
-    if !slot.is_held() {
+    if !handle.is_held() {
         return 0;
     }
-    u8::from(slot.state().receiver.in_payload())
+    u8::from(handle.state().receiver.in_payload())
 }
 
 /// Returns the last row of the open image with a set pixel, plus one, or 0.
 #[unsafe(no_mangle)]
-pub extern "C" fn icysixel_get_drawn_height(slot: &mut Slot) -> usize
-    ensures same { slot.new.handle.state ≡ slot.old.handle.state }
-    ensures none { slot.old.handle.state ≡ None → result ≡ 0 }
-    ensures accepted { (state : State) → slot.old.handle.state ≡ Some state
+pub extern "C" fn icysixel_get_drawn_height(handle: &mut Handle) -> usize
+    ensures same { handle.new.pointer.state ≡ handle.old.pointer.state }
+    ensures none { handle.old.pointer.state ≡ None → result ≡ 0 }
+    ensures accepted { (state : State) → handle.old.pointer.state ≡ Some state
         → state.receiver.image.is_refused ≡ false
         → result ≡ drawn_height state.receiver.image.start.pixel_limit
         state.receiver.image.form state.receiver.image.bytes }
-    ensures refused { (state : State) → slot.old.handle.state ≡ Some state
+    ensures refused { (state : State) → handle.old.pointer.state ≡ Some state
         → state.receiver.image.is_refused ≡ true → result ≡ 0 }
 {
-    if !slot.is_held() {
+    if !handle.is_held() {
         return 0;
     }
-    slot.state().receiver.drawn_height()
+    handle.state().receiver.drawn_height()
 }
 
 /// Writes the size of the open image so far.
 #[unsafe(no_mangle)]
-pub extern "C" fn icysixel_get_size_so_far(slot: &mut Slot, size: &mut Size) -> u32
-    ensures same { slot.new.handle.state ≡ slot.old.handle.state }
-    ensures none { slot.old.handle.state ≡ None → result ≡ 1 }
-    ensures closed { (state : State) → slot.old.handle.state ≡ Some state
+pub extern "C" fn icysixel_get_size_so_far(handle: &mut Handle, size: &mut Size) -> u32
+    ensures same { handle.new.pointer.state ≡ handle.old.pointer.state }
+    ensures none { handle.old.pointer.state ≡ None → result ≡ 1 }
+    ensures closed { (state : State) → handle.old.pointer.state ≡ Some state
         → is_open state.receiver.image.form ≡ false → result ≡ 2 }
-    ensures refused { (state : State) → slot.old.handle.state ≡ Some state
+    ensures refused { (state : State) → handle.old.pointer.state ≡ Some state
         → is_open state.receiver.image.form ≡ true → state.receiver.image.is_refused ≡ true
         → result ≡ 3 }
-    ensures no_size { (state : State) → slot.old.handle.state ≡ Some state
+    ensures no_size { (state : State) → handle.old.pointer.state ≡ Some state
         → is_open state.receiver.image.form ≡ true → state.receiver.image.is_refused ≡ false
         → size_of state.receiver.image.start.pixel_limit
         state.receiver.image.form state.receiver.image.bytes ≡ None → result ≡ 3 }
-    ensures size { (state : State) (width height : ℕ) → slot.old.handle.state ≡ Some state
+    ensures size { (state : State) (width height : ℕ) → handle.old.pointer.state ≡ Some state
         → is_open state.receiver.image.form ≡ true → state.receiver.image.is_refused ≡ false
         → size_of state.receiver.image.start.pixel_limit
         state.receiver.image.form state.receiver.image.bytes ≡ Some (width, height)
         → (result ≡ 0) × (size.new ≡ record { width = width; height = height }) }
     ensures told { result ≢ 0 → size.new ≡ size.old }
 {
-    if !slot.is_held() {
+    if !handle.is_held() {
         return Code::NoHandle as u32;
     }
-    let receiver = &slot.state().receiver;
+    let receiver = &handle.state().receiver;
     if !receiver.is_receiving() {
         return Code::NoSession as u32;
     }

@@ -8,7 +8,7 @@ ghost use Rattle.icysixel.specs.Changes.{IsSet};
 ghost use Rattle.icysixel.specs.declared.state.State.{State};
 
 use crate::code::Code;
-use crate::slot::Slot;
+use crate::handle::Handle;
 
 /// A color, one byte for each channel.
 #[repr(C)]
@@ -31,50 +31,60 @@ impl Color {
 
 /// Writes the color of a register of the decoder.
 #[unsafe(no_mangle)]
-pub extern "C" fn icysixel_get_register(slot: &mut Slot, register: u8, color: &mut Color) -> u32
-    ensures same { slot.new.handle.state ≡ slot.old.handle.state }
-    ensures none { slot.old.handle.state ≡ None → result ≡ 1 }
-    ensures done { is_some slot.old.handle.state ≡ true → result ≡ 0 }
-    ensures color { (state : State) → slot.old.handle.state ≡ Some state
+pub extern "C" fn icysixel_get_register(handle: &mut Handle, register: u8, color: &mut Color) -> u32
+    ensures same { handle.new.pointer.state ≡ handle.old.pointer.state }
+    ensures none { handle.old.pointer.state ≡ None → result ≡ 1 }
+    ensures done { is_some handle.old.pointer.state ≡ true → result ≡ 0 }
+    ensures color { (state : State) → handle.old.pointer.state ≡ Some state
         → slice_index_or state.receiver.decoder.registers register []
         ≡ color.new.red ∷ color.new.green ∷ color.new.blue ∷ [] }
     ensures told { result ≢ 0 → color.new ≡ color.old }
 {
-    if !slot.is_held() {
+    if !handle.is_held() {
         return Code::NoHandle as u32;
     }
-    *color = Color::of(slot.state().receiver.decoder().register(register));
+    *color = Color::of(handle.state().receiver.decoder().register(register));
     Code::Success as u32
 }
 
 /// Sets the color of a register of the decoder.
 #[unsafe(no_mangle)]
-pub extern "C" fn icysixel_set_register(slot: &mut Slot, register: u8, red: u8, green: u8, blue: u8)
+pub extern "C" fn icysixel_set_register(
+    handle: &mut Handle,
+    register: u8,
+    red: u8,
+    green: u8,
+    blue: u8,
+)
     ensures { IsSet (λ decoder. record decoder {
       registers = slice_set decoder.registers register (red ∷ green ∷ blue ∷ []);
     })
-        slot.old.handle.state slot.new.handle.state }
+        handle.old.pointer.state handle.new.pointer.state }
 {
-    if slot.is_held() {
-        let decoder = slot.state().receiver.decoder_mut();
+    if handle.is_held() {
+        let decoder = handle.state().receiver.decoder_mut();
         decoder.set_register(register, [red, green, blue]);
     }
 }
 
 /// Writes the colors of the decoder's registers from `first` on, as far as both go.
 #[unsafe(no_mangle)]
-pub extern "C" fn icysixel_get_registers(slot: &mut Slot, first: u8, colors: &mut [[u8; 3]]) -> u32
-    ensures same { slot.new.handle.state ≡ slot.old.handle.state }
-    ensures none { slot.old.handle.state ≡ None → result ≡ 1 }
-    ensures done { is_some slot.old.handle.state ≡ true → result ≡ 0 }
-    ensures colors { (state : State) → slot.old.handle.state ≡ Some state
+pub extern "C" fn icysixel_get_registers(
+    handle: &mut Handle,
+    first: u8,
+    colors: &mut [[u8; 3]],
+) -> u32
+    ensures same { handle.new.pointer.state ≡ handle.old.pointer.state }
+    ensures none { handle.old.pointer.state ≡ None → result ≡ 1 }
+    ensures done { is_some handle.old.pointer.state ≡ true → result ≡ 0 }
+    ensures colors { (state : State) → handle.old.pointer.state ≡ Some state
         → colors.new ≡ with_colors colors.old 0 (drop first state.receiver.decoder.registers) }
     ensures told { result ≢ 0 → colors.new ≡ colors.old }
 {
-    if !slot.is_held() {
+    if !handle.is_held() {
         return Code::NoHandle as u32;
     }
-    let registers = slot.state().receiver.decoder().registers();
+    let registers = handle.state().receiver.decoder().registers();
     copy_colors(colors, registers.split_at(usize::from(first)).1);
     Code::Success as u32
 }
@@ -90,14 +100,15 @@ fn copy_colors(buf: &mut [[u8; 3]], colors: &[[u8; 3]])
 
 /// Sets the colors of the decoder's registers from `first` on.
 #[unsafe(no_mangle)]
-pub extern "C" fn icysixel_set_registers(slot: &mut Slot, first: u8, colors: &[[u8; 3]])
+pub extern "C" fn icysixel_set_registers(handle: &mut Handle, first: u8, colors: &[[u8; 3]])
     ensures { IsSet (λ decoder. record decoder {
       registers = with_colors decoder.registers first colors.now;
     })
-        slot.old.handle.state slot.new.handle.state }
+        handle.old.pointer.state handle.new.pointer.state }
 {
-    if slot.is_held() {
-        slot.state()
+    if handle.is_held() {
+        handle
+            .state()
             .receiver
             .decoder_mut()
             .set_registers(first, colors);
@@ -106,11 +117,11 @@ pub extern "C" fn icysixel_set_registers(slot: &mut Slot, first: u8, colors: &[[
 
 /// Resets the decoder's registers to those of a new one.
 #[unsafe(no_mangle)]
-pub extern "C" fn icysixel_reset_registers(slot: &mut Slot)
+pub extern "C" fn icysixel_reset_registers(handle: &mut Handle)
     ensures { IsSet (λ decoder. record decoder { registers = default_registers })
-        slot.old.handle.state slot.new.handle.state }
+        handle.old.pointer.state handle.new.pointer.state }
 {
-    if slot.is_held() {
-        slot.state().receiver.decoder_mut().reset_palette();
+    if handle.is_held() {
+        handle.state().receiver.decoder_mut().reset_palette();
     }
 }

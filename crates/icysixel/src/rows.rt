@@ -1,76 +1,99 @@
-//! Rows of an image in the caller's memory.
+//! The calls on final rows of the open image.
 
-ghost use Rattle.std.specs.Prelude.{◌≡◌, ◌+◌, ◌*◌, ◌≤◌, IfOk, length, slice_range};
-ghost use Rattle.icysixel.specs.Rows.{extent, rows_of, stride_of, wanted};
+ghost use Rattle.std.specs.Prelude.{◌≡◌, ◌≢◌, Some, None, is_some, true, false, length};
+ghost use Rattle.icy_sixel.specs.ReceivedRows.{rows_so_far};
+ghost use Rattle.icysixel.specs.RowCopies.{AreRowsCopied, AreRowsReleased, is_order, layout_of};
+ghost use Rattle.icysixel.specs.declared.state.State.{State};
 
-use std::alloc::{AllocError, Global};
+use crate::code::Code;
+use crate::handle::Handle;
+use crate::layout::{Layout, is_order, rows_code};
+use crate::state::State;
+use icy_sixel::RowLayout;
 
-/// How the rows of an image lie in the caller's memory.
-#[derive(Clone, Copy)]
-pub struct Layout {
-    /// The number of bytes from the start of a row to the start of the next.
-    pub stride: usize,
-    /// The number of bytes of a row.
-    pub row_len: usize,
-    /// The number of rows.
-    pub height: usize,
-}
-
-impl Layout {
-    /// The number of bytes of all rows with their gaps.
-    ///
-    /// `None` if a row is longer than the stride, or no `usize` holds the number.
-    pub fn byte_len(self) -> Option<usize>
-        ensures { result ≡ wanted self.stride self.row_len self.height }
-    {
-        if self.stride < self.row_len {
-            return None;
-        }
-        self.stride
-            .checked_mul(self.height.saturating_sub(1))
-            .and_then(|above| above.checked_add(self.row_len))
-    }
-
-    /// The rows, where the stride is the length of a row.
-    pub fn dense(self, bytes: &[u8]) -> &[u8]
-        requires dense { self.stride ≡ self.row_len }
-        requires within { extent self.stride self.row_len self.height ≤ length bytes.now }
-        ensures rows { result.now ≡ rows_of self.stride self.row_len self.height bytes.now }
-        ensures size { length result.now ≡ self.row_len * self.height }
-    {
-        &bytes[..self.row_len * self.height]
-    }
-
-    /// A copy of the rows without gaps.
-    #[tactic(auto, unfolding(sixel_base::specs::Picture::joined))]
-    pub fn gathered(self, alloc: Global, bytes: &[u8]) -> Result<Vec<u8>, AllocError>
-        requires stride { self.row_len ≤ self.stride }
-        requires within { extent self.stride self.row_len self.height ≤ length bytes.now }
-        ensures rows { IfOk result (λ rows.
-            rows.items ≡ rows_of self.stride self.row_len self.height bytes.now) }
-        ensures size { IfOk result (λ rows. length rows.items ≡ self.row_len * self.height) }
-    {
-        let mut rows = Vec::new(alloc);
-        for row in 0..self.height {
-            rows.extend_from_slice(self.row_of(bytes, row))?;
-        }
-        Ok(rows)
-    }
-
-    /// A row.
-    fn row_of(self, bytes: &[u8], row: usize) -> &[u8]
-        requires { row * self.stride + self.row_len ≤ length bytes.now }
-        ensures rows { result.now
-            ≡ slice_range bytes.now (row * self.stride) (row * self.stride + self.row_len) }
-    {
-        let start = row * self.stride;
-        &bytes[start..start + self.row_len]
-    }
-}
-
-/// The stride that C names: 0 stands for rows without gaps.
-pub fn stride_of(stride: usize, row_len: usize) -> usize
-    ensures { result ≡ stride_of stride row_len }
+/// Returns how many rows from the top of the open image are final, or 0.
+#[unsafe(no_mangle)]
+pub extern "C" fn icysixel_get_rows_so_far(handle: &mut Handle) -> usize
+    ensures same { handle.new.pointer.state ≡ handle.old.pointer.state }
+    ensures none { handle.old.pointer.state ≡ None → result ≡ 0 }
+    ensures value { (state : State) → handle.old.pointer.state ≡ Some state
+        → result ≡ rows_so_far state.receiver.image }
 {
-    if stride == 0 { row_len } else { stride }
+    if !handle.is_held() {
+        return 0;
+    }
+    handle.state().receiver.rows_so_far()
+}
+
+/// Copies final rows of the open image to the buffer.
+#[unsafe(no_mangle)]
+pub extern "C" fn icysixel_copy_rows(
+    handle: &mut Handle,
+    first: usize,
+    rows: usize,
+    layout: &Layout,
+    buf: &mut [u8],
+) -> u32
+    ensures same { handle.new.pointer.state ≡ handle.old.pointer.state }
+    ensures none { handle.old.pointer.state ≡ None → result ≡ 1 }
+    ensures option { is_some handle.old.pointer.state ≡ true → is_order layout.now.order ≡ false
+        → result ≡ 5 }
+    ensures copied { (state : State) → handle.old.pointer.state ≡ Some state
+        → is_order layout.now.order ≡ true
+        → AreRowsCopied state first rows layout.now buf.old buf.new result }
+    ensures untouched { result ≢ 0 → buf.new ≡ buf.old }
+{
+    if !handle.is_held() {
+        return Code::NoHandle as u32;
+    }
+    if !is_order(layout.order) {
+        return Code::BadOption as u32;
+    }
+    copy_rows(handle.state(), first, rows, layout, buf)
+}
+
+/// Copies final rows of the image, if one is open.
+fn copy_rows(state: &State, first: usize, rows: usize, layout: &Layout, buf: &mut [u8]) -> u32
+    ensures copied { AreRowsCopied state.now first rows layout.now buf.old buf.new result }
+    ensures untouched { result ≢ 0 → buf.new ≡ buf.old }
+{
+    if !state.receiver.is_receiving() {
+        return Code::NoSession as u32;
+    }
+    let (width, _) = state.receiver.size_so_far().unwrap_or((0, 0));
+    match state
+        .receiver
+        .copy_rows(first, rows, layout.row_layout(width), buf)
+    {
+        Ok(()) => Code::Success as u32,
+        Err(error) => rows_code(&error),
+    }
+}
+
+/// Releases the final rows above row `rows` of the open image.
+#[unsafe(no_mangle)]
+pub extern "C" fn icysixel_release_rows(handle: &mut Handle, rows: usize) -> u32
+    ensures held { is_some handle.new.pointer.state ≡ is_some handle.old.pointer.state }
+    ensures none { handle.old.pointer.state ≡ None → result ≡ 1 }
+    ensures released { (before after : State) → handle.old.pointer.state ≡ Some before
+        → handle.new.pointer.state ≡ Some after → AreRowsReleased before after rows result }
+{
+    if !handle.is_held() {
+        return Code::NoHandle as u32;
+    }
+    release_rows(handle.state(), rows)
+}
+
+/// Releases final rows of the image, if one is open.
+#[tactic(auto, using(std::proofs::lemmas::Bool::Decides::nat_tests))]
+fn release_rows(state: &mut State, rows: usize) -> u32
+    ensures { AreRowsReleased state.old state.new rows result }
+{
+    if !state.receiver.is_receiving() {
+        return Code::NoSession as u32;
+    }
+    match state.receiver.release_rows(rows) {
+        Ok(()) => Code::Success as u32,
+        Err(error) => rows_code(&error),
+    }
 }

@@ -1,15 +1,15 @@
 
 use crate::rattle::rattle_std::prelude::{*, format, vec};
 /// Draws.
-pub fn icysixel_draw(alloc: Global, slot: &mut Slot, bytes: &[u8], colors: &mut [[u8; 3]],
+pub fn icysixel_draw(alloc: Global, handle: &mut Handle, bytes: &[u8], colors: &mut [[u8; 3]],
     shape: &Shape, order: u8) -> u32 {
-    draw(alloc, slot, bytes[Proved(order as usize)])
+    draw(alloc, handle, bytes[Proved(order as usize)])
 }
 
 /// Calls [`icysixel_draw`] for C.
 #[unsafe(export_name = "icysixel_draw")]
-unsafe extern "C" fn icysixel_draw_for_c(slot: *mut Slot, bytes: *const u8, bytes_len: usize, colors: *mut [ u8 ; 3 ], colors_len: usize, shape: *const Shape, order: u8) -> u32 {
-    unsafe { icysixel_draw(Global, &mut *slot, crate::slice(bytes, bytes_len), crate::slice_mut(colors, colors_len), &*shape, order) }
+unsafe extern "C" fn icysixel_draw_for_c(handle: *mut Handle, bytes: *const u8, bytes_len: usize, colors: *mut [ u8 ; 3 ], colors_len: usize, shape: *const Shape, order: u8) -> u32 {
+    unsafe { icysixel_draw(Global, &mut *handle, crate::slice(bytes, bytes_len), crate::slice_mut(colors, colors_len), &*shape, order) }
 }
 
 pub fn icysixel_version() -> u32 {

@@ -20,14 +20,14 @@ const _: () = {
 
 /// The memory of a handle.
 #[repr(C)]
-pub struct Slot {
+pub struct Handle {
     held: u8,
-    handle: Handle,
+    pointer: StatePointer,
 }
 
 const _: () = {
-    assert!(size_of::<Slot>() == 16);
-    assert!(align_of::<Slot>() == 8);
-    assert!(core::mem::offset_of!(Slot, held) == 0);
-    assert!(core::mem::offset_of!(Slot, handle) == 8);
+    assert!(size_of::<Handle>() == 16);
+    assert!(align_of::<Handle>() == 8);
+    assert!(core::mem::offset_of!(Handle, held) == 0);
+    assert!(core::mem::offset_of!(Handle, pointer) == 8);
 };

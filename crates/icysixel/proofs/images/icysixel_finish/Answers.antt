@@ -1,5 +1,0 @@
-use Rattle.icysixel.proofs.MissingCommand.{finish_other}
-use Rattle.icysixel.proofs.images.icysixel_finish.Goals as goal
-
-pub returns-clause-commanded : goal.returns-clause-commanded
-returns-clause-commanded c = finish_other _ _ _ _ c.finish.ensures.finished

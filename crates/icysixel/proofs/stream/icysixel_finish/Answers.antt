@@ -1,0 +1,5 @@
+use Rattle.icysixel.proofs.MissingCommand.{finish_other}
+use Rattle.icysixel.proofs.stream.icysixel_finish.Goals as goal
+
+pub returns-clause-commanded : goal.returns-clause-commanded
+returns-clause-commanded c = finish_other _ _ _ _ c.finish.ensures.finished

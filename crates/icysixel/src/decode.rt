@@ -1,0 +1,87 @@
+//! The calls that decode in one call.
+
+ghost use Rattle.std.specs.Prelude.{◌≡◌, ◌≢◌, Some, None, is_some};
+ghost use Rattle.sixel_base.specs.OneShot.{Payload, found};
+ghost use Rattle.icysixel.specs.Code.{settings_of};
+ghost use Rattle.icysixel.specs.Finish.{IsDecoded};
+ghost use Rattle.icysixel.specs.declared.state.State.{State};
+
+use crate::code::Code;
+use crate::handle::Handle;
+use crate::shape::Shape;
+use crate::state::State;
+use crate::stream::dcs_settings;
+use icy_sixel::DcsSettings;
+use std::alloc::Global;
+
+/// Decodes the first DCS sequence in the bytes, or all of them as a payload.
+///
+/// It stores the image and writes its properties. An open image is aborted.
+#[unsafe(no_mangle)]
+pub extern "C" fn icysixel_decode(
+    alloc: Global,
+    handle: &mut Handle,
+    bytes: &[u8],
+    shape: &mut Shape,
+) -> u32
+    ensures held { is_some handle.new.pointer.state ≡ is_some handle.old.pointer.state }
+    ensures none { handle.old.pointer.state ≡ None → result ≡ 1 }
+    ensures decoded { (before after : State) → handle.old.pointer.state ≡ Some before
+        → handle.new.pointer.state ≡ Some after
+        → IsDecoded before after (found bytes.now) shape.new result }
+    ensures told { result ≢ 0 → shape.new ≡ shape.old }
+{
+    if !handle.is_held() {
+        return Code::NoHandle as u32;
+    }
+    decode(alloc, handle.state(), bytes, shape)
+}
+
+/// Decodes on the receiver of the state.
+#[tactic(auto, using(std::proofs::lemmas::Bool::Decides::nat_tests))]
+fn decode(alloc: Global, state: &mut State, bytes: &[u8], shape: &mut Shape) -> u32
+    ensures decoded { IsDecoded state.old state.new (found bytes.now) shape.new result }
+    ensures told { result ≢ 0 → shape.new ≡ shape.old }
+{
+    let answer = state.receiver.decode_drawn(alloc, bytes);
+    state.store(answer, true, shape)
+}
+
+/// Decodes one payload with these parameters, as [`icysixel_decode`] does.
+#[unsafe(no_mangle)]
+pub extern "C" fn icysixel_decode_payload(
+    alloc: Global,
+    handle: &mut Handle,
+    bytes: &[u8],
+    p1: i32,
+    p2: i32,
+    shape: &mut Shape,
+) -> u32
+    ensures held { is_some handle.new.pointer.state ≡ is_some handle.old.pointer.state }
+    ensures none { handle.old.pointer.state ≡ None → result ≡ 1 }
+    ensures decoded { (before after : State) → handle.old.pointer.state ≡ Some before
+        → handle.new.pointer.state ≡ Some after
+        → IsDecoded before after (Payload (settings_of p1 p2) bytes.now) shape.new result }
+    ensures told { result ≢ 0 → shape.new ≡ shape.old }
+{
+    if !handle.is_held() {
+        return Code::NoHandle as u32;
+    }
+    decode_payload(alloc, handle.state(), bytes, dcs_settings(p1, p2), shape)
+}
+
+/// Decodes a payload on the receiver of the state.
+#[tactic(auto, using(std::proofs::lemmas::Bool::Decides::nat_tests))]
+fn decode_payload(
+    alloc: Global,
+    state: &mut State,
+    bytes: &[u8],
+    settings: DcsSettings,
+    shape: &mut Shape,
+) -> u32
+    ensures decoded { IsDecoded state.old state.new (Payload settings bytes.now) shape.new result }
+    ensures told { result ≢ 0 → shape.new ≡ shape.old }
+{
+    let answer = state.receiver.decode_from_dcs_drawn(alloc, bytes, settings);
+    state.store(answer, true, shape)
+}

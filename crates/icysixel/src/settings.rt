@@ -1,0 +1,204 @@
+//! The calls that read and set the settings of a decoder.
+
+ghost use Rattle.std.specs.Prelude.{◌≡◌, ◌≢◌, ◌==◌, Some, None, is_some, true, false, not};
+ghost use Rattle.std.specs.Prelude.{cond};
+ghost use Rattle.sixel_base.specs.Decoder.{with_clip, with_pixel_limit};
+ghost use Rattle.icysixel.specs.Changes.{Acts, IsReceiverSet, IsSet};
+ghost use Rattle.icysixel.specs.Heights.{height_of, is_height, number_of};
+ghost use Rattle.icysixel.specs.declared.state.State.{State};
+
+use crate::code::Code;
+use crate::handle::Handle;
+use crate::progress::Size;
+use icy_sixel::Height;
+
+/// Returns where images end, as [`icysixel_set_height`] has it.
+#[unsafe(no_mangle)]
+pub extern "C" fn icysixel_get_height(handle: &mut Handle) -> u8
+    ensures same { handle.new.pointer.state ≡ handle.old.pointer.state }
+    ensures none { handle.old.pointer.state ≡ None → result ≡ 0 }
+    ensures value { (state : State) → handle.old.pointer.state ≡ Some state
+        → result ≡ number_of state.height }
+{
+    if !handle.is_held() {
+        return 0;
+    }
+    height_number(handle.state().height)
+}
+
+/// The number of a height.
+fn height_number(height: Height) -> u8
+    ensures { result ≡ number_of height }
+{
+    match height {
+        Height::Bands => 0,
+        Height::Raster => 1,
+        Height::Drawn => 2,
+    }
+}
+
+/// Sets where images end: 0 is the last band, 1 the raster height, 2 both heights.
+#[unsafe(no_mangle)]
+pub extern "C" fn icysixel_set_height(handle: &mut Handle, height: u8) -> u32
+    ensures none { handle.old.pointer.state ≡ None → result ≡ 1 }
+    ensures option { is_some handle.old.pointer.state ≡ true → is_height height ≡ false
+        → result ≡ 5 }
+    ensures set { is_height height ≡ true
+        → Acts (λ old new. new ≡ record old { height = height_of height })
+        handle.old.pointer.state handle.new.pointer.state }
+    ensures done { is_some handle.old.pointer.state ≡ true → is_height height ≡ true → result ≡ 0 }
+    ensures same { result ≢ 0 → handle.new.pointer.state ≡ handle.old.pointer.state }
+{
+    if !handle.is_held() {
+        return Code::NoHandle as u32;
+    }
+    let height = match height {
+        0 => Height::Bands,
+        1 => Height::Raster,
+        2 => Height::Drawn,
+        _ => return Code::BadOption as u32,
+    };
+    handle.state().height = height;
+    Code::Success as u32
+}
+
+/// Returns 1 if images are lenient, and 0 if not.
+#[unsafe(no_mangle)]
+pub extern "C" fn icysixel_get_lenient(handle: &mut Handle) -> u8
+    ensures same { handle.new.pointer.state ≡ handle.old.pointer.state }
+    ensures none { handle.old.pointer.state ≡ None → result ≡ 0 }
+    ensures value { (state : State) → handle.old.pointer.state ≡ Some state
+        → result ≡ cond state.receiver.lenient 1 0 }
+{
+    if !handle.is_held() {
+        return 0;
+    }
+    u8::from(handle.state().receiver.is_lenient())
+}
+
+/// Sets whether images are lenient: 0 is off, any other number is on.
+#[unsafe(no_mangle)]
+pub extern "C" fn icysixel_set_lenient(handle: &mut Handle, on: u8)
+    ensures { IsReceiverSet (λ receiver. record receiver { lenient = not (on == 0) })
+        handle.old.pointer.state handle.new.pointer.state }
+{
+    if handle.is_held() {
+        handle.state().receiver.set_lenient(on != 0);
+    }
+}
+
+/// Returns 1 if images have a transparent background whatever P2 says, and 0 if not.
+#[unsafe(no_mangle)]
+pub extern "C" fn icysixel_get_transparent(handle: &mut Handle) -> u8
+    ensures same { handle.new.pointer.state ≡ handle.old.pointer.state }
+    ensures none { handle.old.pointer.state ≡ None → result ≡ 0 }
+    ensures value { (state : State) → handle.old.pointer.state ≡ Some state
+        → result ≡ cond state.receiver.transparent 1 0 }
+{
+    if !handle.is_held() {
+        return 0;
+    }
+    u8::from(handle.state().receiver.is_transparent())
+}
+
+/// Sets whether images have a transparent background: 0 is off, any other number is on.
+#[unsafe(no_mangle)]
+pub extern "C" fn icysixel_set_transparent(handle: &mut Handle, on: u8)
+    ensures { IsReceiverSet (λ receiver. record receiver { transparent = not (on == 0) })
+        handle.old.pointer.state handle.new.pointer.state }
+{
+    if handle.is_held() {
+        handle.state().receiver.set_transparent(on != 0);
+    }
+}
+
+/// Returns the register in which an image draws until it selects one.
+#[unsafe(no_mangle)]
+pub extern "C" fn icysixel_get_first_register(handle: &mut Handle) -> u8
+    ensures same { handle.new.pointer.state ≡ handle.old.pointer.state }
+    ensures none { handle.old.pointer.state ≡ None → result ≡ 0 }
+    ensures value { (state : State) → handle.old.pointer.state ≡ Some state
+        → result ≡ state.receiver.first_register }
+{
+    if !handle.is_held() {
+        return 0;
+    }
+    handle.state().receiver.first_register()
+}
+
+/// Sets the register in which an image draws until it selects one.
+#[unsafe(no_mangle)]
+pub extern "C" fn icysixel_set_first_register(handle: &mut Handle, register: u8)
+    ensures { IsReceiverSet (λ receiver. record receiver { first_register = register })
+        handle.old.pointer.state handle.new.pointer.state }
+{
+    if handle.is_held() {
+        handle.state().receiver.set_first_register(register);
+    }
+}
+
+/// Returns how many pixels an image can have, or 0 if the handle is empty.
+#[unsafe(no_mangle)]
+pub extern "C" fn icysixel_get_limit(handle: &mut Handle) -> usize
+    ensures same { handle.new.pointer.state ≡ handle.old.pointer.state }
+    ensures none { handle.old.pointer.state ≡ None → result ≡ 0 }
+    ensures value { (state : State) → handle.old.pointer.state ≡ Some state
+        → result ≡ state.receiver.decoder.pixel_limit.pixels }
+{
+    if !handle.is_held() {
+        return 0;
+    }
+    handle.state().receiver.decoder().pixel_limit()
+}
+
+/// Sets how many pixels an image can have: at least 1, and at most 67,108,864.
+#[unsafe(no_mangle)]
+pub extern "C" fn icysixel_set_limit(handle: &mut Handle, pixels: usize)
+    ensures { IsSet (λ decoder. with_pixel_limit decoder pixels)
+        handle.old.pointer.state handle.new.pointer.state }
+{
+    if handle.is_held() {
+        handle
+            .state()
+            .receiver
+            .decoder_mut()
+            .set_pixel_limit(pixels);
+    }
+}
+
+/// Writes how many columns from the left and rows from the top an image can have.
+#[unsafe(no_mangle)]
+pub extern "C" fn icysixel_get_clip(handle: &mut Handle, clip: &mut Size) -> u32
+    ensures same { handle.new.pointer.state ≡ handle.old.pointer.state }
+    ensures none { handle.old.pointer.state ≡ None → result ≡ 1 }
+    ensures done { is_some handle.old.pointer.state ≡ true → result ≡ 0 }
+    ensures width { (state : State) → handle.old.pointer.state ≡ Some state
+        → clip.new.width ≡ state.receiver.decoder.pixel_limit.columns }
+    ensures height { (state : State) → handle.old.pointer.state ≡ Some state
+        → clip.new.height ≡ state.receiver.decoder.pixel_limit.rows }
+    ensures told { result ≢ 0 → clip.new ≡ clip.old }
+{
+    if !handle.is_held() {
+        return Code::NoHandle as u32;
+    }
+    let (width, height) = handle.state().receiver.decoder().clip();
+    *clip = Size { width, height };
+    Code::Success as u32
+}
+
+/// Sets how many columns from the left and rows from the top an image can have.
+///
+/// Each is at least 1, and at most 1,000,000.
+#[unsafe(no_mangle)]
+pub extern "C" fn icysixel_set_clip(handle: &mut Handle, width: usize, height: usize)
+    ensures { IsSet (λ decoder. with_clip decoder width height)
+        handle.old.pointer.state handle.new.pointer.state }
+{
+    if handle.is_held() {
+        handle
+            .state()
+            .receiver
+            .decoder_mut()
+            .set_clip(width, height);
+    }
+}
