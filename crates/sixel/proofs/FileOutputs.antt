@@ -6,8 +6,8 @@ use Rattle.sixel.specs.Ending.{Ending, Done, Refused, Unreadable}
 use Rattle.sixel.specs.Files.{AreFileOutputs, IsFileOutput}
 use Rattle.sixel.specs.WorkOutput.{Begins, ServesPicture, Writes}
 use Rattle.sixel.specs.declared.fault.Fault.TheVariants.{Sixel, Input, Output}
-use Rattle.sixel.specs.declared.picture_fault.PictureFault.{PictureFault}
-use Rattle.sixel.specs.declared.picture_fault.PictureFault.TheVariants.{Shared, Netpbm}
+use Rattle.sixel.specs.declared.fault.PictureFault.{PictureFault}
+use Rattle.sixel.specs.declared.fault.PictureFault.TheVariants.{Shared, Netpbm}
 
 -- the files up to those that are left have added these bytes
 pub record AreLed (content : List ℕ → Option (List ℕ))

@@ -14,8 +14,8 @@ use Rattle.sixel_base.specs.Fault as data_fault
 use Rattle.sixel_base.specs.Payload.{Image}
 use Rattle.sixel.specs.WorkOutput.{IsImageOutput, IsOutput, IsWhole, Serves, ServesPicture}
 use Rattle.sixel.specs.WorkOutput.{ServesPictureInput}
-use Rattle.sixel.specs.declared.picture_fault.PictureFault.{PictureFault}
-use Rattle.sixel.specs.declared.picture_fault.PictureFault.TheVariants.{Shared}
+use Rattle.sixel.specs.declared.fault.PictureFault.{PictureFault}
+use Rattle.sixel.specs.declared.fault.PictureFault.TheVariants.{Shared}
 use Rattle.std.specs.Result.{IsErrAnd}
 
 -- what was written of an output of one kind is of another

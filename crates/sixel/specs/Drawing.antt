@@ -15,8 +15,8 @@ use Rattle.sixel_encoder.specs.IndexedDrawing.{IsPaletteText, palette_fault}
 use Rattle.sixel_encoder.specs.RefinedText.{IsRefinedText}
 use Rattle.sixel_palette.specs.declared.mapping.Mapping.{Mapping}
 use Rattle.sixel_encoder.specs.declared.form.TextForm.TheVariants.{Compact}
-use Rattle.sixel.specs.declared.draw_options.DrawPalette.{DrawPalette}
-use Rattle.sixel.specs.declared.draw_options.DrawPalette.TheVariants.{Standard, Refined, File}
+use Rattle.sixel.specs.declared.draw.options.DrawPalette.{DrawPalette}
+use Rattle.sixel.specs.declared.draw.options.DrawPalette.TheVariants.{Standard, Refined, File}
 use Rattle.sixel.specs.Ending.{Ending, Done, Refused, Unreadable}
 
 -- What was read has the output of a call: a text, or an error with nothing written. The call is

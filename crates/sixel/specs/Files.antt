@@ -5,7 +5,7 @@ use Rattle.std.specs.Prelude.{Some, None}
 use Rattle.sixel.specs.Ending.{Ending, Done}
 use Rattle.sixel.specs.Options.{Stated}
 use Rattle.sixel.specs.WorkOutput.{Begins, IsPictureOutput}
-use Rattle.sixel.specs.declared.picture_words.PictureWord.TheVariants.{Draw}
+use Rattle.sixel.specs.declared.picture.PictureWord.TheVariants.{Draw}
 
 -- what a file adds to the output: with status 0 the whole output, else nothing or a beginning
 abbrev pub IsFileOutput : (List ℕ → Ending → Type 0) → List ℕ → ℕ → Type 0

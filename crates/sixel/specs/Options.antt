@@ -12,14 +12,14 @@ use Rattle.sixel_palette.specs.declared.dither.Dither.TheVariants as dithers
 use Rattle.sixel_palette.specs.declared.mapping.Mapping.{Mapping}
 use Rattle.sixel_palette.specs.declared.mapping.Tolerance.TheVariants.{Auto, Squared}
 use Rattle.sixel.specs.Number.{number_within}
-use Rattle.sixel.specs.declared.draw_options.DitherKind.{DitherKind}
-use Rattle.sixel.specs.declared.draw_options.DitherKind.TheVariants.{Off, Diffusion, Ordered}
-use Rattle.sixel.specs.declared.draw_options.DrawOptions.{DrawOptions}
-use Rattle.sixel.specs.declared.draw_options.DrawPalette.{DrawPalette}
-use Rattle.sixel.specs.declared.draw_options.TheConstants.{MAX_DISTANCE}
-use Rattle.sixel.specs.declared.draw_options.DrawPalette.TheVariants.{Standard, Refined, File}
-use Rattle.sixel.specs.declared.option_fault.OptionFault.{OptionFault}
-use Rattle.sixel.specs.declared.option_fault.OptionFault.TheVariants as faults
+use Rattle.sixel.specs.declared.draw.options.DitherKind.{DitherKind}
+use Rattle.sixel.specs.declared.draw.options.DitherKind.TheVariants.{Off, Diffusion, Ordered}
+use Rattle.sixel.specs.declared.draw.options.DrawOptions.{DrawOptions}
+use Rattle.sixel.specs.declared.draw.options.DrawPalette.{DrawPalette}
+use Rattle.sixel.specs.declared.draw.options.TheConstants.{MAX_DISTANCE}
+use Rattle.sixel.specs.declared.draw.options.DrawPalette.TheVariants.{Standard, Refined, File}
+use Rattle.sixel.specs.declared.draw.option_fault.OptionFault.{OptionFault}
+use Rattle.sixel.specs.declared.draw.option_fault.OptionFault.TheVariants as faults
 
 -- a palette, a strength and a tolerance that no option states, and diffusion
 abbrev pub default_options : DrawOptions

@@ -5,12 +5,12 @@ use Rattle.std.specs.Prelude.{Some, String, option_and_then, option_map, string_
 use Rattle.std.specs.declared.alloc.Global.{Global}
 use Rattle.sixel.specs.Number.{number_of, number_within}
 use Rattle.sixel.specs.Options.{Stated, Wrong, default_options, stated_by, wrong_of}
-use Rattle.sixel.specs.declared.draw_options.Drawing.{Drawing}
-use Rattle.sixel.specs.declared.option_fault.OptionFault.{OptionFault}
+use Rattle.sixel.specs.declared.draw.options.Drawing.{Drawing}
+use Rattle.sixel.specs.declared.draw.option_fault.OptionFault.{OptionFault}
 use Rattle.sixel.specs.declared.notice.Notice.{Notice}
 use Rattle.sixel.specs.declared.notice.Notice.TheVariants.{Help, Version}
-use Rattle.sixel.specs.declared.picture_words.PictureWord.{PictureWord}
-use Rattle.sixel.specs.declared.picture_words.PictureWord.TheVariants.{Pam, Draw}
+use Rattle.sixel.specs.declared.picture.PictureWord.{PictureWord}
+use Rattle.sixel.specs.declared.picture.PictureWord.TheVariants.{Pam, Draw}
 use Rattle.sixel.specs.declared.words.Word.{Word}
 use Rattle.sixel.specs.declared.words.Word.TheVariants.{Payload, Decode, Frames, Encode}
 use Rattle.sixel.specs.declared.work.Work.{Work}

@@ -16,10 +16,10 @@ use Rattle.sixel.specs.declared.fault.Fault.{Fault}
 use Rattle.sixel.specs.declared.fault.Fault.TheVariants.{Sixel, Input, Output}
 use Rattle.sixel.specs.declared.words.Word.{Word}
 use Rattle.sixel.specs.declared.words.Word.TheVariants.{Payload, Decode, Frames, Encode}
-use Rattle.sixel.specs.declared.picture_fault.PictureFault.{PictureFault}
-use Rattle.sixel.specs.declared.picture_fault.PictureFault.TheVariants.{Shared, Netpbm}
-use Rattle.sixel.specs.declared.picture_words.PictureWord.{PictureWord}
-use Rattle.sixel.specs.declared.picture_words.PictureWord.TheVariants.{Pam, Draw}
+use Rattle.sixel.specs.declared.fault.PictureFault.{PictureFault}
+use Rattle.sixel.specs.declared.fault.PictureFault.TheVariants.{Shared, Netpbm}
+use Rattle.sixel.specs.declared.picture.PictureWord.{PictureWord}
+use Rattle.sixel.specs.declared.picture.PictureWord.TheVariants.{Pam, Draw}
 use Rattle.sixel.specs.declared.response.Response.{Response}
 use Rattle.sixel.specs.declared.response.Response.TheVariants.{Done as Completed, Usage, Failed}
 use Rattle.sixel.specs.declared.work.Work.{Work}

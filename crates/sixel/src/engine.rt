@@ -6,7 +6,7 @@ ghost use Rattle.sixel.specs.Words.{IsServable};
 ghost use Rattle.sixel.specs.WorkOutput.{IsOutput, Serves, ServesInput};
 
 use crate::fault::Fault;
-use crate::images::write_image;
+use crate::image_output::write_image;
 use crate::read::read_to_end;
 use crate::sequences::write_sequences;
 use crate::words::Word;

@@ -3,21 +3,14 @@
 
 ghost use Rattle.std.specs.Prelude.{None};
 
-mod draw_options;
-mod drawing;
+mod draw;
 mod engine;
 mod fault;
-mod files;
-mod images;
+mod image_output;
 mod netpbm;
 mod notice;
 mod number;
-mod option_fault;
-mod palette_file;
-mod pam;
 mod picture;
-mod picture_fault;
-mod picture_words;
 mod read;
 mod response;
 mod sequences;
@@ -27,13 +20,12 @@ mod words;
 mod work;
 mod write;
 
-use draw_options::{Drawing, read_drawing};
-use fault::Fault;
-use files::{Host, draw_named};
+use draw::files::{Host, draw_named};
+use draw::option_fault::OptionFault;
+use draw::options::{Drawing, read_drawing};
+use fault::{Fault, PictureFault};
 use notice::Notice;
-use option_fault::OptionFault;
-use picture_fault::PictureFault;
-use picture_words::after_draw;
+use picture::after_draw;
 use response::{Response, respond, response_of};
 use std::fmt::Display;
 use std::process::ExitCode;

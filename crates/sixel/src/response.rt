@@ -1,14 +1,14 @@
 //! How the program ends for its arguments and its input, with which exit status.
 
 ghost use Rattle.std.specs.Prelude.{◌≡◌, MatchResult};
-ghost use Rattle.sixel.specs.declared.picture_fault.PictureFault.{PictureFault};
+ghost use Rattle.sixel.specs.declared.fault.PictureFault.{PictureFault};
 ghost use Rattle.sixel.specs.declared.response.Response.TheVariants.{Done, Usage, Failed};
 ghost use Rattle.sixel.specs.Words.{IsAskedBy, words_of};
 ghost use Rattle.sixel.specs.WorkOutput.{IsWorkOutput, Responds};
 
 use crate::engine::serve;
+use crate::fault::PictureFault;
 use crate::picture::serve_picture;
-use crate::picture_fault::PictureFault;
 use crate::work::{Work, read_work};
 use std::alloc::Global;
 use std::io::{Read, Write};

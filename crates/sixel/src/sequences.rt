@@ -18,7 +18,7 @@ ghost use Rattle.sixel.specs.Form.{image_form};
 ghost use Rattle.sixel.specs.WorkOutput.{Serves};
 
 use crate::fault::Fault;
-use crate::images::write_image;
+use crate::image_output::write_image;
 use icy_sixel::{Received, SixelDcsFeedStatus, SixelError, SixelImage, SixelReceiver, Status};
 use std::alloc::Global;
 use std::io::Write;

@@ -4,7 +4,7 @@ ghost use Rattle.std.specs.Prelude.{IfSome, IfNone};
 ghost use Rattle.sixel.specs.declared.work.Work.{Work};
 ghost use Rattle.sixel.specs.Words.{IsAskedBy, IsDoable, words_of};
 
-use crate::picture_words::{PictureWord, read_picture_word};
+use crate::picture::{PictureWord, read_picture_word};
 use crate::words::{Word, read_word};
 
 /// Work on the input.
