@@ -31,6 +31,20 @@ static struct settings *settings_of(const void *object)
     return &table[(uintptr_t)object / 16 % 256];
 }
 
+/* Defines a function of libsixel that sets a number, and stores it in the settings too. */
+#define SETTER(name, type, member)           \
+    void name(type *object, int value)       \
+    {                                        \
+        NEXT(name);                          \
+        settings_of(object)->member = value; \
+        next(object, value);                 \
+    }
+
+SETTER(sixel_output_set_skip_dcs_envelope, sixel_output_t, is_partial)
+SETTER(sixel_output_set_penetrate_multiplexer, sixel_output_t, is_passed_on)
+SETTER(sixel_dither_set_pixelformat, sixel_dither_t, format)
+SETTER(sixel_dither_set_body_only, sixel_dither_t, is_partial)
+
 SIXELSTATUS sixel_output_new(sixel_output_t **output, sixel_write_function write, void *data,
                              sixel_allocator_t *allocator)
 {
@@ -41,20 +55,6 @@ SIXELSTATUS sixel_output_new(sixel_output_t **output, sixel_write_function write
     return status;
 }
 
-void sixel_output_set_skip_dcs_envelope(sixel_output_t *output, int on)
-{
-    NEXT(sixel_output_set_skip_dcs_envelope);
-    settings_of(output)->is_partial = on;
-    next(output, on);
-}
-
-void sixel_output_set_penetrate_multiplexer(sixel_output_t *output, int on)
-{
-    NEXT(sixel_output_set_penetrate_multiplexer);
-    settings_of(output)->is_passed_on = on;
-    next(output, on);
-}
-
 SIXELSTATUS sixel_dither_new(sixel_dither_t **dither, int colors, sixel_allocator_t *allocator)
 {
     NEXT(sixel_dither_new);
@@ -63,20 +63,6 @@ SIXELSTATUS sixel_dither_new(sixel_dither_t **dither, int colors, sixel_allocato
         *settings_of(*dither) =
             (struct settings){.object = *dither, .format = SIXEL_PIXELFORMAT_RGB888};
     return status;
-}
-
-void sixel_dither_set_pixelformat(sixel_dither_t *dither, int format)
-{
-    NEXT(sixel_dither_set_pixelformat);
-    settings_of(dither)->format = format;
-    next(dither, format);
-}
-
-void sixel_dither_set_body_only(sixel_dither_t *dither, int on)
-{
-    NEXT(sixel_dither_set_body_only);
-    settings_of(dither)->is_partial = on;
-    next(dither, on);
 }
 
 SIXELSTATUS sixel_encode(unsigned char *pixels, int width, int height, int depth,
