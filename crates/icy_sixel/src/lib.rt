@@ -22,7 +22,7 @@ pub use receiver::{
 };
 pub use script::Status;
 pub use sixel_base::size::validate_encode_dimensions;
-pub use sixel_base::{Result, SixelError, limits};
+pub use sixel_base::{Result, SixelError, error, limits};
 pub use sixel_canvas::channels::{ChannelOrder, RowLayout};
 pub use sixel_image::{BackgroundMode, PixelAspectRatio, SixelImage};
 pub use sixel_palette::palette;

@@ -7,8 +7,7 @@ ghost use Rattle.icysixel.specs.Code.{IsCallCode, IsCodeOf};
 ghost use Rattle.icysixel.specs.Code.{fault_code, status_code, status_byte};
 
 use icy_sixel::script::Status;
-use icy_sixel::{SixelDcsFeedStatus, SixelError, SixelFeedStatus};
-use sixel_base::error;
+use icy_sixel::{SixelDcsFeedStatus, SixelError, SixelFeedStatus, error};
 
 /// What a call returns to C: success, or why it failed.
 #[derive(Clone, Copy)]

@@ -22,10 +22,10 @@ use crate::code::{Code, code_of};
 use crate::encoding::{Encoding, PaletteMode};
 use crate::layout::stride_of;
 use crate::source_layout::SourceLayout;
-use icy_sixel::{SixelError, validate_encode_dimensions};
-use sixel_encoder::{
+use icy_sixel::encoder::{
     Source, encode_in_palette, encode_refined, encode_source, encode_with_indices,
 };
+use icy_sixel::{SixelError, validate_encode_dimensions};
 use std::alloc::Global;
 
 /// Encodes pixels and transfers the block of the text to the caller.

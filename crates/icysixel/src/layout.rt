@@ -5,8 +5,7 @@ ghost use Rattle.icysixel.specs.RowCopies.{IsRowsCode, is_order, layout_of, orde
 ghost use Rattle.icysixel.specs.Rows.{stride_of};
 
 use crate::code::Code;
-use icy_sixel::{ChannelOrder, RowLayout, SixelError};
-use sixel_base::error;
+use icy_sixel::{ChannelOrder, RowLayout, SixelError, error};
 
 /// How rows lie in a buffer.
 #[repr(C)]

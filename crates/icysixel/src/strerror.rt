@@ -3,7 +3,7 @@
 ghost use Rattle.std.specs.Prelude.{◌≡◌, ◌+◌, ◌<◌, ◌≤◌, ◌∷◌, ◌++◌, length, drop};
 ghost use Rattle.icysixel.specs.Descriptions.{description};
 
-use sixel_base::error;
+use icy_sixel::error;
 
 /// Writes the description of a code and a zero to the buffer.
 ///
