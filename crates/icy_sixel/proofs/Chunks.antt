@@ -8,7 +8,7 @@ use Rattle.sixel_base.specs.declared.error.SixelError.{SixelError}
 use Rattle.sixel_base.specs.Fault.{Faults}
 use Rattle.sixel_base.specs.Bytes.{front, first_terminator}
 use Rattle.sixel_base.specs.Settings.{Settings}
-use Rattle.sixel_base.specs.Dcs.{can_finish, dcs_fault, dcs_growths, dcs_in_payload, dcs_status}
+use Rattle.sixel_base.specs.Dcs.{can_finish, dcs_in_payload, dcs_status}
 use Rattle.sixel_base.specs.Dcs as strings
 use Rattle.sixel_decoder.specs.FedImages.{IsFed}
 use Rattle.icy_sixel.specs.ReceiverCalls.{IsCounted}

@@ -1,4 +1,5 @@
--- How C says that an image is encoded, and what the call does that encodes one. The numbers are this library's own, and include/icysixel.h names them.
+-- How C says that an image is encoded, and what the call does that encodes one. The numbers are
+-- this library's own, and include/icysixel.h names them.
 use Rattle.std.specs.Prelude.{◌≡◌, ◌≢◌, ◌*◌, ◌<◌, ◌≤◌, ◌==◌, ◌||◌, not, if◌then◌else◌, ℕ, nat_lt}
 use Rattle.std.specs.Prelude.{nat_le, ◌&&◌}
 use Rattle.std.specs.Prelude.{List, [], length, take, Bool, Option, Some, None, IsTrue}

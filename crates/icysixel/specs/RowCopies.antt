@@ -106,3 +106,14 @@ pub record AreInOrder (order : ℕ) (pixels bytes : List ℕ) : Type 0 where
   pub len : length bytes ≡ length pixels
   pub ordered : (i : ℕ) → i < length pixels → slice_index bytes i
       ≡ slice_index (in_order (order_of order) (pixel_at pixels (i / 4))) (i % 4)
+
+-- The pixels of the stored image were transferred in this order, or the code is that of no image.
+pub record ArePixelsTaken (before after : State) (order : ℕ) (bytes : List ℕ) (code : ℕ)
+    : Type 0 where
+  pub no_image : before.image ≡ None → code ≡ 4
+  pub done : (image : ReceivedImage) → before.image ≡ Some image → code ≡ 0
+  pub pixels : (image : ReceivedImage) → before.image ≡ Some image
+      → AreInOrder order image.pixels.items bytes
+  pub taken : after.image ≡ None
+  pub receiver : after.receiver ≡ before.receiver
+  pub height : after.height ≡ before.height

@@ -1,6 +1,6 @@
 //! The call that chooses the palette of an image.
 
-ghost use Rattle.std.specs.Prelude.{◌≡◌, ◌≢◌, ◌+◌, ◌/◌, ◌%◌, ◌<◌, ◌≤◌, ℕ, List, []};
+ghost use Rattle.std.specs.Prelude.{◌≡◌, ◌≢◌, ◌+◌, ◌/◌, ◌%◌, ◌<◌, ◌≤◌, ℕ, List};
 ghost use Rattle.std.specs.Prelude.{All, Contains, drop, length, take};
 ghost use Rattle.sixel_palette.specs.Palette.{IsShown, HasSize, IsPalette, palette_room};
 ghost use Rattle.sixel_palette.specs.Palette.{AreIndices, IsError, AreWitnesses};

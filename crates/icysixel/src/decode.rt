@@ -1,10 +1,10 @@
 //! The calls that decode in one call.
 
-ghost use Rattle.std.specs.Prelude.{◌≡◌, ◌≢◌, Some, None, is_some};
+ghost use Rattle.std.specs.Prelude.{◌≡◌, ◌≢◌, None};
 ghost use Rattle.sixel_base.specs.OneShot.{Payload, found};
+ghost use Rattle.icysixel.specs.Changes.{Acts};
 ghost use Rattle.icysixel.specs.Code.{settings_of};
 ghost use Rattle.icysixel.specs.Finish.{IsDecoded};
-ghost use Rattle.icysixel.specs.declared.state.State.{State};
 
 use crate::code::Code;
 use crate::handle::Handle;
@@ -24,11 +24,10 @@ pub extern "C" fn icysixel_decode(
     bytes: &[u8],
     shape: &mut Shape,
 ) -> u32
-    ensures held { is_some handle.new.pointer.state ≡ is_some handle.old.pointer.state }
     ensures none { handle.old.pointer.state ≡ None → result ≡ 1 }
-    ensures decoded { (before after : State) → handle.old.pointer.state ≡ Some before
-        → handle.new.pointer.state ≡ Some after
-        → IsDecoded before after (found bytes.now) shape.new result }
+    ensures decoded { Acts (λ before after.
+        IsDecoded before after (found bytes.now) shape.new result)
+        handle.old.pointer.state handle.new.pointer.state }
     ensures told { result ≢ 0 → shape.new ≡ shape.old }
 {
     if !handle.is_held() {
@@ -57,11 +56,10 @@ pub extern "C" fn icysixel_decode_payload(
     p2: i32,
     shape: &mut Shape,
 ) -> u32
-    ensures held { is_some handle.new.pointer.state ≡ is_some handle.old.pointer.state }
     ensures none { handle.old.pointer.state ≡ None → result ≡ 1 }
-    ensures decoded { (before after : State) → handle.old.pointer.state ≡ Some before
-        → handle.new.pointer.state ≡ Some after
-        → IsDecoded before after (Payload (settings_of p1 p2) bytes.now) shape.new result }
+    ensures decoded { Acts (λ before after.
+        IsDecoded before after (Payload (settings_of p1 p2) bytes.now) shape.new result)
+        handle.old.pointer.state handle.new.pointer.state }
     ensures told { result ≢ 0 → shape.new ≡ shape.old }
 {
     if !handle.is_held() {

@@ -12,7 +12,7 @@ ghost use Rattle.icysixel.specs.Encodings.{IsRowsText, IsTextIn, bytes_of, color
 ghost use Rattle.icysixel.specs.Encodings.{dense_rows, format_of, image_of, mode_of, row_len};
 ghost use Rattle.icysixel.specs.Encodings.{FailsByCode, IsEncoded, IsTransferred};
 ghost use Rattle.icysixel.specs.Encodings.{has_options, row_stride, rows_fault};
-ghost use Rattle.icysixel.specs.Formats.{is_rgba, rgba_pixels};
+ghost use Rattle.icysixel.specs.Formats.{is_rgba};
 ghost use Rattle.icysixel.specs.Rows.{extent};
 ghost use Rattle.icysixel.specs.declared.encoding.PaletteMode.TheVariants.{Indexed};
 ghost use Rattle.icysixel.specs.inside.SourceLayout.{source_layout};

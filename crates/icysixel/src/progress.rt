@@ -1,7 +1,8 @@
 //! The calls that report the progress of the open image.
 
-ghost use Rattle.std.specs.Prelude.{◌≡◌, ◌≢◌, Some, None, ℕ, true, false, cond};
+ghost use Rattle.std.specs.Prelude.{◌≡◌, ◌≢◌, Some, None, ℕ, true, false, cond, if◌then◌else◌};
 ghost use Rattle.icy_sixel.specs.Receiver.{drawn_height, in_payload, is_open, size as size_of};
+ghost use Rattle.icysixel.specs.Changes.{Reads};
 ghost use Rattle.icysixel.specs.declared.state.State.{State};
 
 use crate::code::Code;
@@ -18,10 +19,8 @@ pub struct Size {
 /// Returns 1 if an image is open, and 0 if not.
 #[unsafe(no_mangle)]
 pub extern "C" fn icysixel_is_receiving(handle: &mut Handle) -> u8
-    ensures same { handle.new.pointer.state ≡ handle.old.pointer.state }
-    ensures none { handle.old.pointer.state ≡ None → result ≡ 0 }
-    ensures value { (state : State) → handle.old.pointer.state ≡ Some state
-        → result ≡ cond (is_open state.receiver.image.form) 1 0 }
+    ensures { Reads (λ state. cond (is_open state.receiver.image.form) 1 0)
+        handle.old.pointer.state handle.new.pointer.state result }
 {
     if !handle.is_held() {
         return 0;
@@ -32,13 +31,9 @@ pub extern "C" fn icysixel_is_receiving(handle: &mut Handle) -> u8
 /// Returns 1 if the payload of the open image has begun and no feed has failed.
 #[unsafe(no_mangle)]
 pub extern "C" fn icysixel_in_payload(handle: &mut Handle) -> u8
-    ensures same { handle.new.pointer.state ≡ handle.old.pointer.state }
-    ensures none { handle.old.pointer.state ≡ None → result ≡ 0 }
-    ensures accepted { (state : State) → handle.old.pointer.state ≡ Some state
-        → state.receiver.image.is_refused ≡ false
-        → result ≡ cond (in_payload state.receiver.image.form state.receiver.image.bytes) 1 0 }
-    ensures refused { (state : State) → handle.old.pointer.state ≡ Some state
-        → state.receiver.image.is_refused ≡ true → result ≡ 0 }
+    ensures { Reads (λ state. if state.receiver.image.is_refused then 0
+        else cond (in_payload state.receiver.image.form state.receiver.image.bytes) 1 0)
+        handle.old.pointer.state handle.new.pointer.state result }
 {
     if !handle.is_held() {
         return 0;
@@ -49,14 +44,10 @@ pub extern "C" fn icysixel_in_payload(handle: &mut Handle) -> u8
 /// Returns the last row of the open image with a set pixel, plus one, or 0.
 #[unsafe(no_mangle)]
 pub extern "C" fn icysixel_get_drawn_height(handle: &mut Handle) -> usize
-    ensures same { handle.new.pointer.state ≡ handle.old.pointer.state }
-    ensures none { handle.old.pointer.state ≡ None → result ≡ 0 }
-    ensures accepted { (state : State) → handle.old.pointer.state ≡ Some state
-        → state.receiver.image.is_refused ≡ false
-        → result ≡ drawn_height state.receiver.image.start.pixel_limit
-        state.receiver.image.form state.receiver.image.bytes }
-    ensures refused { (state : State) → handle.old.pointer.state ≡ Some state
-        → state.receiver.image.is_refused ≡ true → result ≡ 0 }
+    ensures { Reads (λ state. if state.receiver.image.is_refused then 0
+        else drawn_height state.receiver.image.start.pixel_limit
+        state.receiver.image.form state.receiver.image.bytes)
+        handle.old.pointer.state handle.new.pointer.state result }
 {
     if !handle.is_held() {
         return 0;

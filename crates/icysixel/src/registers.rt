@@ -1,11 +1,9 @@
 //! The calls that read, set and reset the decoder's registers.
 
-ghost use Rattle.std.specs.Prelude.{◌≡◌, ◌≢◌, Some, None, is_some, true, [], ◌∷◌};
-ghost use Rattle.std.specs.Prelude.{drop, slice_index_or, slice_set};
+ghost use Rattle.std.specs.Prelude.{◌≡◌, [], ◌∷◌, drop, slice_index_or, slice_set};
 ghost use Rattle.sixel_base.specs.Color.{default_registers};
 ghost use Rattle.icy_sixel.specs.Registers.{with_colors};
-ghost use Rattle.icysixel.specs.Changes.{IsSet};
-ghost use Rattle.icysixel.specs.declared.state.State.{State};
+ghost use Rattle.icysixel.specs.Changes.{IsSet, Writes};
 
 use crate::code::Code;
 use crate::handle::Handle;
@@ -32,13 +30,9 @@ impl Color {
 /// Writes the color of a register of the decoder.
 #[unsafe(no_mangle)]
 pub extern "C" fn icysixel_get_register(handle: &mut Handle, register: u8, color: &mut Color) -> u32
-    ensures same { handle.new.pointer.state ≡ handle.old.pointer.state }
-    ensures none { handle.old.pointer.state ≡ None → result ≡ 1 }
-    ensures done { is_some handle.old.pointer.state ≡ true → result ≡ 0 }
-    ensures color { (state : State) → handle.old.pointer.state ≡ Some state
-        → slice_index_or state.receiver.decoder.registers register []
-        ≡ color.new.red ∷ color.new.green ∷ color.new.blue ∷ [] }
-    ensures told { result ≢ 0 → color.new ≡ color.old }
+    ensures { Writes (λ state written. slice_index_or state.receiver.decoder.registers register []
+        ≡ written.red ∷ written.green ∷ written.blue ∷ [])
+        handle.old.pointer.state handle.new.pointer.state color.old color.new result }
 {
     if !handle.is_held() {
         return Code::NoHandle as u32;
@@ -74,12 +68,9 @@ pub extern "C" fn icysixel_get_registers(
     first: u8,
     colors: &mut [[u8; 3]],
 ) -> u32
-    ensures same { handle.new.pointer.state ≡ handle.old.pointer.state }
-    ensures none { handle.old.pointer.state ≡ None → result ≡ 1 }
-    ensures done { is_some handle.old.pointer.state ≡ true → result ≡ 0 }
-    ensures colors { (state : State) → handle.old.pointer.state ≡ Some state
-        → colors.new ≡ with_colors colors.old 0 (drop first state.receiver.decoder.registers) }
-    ensures told { result ≢ 0 → colors.new ≡ colors.old }
+    ensures { Writes (λ state written. written
+        ≡ with_colors colors.old 0 (drop first state.receiver.decoder.registers))
+        handle.old.pointer.state handle.new.pointer.state colors.old colors.new result }
 {
     if !handle.is_held() {
         return Code::NoHandle as u32;

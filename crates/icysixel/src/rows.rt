@@ -1,8 +1,9 @@
 //! The calls on final rows of the open image.
 
-ghost use Rattle.std.specs.Prelude.{◌≡◌, ◌≢◌, Some, None, is_some, true, false, length};
+ghost use Rattle.std.specs.Prelude.{◌≡◌, ◌≢◌, Some, None, is_some, true, false};
 ghost use Rattle.icy_sixel.specs.ReceivedRows.{rows_so_far};
-ghost use Rattle.icysixel.specs.RowCopies.{AreRowsCopied, AreRowsReleased, is_order, layout_of};
+ghost use Rattle.icysixel.specs.Changes.{Acts, Reads};
+ghost use Rattle.icysixel.specs.RowCopies.{AreRowsCopied, AreRowsReleased, is_order};
 ghost use Rattle.icysixel.specs.declared.state.State.{State};
 
 use crate::code::Code;
@@ -14,10 +15,8 @@ use icy_sixel::RowLayout;
 /// Returns how many rows from the top of the open image are final, or 0.
 #[unsafe(no_mangle)]
 pub extern "C" fn icysixel_get_rows_so_far(handle: &mut Handle) -> usize
-    ensures same { handle.new.pointer.state ≡ handle.old.pointer.state }
-    ensures none { handle.old.pointer.state ≡ None → result ≡ 0 }
-    ensures value { (state : State) → handle.old.pointer.state ≡ Some state
-        → result ≡ rows_so_far state.receiver.image }
+    ensures { Reads (λ state. rows_so_far state.receiver.image)
+        handle.old.pointer.state handle.new.pointer.state result }
 {
     if !handle.is_held() {
         return 0;
@@ -73,10 +72,9 @@ fn copy_rows(state: &State, first: usize, rows: usize, layout: &Layout, buf: &mu
 /// Releases the final rows above row `rows` of the open image.
 #[unsafe(no_mangle)]
 pub extern "C" fn icysixel_release_rows(handle: &mut Handle, rows: usize) -> u32
-    ensures held { is_some handle.new.pointer.state ≡ is_some handle.old.pointer.state }
     ensures none { handle.old.pointer.state ≡ None → result ≡ 1 }
-    ensures released { (before after : State) → handle.old.pointer.state ≡ Some before
-        → handle.new.pointer.state ≡ Some after → AreRowsReleased before after rows result }
+    ensures released { Acts (λ before after. AreRowsReleased before after rows result)
+        handle.old.pointer.state handle.new.pointer.state }
 {
     if !handle.is_held() {
         return Code::NoHandle as u32;

@@ -1,11 +1,10 @@
 //! The calls that read and set the settings of a decoder.
 
-ghost use Rattle.std.specs.Prelude.{◌≡◌, ◌≢◌, ◌==◌, Some, None, is_some, true, false, not};
+ghost use Rattle.std.specs.Prelude.{◌≡◌, ◌≢◌, ◌==◌, None, is_some, true, false, not};
 ghost use Rattle.std.specs.Prelude.{cond};
 ghost use Rattle.sixel_base.specs.Decoder.{with_clip, with_pixel_limit};
-ghost use Rattle.icysixel.specs.Changes.{Acts, IsReceiverSet, IsSet};
+ghost use Rattle.icysixel.specs.Changes.{Acts, IsReceiverSet, IsSet, Reads, Writes};
 ghost use Rattle.icysixel.specs.Heights.{height_of, is_height, number_of};
-ghost use Rattle.icysixel.specs.declared.state.State.{State};
 
 use crate::code::Code;
 use crate::handle::Handle;
@@ -15,10 +14,8 @@ use icy_sixel::Height;
 /// Returns where images end, as [`icysixel_set_height`] has it.
 #[unsafe(no_mangle)]
 pub extern "C" fn icysixel_get_height(handle: &mut Handle) -> u8
-    ensures same { handle.new.pointer.state ≡ handle.old.pointer.state }
-    ensures none { handle.old.pointer.state ≡ None → result ≡ 0 }
-    ensures value { (state : State) → handle.old.pointer.state ≡ Some state
-        → result ≡ number_of state.height }
+    ensures { Reads (λ state. number_of state.height)
+        handle.old.pointer.state handle.new.pointer.state result }
 {
     if !handle.is_held() {
         return 0;
@@ -65,10 +62,8 @@ pub extern "C" fn icysixel_set_height(handle: &mut Handle, height: u8) -> u32
 /// Returns 1 if images are lenient, and 0 if not.
 #[unsafe(no_mangle)]
 pub extern "C" fn icysixel_get_lenient(handle: &mut Handle) -> u8
-    ensures same { handle.new.pointer.state ≡ handle.old.pointer.state }
-    ensures none { handle.old.pointer.state ≡ None → result ≡ 0 }
-    ensures value { (state : State) → handle.old.pointer.state ≡ Some state
-        → result ≡ cond state.receiver.lenient 1 0 }
+    ensures { Reads (λ state. cond state.receiver.lenient 1 0)
+        handle.old.pointer.state handle.new.pointer.state result }
 {
     if !handle.is_held() {
         return 0;
@@ -90,10 +85,8 @@ pub extern "C" fn icysixel_set_lenient(handle: &mut Handle, on: u8)
 /// Returns 1 if images have a transparent background whatever P2 says, and 0 if not.
 #[unsafe(no_mangle)]
 pub extern "C" fn icysixel_get_transparent(handle: &mut Handle) -> u8
-    ensures same { handle.new.pointer.state ≡ handle.old.pointer.state }
-    ensures none { handle.old.pointer.state ≡ None → result ≡ 0 }
-    ensures value { (state : State) → handle.old.pointer.state ≡ Some state
-        → result ≡ cond state.receiver.transparent 1 0 }
+    ensures { Reads (λ state. cond state.receiver.transparent 1 0)
+        handle.old.pointer.state handle.new.pointer.state result }
 {
     if !handle.is_held() {
         return 0;
@@ -115,10 +108,8 @@ pub extern "C" fn icysixel_set_transparent(handle: &mut Handle, on: u8)
 /// Returns the register in which an image draws until it selects one.
 #[unsafe(no_mangle)]
 pub extern "C" fn icysixel_get_first_register(handle: &mut Handle) -> u8
-    ensures same { handle.new.pointer.state ≡ handle.old.pointer.state }
-    ensures none { handle.old.pointer.state ≡ None → result ≡ 0 }
-    ensures value { (state : State) → handle.old.pointer.state ≡ Some state
-        → result ≡ state.receiver.first_register }
+    ensures { Reads (λ state. state.receiver.first_register)
+        handle.old.pointer.state handle.new.pointer.state result }
 {
     if !handle.is_held() {
         return 0;
@@ -140,10 +131,8 @@ pub extern "C" fn icysixel_set_first_register(handle: &mut Handle, register: u8)
 /// Returns how many pixels an image can have, or 0 if the handle is empty.
 #[unsafe(no_mangle)]
 pub extern "C" fn icysixel_get_limit(handle: &mut Handle) -> usize
-    ensures same { handle.new.pointer.state ≡ handle.old.pointer.state }
-    ensures none { handle.old.pointer.state ≡ None → result ≡ 0 }
-    ensures value { (state : State) → handle.old.pointer.state ≡ Some state
-        → result ≡ state.receiver.decoder.pixel_limit.pixels }
+    ensures { Reads (λ state. state.receiver.decoder.pixel_limit.pixels)
+        handle.old.pointer.state handle.new.pointer.state result }
 {
     if !handle.is_held() {
         return 0;
@@ -169,14 +158,10 @@ pub extern "C" fn icysixel_set_limit(handle: &mut Handle, pixels: usize)
 /// Writes how many columns from the left and rows from the top an image can have.
 #[unsafe(no_mangle)]
 pub extern "C" fn icysixel_get_clip(handle: &mut Handle, clip: &mut Size) -> u32
-    ensures same { handle.new.pointer.state ≡ handle.old.pointer.state }
-    ensures none { handle.old.pointer.state ≡ None → result ≡ 1 }
-    ensures done { is_some handle.old.pointer.state ≡ true → result ≡ 0 }
-    ensures width { (state : State) → handle.old.pointer.state ≡ Some state
-        → clip.new.width ≡ state.receiver.decoder.pixel_limit.columns }
-    ensures height { (state : State) → handle.old.pointer.state ≡ Some state
-        → clip.new.height ≡ state.receiver.decoder.pixel_limit.rows }
-    ensures told { result ≢ 0 → clip.new ≡ clip.old }
+    ensures { Writes (λ state written.
+        (written.width ≡ state.receiver.decoder.pixel_limit.columns)
+        × (written.height ≡ state.receiver.decoder.pixel_limit.rows))
+        handle.old.pointer.state handle.new.pointer.state clip.old clip.new result }
 {
     if !handle.is_held() {
         return Code::NoHandle as u32;

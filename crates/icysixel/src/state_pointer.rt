@@ -1,6 +1,6 @@
 //! A pointer to a state, or none: the member `state` of an `icysixel`.
 
-ghost use Rattle.std.specs.Prelude.{◌≡◌, Option, Some, None, is_some, true, IfOk};
+ghost use Rattle.std.specs.Prelude.{◌≡◌, Option, Some, None, is_some, true};
 ghost use Rattle.icysixel.specs.declared.state.State.{State};
 ghost use Rattle.icysixel.specs.inside.StatePointer.{state_coded, pointer_owns};
 

@@ -1,10 +1,9 @@
 //! The calls that copy, transfer and free the pixels of the stored image.
 
 ghost use Rattle.std.specs.Prelude.{◌≡◌, ◌≢◌, ◌≤◌, Some, None, is_some, true, false, []};
-ghost use Rattle.icy_sixel.specs.declared.receiver.received_image.ReceivedImage.{ReceivedImage};
 ghost use Rattle.icysixel.specs.Blocks.{IsNoBlock};
 ghost use Rattle.icysixel.specs.Changes.{Acts};
-ghost use Rattle.icysixel.specs.RowCopies.{AreInOrder, ArePixelsCopied, is_order};
+ghost use Rattle.icysixel.specs.RowCopies.{ArePixelsCopied, ArePixelsTaken, is_order};
 ghost use Rattle.icysixel.specs.declared.state.State.{State};
 
 use crate::bytes::Bytes;
@@ -64,27 +63,16 @@ pub extern "C" fn icysixel_take_pixels(
     order: u8,
     bytes: &mut Bytes,
 ) -> u32
-    ensures held { is_some handle.new.pointer.state ≡ is_some handle.old.pointer.state }
     ensures none { handle.old.pointer.state ≡ None → result ≡ 1 }
     ensures option { is_some handle.old.pointer.state ≡ true → is_order order ≡ false → result ≡ 5 }
-    ensures no_image { (before : State) → handle.old.pointer.state ≡ Some before
-        → is_order order ≡ true → before.image ≡ None → result ≡ 4 }
-    ensures done { (before : State) (image : ReceivedImage) → handle.old.pointer.state ≡ Some before
-        → is_order order ≡ true → before.image ≡ Some image → result ≡ 0 }
-    ensures pixels { (before : State) (image : ReceivedImage)
-        → handle.old.pointer.state ≡ Some before → is_order order ≡ true
-        → before.image ≡ Some image → AreInOrder order image.pixels.items bytes.new.items }
+    ensures taken { is_order order ≡ true → Acts (λ before after.
+        ArePixelsTaken before after order bytes.new.items result)
+        handle.old.pointer.state handle.new.pointer.state }
     ensures capacity { bytes.new.len ≤ bytes.new.capacity }
     ensures empty { result ≡ 0 → bytes.new.items ≡ []
         → IsNoBlock bytes.new.at bytes.new.len bytes.new.capacity }
     ensures unwritten { result ≢ 0 → bytes.new ≡ bytes.old }
-    ensures taken { (after : State) → handle.new.pointer.state ≡ Some after
-        → is_order order ≡ true → after.image ≡ None }
     ensures same { result ≢ 0 → handle.new.pointer.state ≡ handle.old.pointer.state }
-    ensures decoder { (before after : State) → handle.old.pointer.state ≡ Some before
-        → handle.new.pointer.state ≡ Some after → after.receiver ≡ before.receiver }
-    ensures height { (before after : State) → handle.old.pointer.state ≡ Some before
-        → handle.new.pointer.state ≡ Some after → after.height ≡ before.height }
 {
     if !handle.is_held() {
         return Code::NoHandle as u32;
@@ -97,17 +85,11 @@ pub extern "C" fn icysixel_take_pixels(
 
 /// Transfers the block of the stored pixels, if there are any.
 fn transfer(alloc: Global, state: &mut State, order: u8, bytes: &mut Bytes) -> u32
-    ensures no_image { state.old.image ≡ None → result ≡ 4 }
-    ensures done { (image : ReceivedImage) → state.old.image ≡ Some image → result ≡ 0 }
-    ensures pixels { (image : ReceivedImage) → state.old.image ≡ Some image
-        → AreInOrder order image.pixels.items bytes.new.items }
+    ensures taken { ArePixelsTaken state.old state.new order bytes.new.items result }
     ensures empty { result ≡ 0 → bytes.new.items ≡ []
         → IsNoBlock bytes.new.at bytes.new.len bytes.new.capacity }
     ensures unwritten { result ≢ 0 → bytes.new ≡ bytes.old }
-    ensures taken { state.new.image ≡ None }
     ensures same { result ≢ 0 → state.new ≡ state.old }
-    ensures receiver { state.new.receiver ≡ state.old.receiver }
-    ensures height { state.new.height ≡ state.old.height }
 {
     let Some(image) = state.image.take() else {
         return Code::NoImage as u32;

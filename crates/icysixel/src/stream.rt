@@ -1,9 +1,9 @@
 //! The calls that begin, feed, finish and abort an image.
 
-ghost use Rattle.std.specs.Prelude.{◌≡◌, ◌≢◌, Some, None, is_some, false};
+ghost use Rattle.std.specs.Prelude.{◌≡◌, ◌≢◌, Some, None, false};
 ghost use Rattle.icy_sixel.specs.Receiver.{OfPayload, OfString, begun, is_open, no_image};
 ghost use Rattle.icy_sixel.specs.Receiver.{start_of};
-ghost use Rattle.icysixel.specs.Changes.{IsOpened};
+ghost use Rattle.icysixel.specs.Changes.{Acts, IsOpened};
 ghost use Rattle.icysixel.specs.Code.{given, settings_of};
 ghost use Rattle.icysixel.specs.Feed.{IsBandFed, IsFed, fed_of};
 ghost use Rattle.icysixel.specs.Finish.{IsFinished};
@@ -89,11 +89,9 @@ fn given(number: i32) -> Option<u16>
 /// Reads a chunk of the open image and writes the result, also with an error.
 #[unsafe(no_mangle)]
 pub extern "C" fn icysixel_feed(handle: &mut Handle, piece: &[u8], fed: &mut Fed) -> u32
-    ensures held { is_some handle.new.pointer.state ≡ is_some handle.old.pointer.state }
     ensures none { handle.old.pointer.state ≡ None → result ≡ 1 }
-    ensures fed { (before after : State) → handle.old.pointer.state ≡ Some before
-        → handle.new.pointer.state ≡ Some after
-        → IsFed before after piece.now fed.new result }
+    ensures fed { Acts (λ before after. IsFed before after piece.now fed.new result)
+        handle.old.pointer.state handle.new.pointer.state }
     ensures empty { handle.old.pointer.state ≡ None → fed.new ≡ fed.old }
     ensures told { (before : State) → handle.old.pointer.state ≡ Some before
         → is_open before.receiver.image.form ≡ false → fed.new ≡ fed.old }
@@ -109,11 +107,9 @@ pub extern "C" fn icysixel_feed(handle: &mut Handle, piece: &[u8], fed: &mut Fed
 /// It writes the result as [`icysixel_feed`] does, with a status of its own if rows became final.
 #[unsafe(no_mangle)]
 pub extern "C" fn icysixel_feed_band(handle: &mut Handle, piece: &[u8], fed: &mut Fed) -> u32
-    ensures held { is_some handle.new.pointer.state ≡ is_some handle.old.pointer.state }
     ensures none { handle.old.pointer.state ≡ None → result ≡ 1 }
-    ensures fed { (before after : State) → handle.old.pointer.state ≡ Some before
-        → handle.new.pointer.state ≡ Some after
-        → IsBandFed before after piece.now fed.new result }
+    ensures fed { Acts (λ before after. IsBandFed before after piece.now fed.new result)
+        handle.old.pointer.state handle.new.pointer.state }
     ensures empty { handle.old.pointer.state ≡ None → fed.new ≡ fed.old }
     ensures told { (before : State) → handle.old.pointer.state ≡ Some before
         → is_open before.receiver.image.form ≡ false → fed.new ≡ fed.old }
@@ -185,10 +181,9 @@ fn feed_chunk(state: &mut State, piece: &[u8], fed: &mut Fed) -> u32
 /// Closes the open image, stores the rows that are left and writes its properties.
 #[unsafe(no_mangle)]
 pub extern "C" fn icysixel_finish(handle: &mut Handle, shape: &mut Shape) -> u32
-    ensures held { is_some handle.new.pointer.state ≡ is_some handle.old.pointer.state }
     ensures none { handle.old.pointer.state ≡ None → result ≡ 1 }
-    ensures finished { (before after : State) → handle.old.pointer.state ≡ Some before
-        → handle.new.pointer.state ≡ Some after → IsFinished before after shape.new result }
+    ensures finished { Acts (λ before after. IsFinished before after shape.new result)
+        handle.old.pointer.state handle.new.pointer.state }
     ensures commanded { result ≢ 16 }
     ensures told { result ≢ 0 → shape.new ≡ shape.old }
 {

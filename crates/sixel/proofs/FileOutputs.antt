@@ -1,6 +1,6 @@
 -- What files add to the output: those before the ones that are left, and one more.
-use Rattle.std.proofs.Common.{◌≡◌, ◌++◌, ◌≤◌, ℕ, zero, suc, List, [], ◌∷◌, IfSome, Option, Some, None}
-use Rattle.std.proofs.Common.{Ok, Err, Result, append_assoc, append-nil, arith, max, refl, inl, inr}
+use Rattle.std.proofs.Common.{◌≡◌, ◌++◌, ℕ, List, [], ◌∷◌, IfSome, Option, Some, None}
+use Rattle.std.proofs.Common.{Err, append_assoc, append-nil, arith, max, refl, inl, inr}
 use Rattle.std.specs.Io.KnownBytes.{Appends}
 use Rattle.sixel.specs.Ending.{Ending, Done, Refused, Unreadable}
 use Rattle.sixel.specs.Files.{AreFileOutputs, IsFileOutput}

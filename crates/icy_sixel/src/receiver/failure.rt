@@ -1,7 +1,6 @@
 //! The error of an image that was rejected, without its text.
 
-ghost use Rattle.std.specs.Prelude.{◌≡◌, ◌≢◌, true, false, Bool, List, ℕ, Option, None, Some};
-ghost use Rattle.std.specs.Prelude.{is_none};
+ghost use Rattle.std.specs.Prelude.{◌≡◌, ◌≢◌, true, false, Bool, Option, None, Some};
 ghost use Rattle.std.specs.Option.{option_map};
 ghost use Rattle.sixel_base.specs.Fault.{Fault, Faults, MissingCommand, text_of};
 ghost use Rattle.sixel_decoder.specs.FinishedImages.{IsAgain, IsStored};

@@ -55,7 +55,7 @@ pub struct ReceivedImage {
 
 impl ReceivedImage {
     ghost use Rattle.icy_sixel.specs.ReceivedRows.{IsRowCopy};
-    ghost use Rattle.icy_sixel.specs.ReceivedImages.{IsCropped, end_of, is_empty, left_image};
+    ghost use Rattle.icy_sixel.specs.ReceivedImages.{IsCropped, is_empty, left_image};
     ghost use Rattle.icy_sixel.specs.ReceivedImages.{left_value, received_fault, received_pixel};
     ghost use Rattle.icy_sixel.specs.ReceivedImages.{received_report, whole_value};
 

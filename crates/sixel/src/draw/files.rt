@@ -1,6 +1,6 @@
 //! The images of the files that `draw` names.
 
-ghost use Rattle.std.specs.Prelude.{◌≡◌, ℕ, IfOk, IfSome, List, Option, string_bytes};
+ghost use Rattle.std.specs.Prelude.{◌≡◌, ℕ, IfOk, IfSome, List, Option};
 ghost use Rattle.sixel.specs.Files.{AreDrawn, AreFileOutputs};
 ghost use Rattle.sixel.specs.WorkOutput.{IsPictureOutput, Writes};
 ghost use Rattle.sixel.specs.Words.{stated_of, words_of};

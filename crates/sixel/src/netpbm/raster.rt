@@ -1,6 +1,6 @@
 //! The pixels of an image.
 
-ghost use Rattle.std.specs.Prelude.{◌≡◌, ◌≤◌, ◌<◌, ◌*◌, ◌^◌, length, MatchOption, IfErr, IfOk};
+ghost use Rattle.std.specs.Prelude.{◌≡◌, ◌≤◌, ◌<◌, ◌*◌, ◌^◌, length, MatchOption, IfOk};
 ghost use Rattle.sixel.specs.netpbm.Fields.{IsHeader};
 ghost use Rattle.sixel.specs.netpbm.Raster.{level, pixel_at, pixel_len, pixels_of, raster_len};
 ghost use Rattle.sixel.specs.netpbm.Raster.{rgba};

@@ -1,6 +1,6 @@
 //! The words of a header.
 
-ghost use Rattle.std.specs.Prelude.{◌≡◌, ◌≤◌, length};
+ghost use Rattle.std.specs.Prelude.{◌≡◌};
 ghost use Rattle.sixel.specs.netpbm.Words.{after_blanks, after_gap, after_word, blank, line_end};
 ghost use Rattle.sixel.specs.netpbm.Words.{word_of};
 

@@ -1,5 +1,5 @@
 -- The files before this one are drawn.
-use Rattle.std.proofs.Common.{◌≡◌, ◌≤◌, ℕ, List, drop}
+use Rattle.std.proofs.Common.{◌≤◌, ℕ, List, drop}
 use Rattle.std.specs.Io.KnownBytes.{Appends}
 use Rattle.sixel.specs.WorkOutput.{IsPictureOutput}
 use Rattle.sixel.specs.Words.{words_of}
