@@ -7,5 +7,4 @@ pub mod Ended
 pub mod Gathered
 pub mod MissingCommand
 pub mod Steps
-pub mod Stored
 pub mod Witnesses

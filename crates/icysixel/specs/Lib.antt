@@ -1,7 +1,6 @@
 pub mod Blocks
 pub mod Changes
 pub mod Code
-pub mod Colors
 pub mod Descriptions
 pub mod Encodings
 pub mod Feed

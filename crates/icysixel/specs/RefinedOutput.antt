@@ -2,16 +2,14 @@
 use Rattle.std.specs.Prelude.{◌≡◌, ℕ, ◌/◌, min, List, length, drop, take}
 use Rattle.sixel_palette.specs.Refined.{IsRefined}
 use Rattle.sixel_palette.specs.declared.palette.refined.RefinedPalette.{RefinedPalette}
-use Rattle.icysixel.specs.Colors.{first_colors}
 use Rattle.icysixel.specs.declared.refine_palette.Refined.{Refined}
-use Rattle.icysixel.specs.declared.registers.Color.{Color}
 
 -- the buffers begin with a refined palette of the pixels and their indices
 pub record IsRefinedOutput (pixels : List ℕ) (max_colors : ℕ) (refined : Refined)
-    (colors : List Color) (indices : List ℕ) : Type 0 where
+    (colors : List (List ℕ)) (indices : List ℕ) : Type 0 where
   pub palette : RefinedPalette
   pub is_refined : IsRefined pixels max_colors palette
-  pub colors_written : first_colors refined.colors colors ≡ palette.colors.items
+  pub colors_written : take refined.colors colors ≡ palette.colors.items
   pub indices_written : take (length pixels / 4) indices ≡ palette.indices.items
   pub error : refined.error ≡ palette.error
 

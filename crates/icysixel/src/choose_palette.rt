@@ -1,14 +1,13 @@
 //! The call that chooses the palette of an image.
 
 ghost use Rattle.std.specs.Prelude.{◌≡◌, ◌≢◌, ◌+◌, ◌/◌, ◌%◌, ◌<◌, ◌≤◌, ℕ, List};
-ghost use Rattle.std.specs.Prelude.{All, Contains, drop, length, take};
+ghost use Rattle.std.specs.Prelude.{All, Contains, length, take};
 ghost use Rattle.sixel_palette.specs.Palette.{IsShown, HasSize, IsPalette, palette_room};
 ghost use Rattle.sixel_palette.specs.Palette.{AreIndices, IsError, AreWitnesses};
 ghost use Rattle.sixel_palette.specs.PaletteBound.{AreApart, NoListIsBetter};
-ghost use Rattle.icysixel.specs.Colors.{first_colors};
+ghost use Rattle.icysixel.specs.RefinedOutput.{IsSameAfter};
 
 use crate::code::{Code, code_of};
-use crate::registers::Color;
 use icy_sixel::{PaletteChoice, choose_palette};
 use std::alloc::Global;
 
@@ -21,21 +20,6 @@ pub struct Palette {
     pub error: u32,
 }
 
-impl Palette {
-    /// The properties of a choice.
-    fn of(choice: &PaletteChoice) -> Palette
-        ensures colors { result.colors ≡ length choice.now.colors.items }
-        ensures witnesses { result.witnesses ≡ length choice.now.witnesses.items }
-        ensures error { result.error ≡ choice.now.error }
-    {
-        Palette {
-            colors: choice.colors.len(),
-            witnesses: choice.witnesses.len(),
-            error: choice.error,
-        }
-    }
-}
-
 /// Writes the palette of pixels, its certificate and the index of each pixel.
 #[tactic(auto, using(std::proofs::lemmas::Bool::Decides::nat_tests))]
 #[unsafe(no_mangle)]
@@ -43,8 +27,8 @@ pub extern "C" fn icysixel_choose_palette(
     alloc: Global,
     pixels: &[u8],
     max_colors: u16,
-    colors: &mut [Color],
-    witnesses: &mut [Color],
+    colors: &mut [[u8; 3]],
+    witnesses: &mut [[u8; 3]],
     indices: &mut [u8],
     palette: &mut Palette,
 ) -> u32
@@ -62,44 +46,43 @@ pub extern "C" fn icysixel_choose_palette(
 
     // The palette, the indices of the pixels, and its error.
     ensures palette { result ≡ 0 → IsPalette pixels.now max_colors
-        (first_colors palette.new.colors colors.new) }
+        (take palette.new.colors colors.new) }
     ensures indices { result ≡ 0 → AreIndices pixels.now
-        (first_colors palette.new.colors colors.new)
+        (take palette.new.colors colors.new)
         (take (length pixels.now / 4) indices.new) }
     ensures error { result ≡ 0 → IsError (IsShown pixels.now)
-        (first_colors palette.new.colors colors.new) palette.new.error }
+        (take palette.new.colors colors.new) palette.new.error }
 
     // If all shown colors fit, they are the entries.
     ensures occur { result ≡ 0 → All (IsShown pixels.now)
-        (first_colors palette.new.colors colors.new) }
+        (take palette.new.colors colors.new) }
     ensures complete { (n : ℕ) (c : List ℕ) → result ≡ 0 → HasSize (IsShown pixels.now) n
         → n ≤ palette_room max_colors → IsShown pixels.now c
-        → Contains (first_colors palette.new.colors colors.new) c }
+        → Contains (take palette.new.colors colors.new) c }
     ensures empty { ((c : List ℕ) → ¬ IsShown pixels.now c) → result ≡ 0
         → palette.new.colors ≡ 0 }
 
     // The certificate.
     ensures witnesses { result ≡ 0 → AreWitnesses (IsShown pixels.now)
-        (first_colors palette.new.colors colors.new)
-        (first_colors palette.new.witnesses witnesses.new) }
+        (take palette.new.colors colors.new)
+        (take palette.new.witnesses witnesses.new) }
     ensures witnesses_occur { result ≡ 0 → All (IsShown pixels.now)
-        (first_colors palette.new.witnesses witnesses.new) }
+        (take palette.new.witnesses witnesses.new) }
     ensures witnesses_apart { result ≡ 0 → AreApart
-        (first_colors palette.new.witnesses witnesses.new) palette.new.error }
+        (take palette.new.witnesses witnesses.new) palette.new.error }
     ensures bound { (c : List ℕ) → result ≡ 0 → IsShown pixels.now c
         → NoListIsBetter (IsShown pixels.now) palette.new.colors palette.new.error }
 
     // What is written to the buffers.
     ensures colors { result ≡ 0
-        → length (first_colors palette.new.colors colors.new) ≡ palette.new.colors }
+        → length (take palette.new.colors colors.new) ≡ palette.new.colors }
     ensures witness_count { result ≡ 0
-        → length (first_colors palette.new.witnesses witnesses.new) ≡ palette.new.witnesses }
-    ensures colors_after { result ≡ 0
-        → drop palette.new.colors colors.new ≡ drop palette.new.colors colors.old }
+        → length (take palette.new.witnesses witnesses.new) ≡ palette.new.witnesses }
+    ensures colors_after { result ≡ 0 → IsSameAfter palette.new.colors colors.old colors.new }
     ensures witnesses_after { result ≡ 0
-        → drop palette.new.witnesses witnesses.new ≡ drop palette.new.witnesses witnesses.old }
-    ensures indices_after { result ≡ 0 → drop (length pixels.now / 4) indices.new
-        ≡ drop (length pixels.now / 4) indices.old }
+        → IsSameAfter palette.new.witnesses witnesses.old witnesses.new }
+    ensures indices_after { result ≡ 0
+        → IsSameAfter (length pixels.now / 4) indices.old indices.new }
     ensures no_colors { result ≢ 0 → colors.new ≡ colors.old }
     ensures no_witnesses { result ≢ 0 → witnesses.new ≡ witnesses.old }
     ensures no_indices { result ≢ 0 → indices.new ≡ indices.old }
@@ -147,8 +130,8 @@ pub fn buffers_code(bytes: usize, capacity: usize, colors: usize, indices: usize
 /// Writes a palette, its certificate and its indices to the starts of the buffers.
 fn write_choice(
     choice: &PaletteChoice,
-    colors: &mut [Color],
-    witnesses: &mut [Color],
+    colors: &mut [[u8; 3]],
+    witnesses: &mut [[u8; 3]],
     indices: &mut [u8],
 ) -> Palette
     requires colors { length choice.now.colors.items ≤ length colors.old }
@@ -156,32 +139,23 @@ fn write_choice(
     requires indices { length choice.now.indices.items ≤ length indices.old }
     ensures error { result.error ≡ choice.now.error }
     ensures color_count { result.colors ≡ length choice.now.colors.items }
-    ensures colors { first_colors result.colors colors.new ≡ choice.now.colors.items }
-    ensures colors_after { drop result.colors colors.new ≡ drop result.colors colors.old }
+    ensures colors { take result.colors colors.new ≡ choice.now.colors.items }
+    ensures colors_after { IsSameAfter result.colors colors.old colors.new }
     ensures witness_count { result.witnesses ≡ length choice.now.witnesses.items }
-    ensures witnesses { first_colors result.witnesses witnesses.new
+    ensures witnesses { take result.witnesses witnesses.new
         ≡ choice.now.witnesses.items }
-    ensures witnesses_after { drop result.witnesses witnesses.new
-        ≡ drop result.witnesses witnesses.old }
+    ensures witnesses_after { IsSameAfter result.witnesses witnesses.old witnesses.new }
     ensures indices { take (length choice.now.indices.items) indices.new
         ≡ choice.now.indices.items }
-    ensures indices_after { drop (length choice.now.indices.items) indices.new
-        ≡ drop (length choice.now.indices.items) indices.old }
+    ensures indices_after { IsSameAfter (length choice.now.indices.items)
+        indices.old indices.new }
 {
-    write_colors(colors, &choice.colors);
-    write_colors(witnesses, &choice.witnesses);
+    colors[..choice.colors.len()].copy_from_slice(&choice.colors);
+    witnesses[..choice.witnesses.len()].copy_from_slice(&choice.witnesses);
     indices[..choice.indices.len()].copy_from_slice(&choice.indices);
-    Palette::of(choice)
-}
-
-/// Writes colors to the start of a buffer.
-pub fn write_colors(buf: &mut [Color], colors: &[[u8; 3]])
-    requires { length colors.now ≤ length buf.old }
-    ensures colors { first_colors (length colors.now) buf.new ≡ colors.now }
-    ensures after { drop (length colors.now) buf.new ≡ drop (length colors.now) buf.old }
-{
-    for place in 0..colors.len() {
-        let [red, green, blue] = colors[place];
-        buf[place] = Color { red, green, blue };
+    Palette {
+        colors: choice.colors.len(),
+        witnesses: choice.witnesses.len(),
+        error: choice.error,
     }
 }

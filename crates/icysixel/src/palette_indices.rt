@@ -1,11 +1,12 @@
 //! The call that finds palette indices of pixels.
 
 ghost use Rattle.std.specs.Prelude.{◌≡◌, ◌≢◌, ◌/◌, ◌<◌, ◌≤◌, Some, None, true, false};
-ghost use Rattle.std.specs.Prelude.{drop, length, take};
+ghost use Rattle.std.specs.Prelude.{length, take};
 ghost use Rattle.sixel_base.specs.CallFault.{CallFault};
 ghost use Rattle.sixel_palette.specs.Dithering.{AreDithered, indices_fault};
 ghost use Rattle.icysixel.specs.Code.{IsCallCode};
 ghost use Rattle.icysixel.specs.Encodings.{is_kind, mapping_of};
+ghost use Rattle.icysixel.specs.RefinedOutput.{IsSameAfter};
 
 use crate::code::{Code, code_of};
 use crate::encoding::Dithering;
@@ -35,8 +36,7 @@ pub extern "C" fn icysixel_palette_indices(
         → result ≢ 0 → result ≡ 8 }
     ensures indices { result ≡ 0 → AreDithered (mapping_of dithering.now tolerance) width pixels.now
         colors.now (take (length pixels.now / 4) indices.new) }
-    ensures after { result ≡ 0 → drop (length pixels.now / 4) indices.new
-        ≡ drop (length pixels.now / 4) indices.old }
+    ensures after { result ≡ 0 → IsSameAfter (length pixels.now / 4) indices.old indices.new }
     ensures same { result ≢ 0 → indices.new ≡ indices.old }
 {
     if !dithering.is_kind() {

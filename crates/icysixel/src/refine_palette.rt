@@ -3,12 +3,10 @@
 ghost use Rattle.std.specs.Prelude.{◌≡◌, ◌≢◌, ◌/◌, ◌%◌, ◌<◌, ◌≤◌, Some, None, length, take};
 ghost use Rattle.sixel_base.specs.CallFault.{ColorCount, color_count_fault};
 ghost use Rattle.sixel_base.specs.Limits.{area_limit};
-ghost use Rattle.icysixel.specs.Colors.{first_colors};
 ghost use Rattle.icysixel.specs.RefinedOutput.{IsRefinedOutput, IsSameAfter, refined_room};
 
-use crate::choose_palette::{buffers_code, write_colors};
+use crate::choose_palette::buffers_code;
 use crate::code::{Code, code_of};
-use crate::registers::Color;
 use icy_sixel::{RefinedPalette, refine_palette};
 use std::alloc::Global;
 
@@ -26,7 +24,7 @@ pub extern "C" fn icysixel_refine_palette(
     alloc: Global,
     pixels: &[u8],
     max_colors: u16,
-    colors: &mut [Color],
+    colors: &mut [[u8; 3]],
     indices: &mut [u8],
     refined: &mut Refined,
 ) -> u32
@@ -74,18 +72,18 @@ pub extern "C" fn icysixel_refine_palette(
 }
 
 /// Writes a refined palette and its indices to the buffers.
-fn write_refined(palette: &RefinedPalette, colors: &mut [Color], indices: &mut [u8]) -> Refined
+fn write_refined(palette: &RefinedPalette, colors: &mut [[u8; 3]], indices: &mut [u8]) -> Refined
     requires colors { length palette.now.colors.items ≤ length colors.old }
     requires indices { length palette.now.indices.items ≤ length indices.old }
     ensures error { result.error ≡ palette.now.error }
-    ensures colors { first_colors result.colors colors.new ≡ palette.now.colors.items }
+    ensures colors { take result.colors colors.new ≡ palette.now.colors.items }
     ensures colors_after { IsSameAfter result.colors colors.old colors.new }
     ensures indices { take (length palette.now.indices.items) indices.new
         ≡ palette.now.indices.items }
     ensures indices_after { IsSameAfter (length palette.now.indices.items)
         indices.old indices.new }
 {
-    write_colors(colors, &palette.colors);
+    colors[..palette.colors.len()].copy_from_slice(&palette.colors);
     indices[..palette.indices.len()].copy_from_slice(&palette.indices);
     Refined {
         colors: palette.colors.len(),
