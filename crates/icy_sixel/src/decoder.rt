@@ -218,6 +218,7 @@ impl SixelDecoder {
     /// [`decode_from_dcs`](Self::decode_from_dcs), and
     /// [`SixelError::InvalidData`](crate::SixelError::InvalidData) for a header that is invalid or
     /// does not end. After an error the registers are unchanged.
+    #[tactic(auto, using(std::proofs::lemmas::Bool::Decides::nat_tests))]
     pub fn decode(&mut self, alloc: Global, bytes: &[u8]) -> Result<SixelImage>
         ensures decoded { IsDecoded image_value self.old (found bytes.now) result }
         ensures memory { IfOk result (λ image. vec_capacity image.pixels
@@ -303,6 +304,7 @@ impl SixelDecoder {
     ///   side above 1,000,000 or an area above [`pixel_limit`](Self::pixel_limit);
     /// - `IntegerOverflow` for more new lines than a row number can count;
     /// - `OutOfMemory` if an allocation fails.
+    #[tactic(auto, using(std::proofs::lemmas::Bool::Decides::nat_tests))]
     pub fn decode_from_dcs(
         &mut self,
         alloc: Global,

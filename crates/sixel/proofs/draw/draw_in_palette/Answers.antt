@@ -1,5 +1,4 @@
-use Rattle.std.proofs.Common.{◌∙◌, Ok, ap, arith, sym}
-use Rattle.std.proofs.lemmas.Bool.Decides.{nat_tests}
+use Rattle.std.proofs.Common.{◌∙◌, Ok, ap, sym}
 use Rattle.icy_sixel.specs.ImageView.{image_value}
 use Rattle.sixel.specs.Drawing.{Painting, painting_fault}
 use Rattle.sixel.proofs.Drawings.{both_read, no_call_fault}
@@ -16,6 +15,3 @@ returns c =
       no_call_fault (painting_fault painting) _ encoded.fault,
       encoded.text,
     )
-
-pub returns-in_err-text : goal.returns-in_err-text
-returns-in_err-text c = grind (arith, nat_tests)

@@ -52,9 +52,6 @@ returns-clause-one_string c = λ limit room.
     one_string-written Compact string_bytes _ limit _ _ (told c).refused (told c).bytes_of
     (told c).text room
 
-pub returns-clause-readable : goal.returns-clause-readable
-returns-clause-readable c = grind (arith, nat_tests)
-
 pub returns-clause-read_back : goal.returns-clause-read_back
 returns-clause-read_back c = λ decoder reads.
     read_back-written Compact string_bytes _ decoder _ _ (told c).refused (told c).bytes_of

@@ -8,21 +8,12 @@ use Rattle.icy_sixel.proofs.sixel_image.SixelImage.encode_refined.Goals as goal
 use Rattle.std.proofs.Common.{arith}
 use Rattle.std.proofs.lemmas.Bool.Decides.{nat_tests}
 
-pub returns-clause-fault : goal.returns-clause-fault
-returns-clause-fault c = grind (arith, nat_tests)
-
-pub returns-clause-text : goal.returns-clause-text
-returns-clause-text c = grind (arith, nat_tests)
-
 pub returns-clause-hidden : goal.returns-clause-hidden
 returns-clause-hidden c = λ other bytes same also.
     hidden-refined string_bytes c.encode_refined.result (image_value c.args.self.now) other
     c.args.max_colors c.args.mapping c.args.form bytes (color_count_fault c.args.max_colors)
-    (returns-clause-fault c)
+    (grind (arith, nat_tests))
     (subst (λ (image : Image).
     OnOk c.encode_refined.result (All (λ byte. byte < 256) image.pixels))
     c.source.ensures c.encode_refined.ensures.bytes)
-    (returns-clause-text c) (sym same) also
-
-pub returns-clause-readable : goal.returns-clause-readable
-returns-clause-readable c = grind (arith, nat_tests)
+    (grind (arith, nat_tests)) (sym same) also
