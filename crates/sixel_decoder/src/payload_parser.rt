@@ -85,6 +85,8 @@ impl<C: Canvas + Drop> PayloadParser<C> {
     }
 
     /// Reads a chunk up to its first terminator, which closes the open command.
+    ///
+    /// Sixels of eight bytes or more are drawn eight at once.
     #[tactic(auto, using(std::proofs::lemmas::Bool::Decides::nat_tests))]
     #[inline(always)]
     pub fn feed(&mut self, chunk: &[u8]) -> Result<SixelFeedResult>
@@ -93,7 +95,11 @@ impl<C: Canvas + Drop> PayloadParser<C> {
         ensures released { OnOk result
             (C.released self.new.painter.canvas ≡ C.released self.old.painter.canvas) }
     {
-        let read = self.try_front(chunk);
+        let read = if chunk.len() < 8 {
+            self.try_front(chunk)
+        } else {
+            0
+        };
         if read == chunk.len() {
             return Ok(SixelFeedResult {
                 consumed: read,
@@ -103,9 +109,7 @@ impl<C: Canvas + Drop> PayloadParser<C> {
         self.read_chunk(chunk, read)
     }
 
-    /// Reads bytes at the front of a short chunk that cannot fail, and returns how many.
-    ///
-    /// It reads none of eight bytes or more, because sixels are drawn eight at once.
+    /// Reads bytes at the front of a chunk that cannot fail, and returns how many.
     #[inline(always)]
     fn try_front(&mut self, chunk: &[u8]) -> usize
         ensures reaches { (o : Origin) (h : History) → Stands o self.old h
@@ -113,9 +117,6 @@ impl<C: Canvas + Drop> PayloadParser<C> {
         ensures released { C.released self.new.painter.canvas
             ≡ C.released self.old.painter.canvas }
     {
-        if chunk.len() >= 8 {
-            return 0;
-        }
         'front: for index in 0..chunk.len() {
             if !self.try_byte(chunk[index]) {
                 return index;

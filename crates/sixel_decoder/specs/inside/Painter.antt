@@ -1,14 +1,14 @@
 -- What the parts of a painter keep, in the words of the history that was read. An invariant of this
 -- library's own: the words are those of Place and Stroke of sixel_base, where DEC's manual gives
 -- the rules.
-use Rattle.std.specs.Prelude.{ℕ, ◌≡◌, ◌+◌, ◌*◌, ◌<◌, ◌≤◌, Bool, true, ◌-◌, MatchResult, Result}
-use Rattle.std.specs.Prelude.{None, is_none, [], ◌∷◌, ◌++◌, List, max, fold, take, slice_index}
+use Rattle.std.specs.Prelude.{ℕ, ◌≡◌, ◌+◌, ◌*◌, ◌<◌, ◌≤◌, Bool, true, MatchResult, Result}
+use Rattle.std.specs.Prelude.{None, is_none, [], ◌∷◌, ◌++◌, List, max}
 use Rattle.std.specs.Prelude.{min, ◌&&◌, if◌then◌else◌}
 use Rattle.sixel_base.specs.declared.error.SixelError.{SixelError}
 use Rattle.sixel_base.specs.Clip.{clipped_bits, clipped_pixel, is_pixel_inside}
 use Rattle.sixel_base.specs.DrawnHeight.{drawn_height, lowered, set_rows}
 use Rattle.sixel_base.specs.Fault.{Faults}
-use Rattle.sixel_base.specs.History.{History, Sixel, read}
+use Rattle.sixel_base.specs.History.{History}
 use Rattle.sixel_base.specs.Limits.{side_limit}
 use Rattle.sixel_base.specs.Payload.{first_fault, image_of}
 use Rattle.sixel_base.specs.Place.{span, across, down, width, height}
@@ -54,14 +54,6 @@ Draws result origin painter history may_want =
     MatchResult result
     (λ _. Shows origin painter history)
     (λ error. Faults error may_want (first_fault origin.pixel_limit history))
-
--- The first `drawn` bytes, sixels, were drawn, or the first of them is rejected by the first fault.
-abbrev pub DrawsFront : {C : Type 0} {canvas : Ghosts C} → Result ℕ SixelError → Origin
-    → Painter C canvas → History → List ℕ → Type 0
-DrawsFront result origin painter history bytes =
-    MatchResult result (λ drawn. Shows origin painter (fold read history (take drawn bytes)))
-    (λ error.
-    Faults error true (first_fault origin.pixel_limit (Sixel (slice_index bytes 0 - 63) ∷ history)))
 
 -- The second painter is the first with an image of at least `wide` columns and `high` rows, within
 -- the limits.

@@ -1,8 +1,7 @@
 //! How sixels at the front of a chunk are drawn, or ignored if the image is lenient.
 
-ghost use Rattle.std.specs.Prelude.{◌≡◌, ◌<◌, ◌≤◌, ◌+◌, ◌∷◌, true, [], ℕ, length};
-ghost use Rattle.std.specs.Prelude.{IfErr, IfOk, IsTrue, OnOk, slice_index};
-ghost use Rattle.sixel_base.specs.Fault.{is_fault};
+ghost use Rattle.std.specs.Prelude.{◌≡◌, ◌<◌, ◌≤◌, ◌+◌, ◌∷◌, [], ℕ, length};
+ghost use Rattle.std.specs.Prelude.{IfOk, IsTrue, OnOk, slice_index};
 ghost use Rattle.sixel_base.specs.History.{History, Repeat};
 ghost use Rattle.sixel_base.specs.Stroke.{Origin};
 ghost use Rattle.sixel_decoder.specs.inside.Lenient.{HasDrawn, ToleratesFront};
@@ -14,9 +13,12 @@ use sixel_base::Result;
 use sixel_canvas::drawing::Canvas;
 
 impl<C: Canvas + Drop> Painter<C> {
-    ghost use Rattle.sixel_decoder.specs.inside.Painter.{DrawsFront, Shows};
+    ghost use Rattle.sixel_decoder.specs.inside.Painter.{Shows};
 
     /// Draws or ignores sixels at the front of the bytes, one at least, and returns how many.
+    ///
+    /// Up to eight are drawn at once if they have one column each and lie inside the image and its
+    /// clip.
     #[inline(always)]
     pub fn draw_sixels(&mut self, bytes: &[u8], ignored: &mut u64) -> Result<usize>
         requires some { 0 < length bytes.now }
@@ -30,9 +32,24 @@ impl<C: Canvas + Drop> Painter<C> {
         ensures released { OnOk result
             (C.released self.new.canvas ≡ C.released self.old.canvas) }
     {
+        if bytes.len() >= 8 && self.is_single_above_bottom() {
+            let front = FrontSixels::of(bytes);
+            let len = front.len;
+            if len > 0 && self.column + len <= self.clipped_width {
+                self.ready = 0;
+                self.canvas
+                    .draw_eight(self.column, len, front.bits, self.color)?;
+                self.drawn.add_eight(front.bits);
+                self.column += len;
+                return Ok(len);
+            }
+        }
         let lenient = self.pixel_limit.lenient();
-        match self.draw_front(bytes) {
-            Ok(drawn) => Ok(drawn),
+        match self.draw(bytes[0] - 0x3f) {
+            Ok(()) => {
+                self.find_ready(bytes.len());
+                Ok(1)
+            }
             Err(error) => {
                 if lenient && error.is_fault() {
                     self.drop_repeat();
@@ -55,45 +72,6 @@ impl<C: Canvas + Drop> Painter<C> {
     {
         self.ready = 0;
         self.repeat = 1;
-    }
-
-    /// Draws sixels at the front of the bytes, one at least, and returns how many.
-    ///
-    /// Up to eight are drawn at once if they have one column each and lie inside the image and its
-    /// clip.
-    #[inline(always)]
-    fn draw_front(&mut self, bytes: &[u8]) -> Result<usize>
-        requires some { 0 < length bytes.now }
-        requires sixel { IsSixelByte (slice_index bytes.now 0) }
-        ensures some { IfOk result (λ drawn. 0 < drawn) }
-        ensures within { IfOk result (λ drawn. drawn ≤ length bytes.now) }
-        ensures sixels { IfOk result (λ drawn. (k : ℕ) → k < drawn
-            → IsSixelByte (slice_index bytes.now k)) }
-        ensures draws { (o : Origin) (h : History) → Shows o self.old h
-            → DrawsFront result o self.new h bytes.now }
-        ensures kept { IfErr result (λ error. is_fault error ≡ true → self.new ≡ self.old) }
-        ensures released { OnOk result
-            (C.released self.new.canvas ≡ C.released self.old.canvas) }
-    {
-        if bytes.len() >= 8 && self.is_single_above_bottom() {
-            let front = FrontSixels::of(bytes);
-            let len = front.len;
-            if len > 0 && self.column + len <= self.clipped_width {
-                self.ready = 0;
-                self.canvas
-                    .draw_eight(self.column, len, front.bits, self.color)?;
-                self.drawn.add_eight(front.bits);
-                self.column += len;
-                return Ok(len);
-            }
-        }
-        match self.draw(bytes[0] - 0x3f) {
-            Ok(()) => {
-                self.find_ready(bytes.len());
-                Ok(1)
-            }
-            Err(error) => Err(error),
-        }
     }
 
     /// Whether the next sixel has one column and does not pass the bottom of the clipped image.

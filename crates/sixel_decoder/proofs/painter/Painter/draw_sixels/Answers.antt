@@ -1,12 +1,51 @@
-use Rattle.std.proofs.Common.{◌≡◌, true, sym, ◌∙◌}
+use Rattle.std.proofs.Common.{◌≡◌, ℕ, ◌+◌, ◌≤◌, List, length, take, true, refl, sym, ap, ◌∙◌, arith}
+use Rattle.std.specs.Prelude.{fold}
 use Rattle.sixel_base.specs.Fault.{is_fault}
+use Rattle.sixel_base.specs.History.{History, read}
+use Rattle.sixel_base.specs.Lenient.{effective}
 use Rattle.sixel_decoder.proofs.drawing.LenientTokens.{has_drawn_front, has_drawn_ignored}
+use Rattle.sixel_decoder.proofs.drawing.LenientTokens.{has_drawn_more}
+use Rattle.sixel_decoder.proofs.drawing.PaintedRuns.{Shows-eight}
+use Rattle.sixel_decoder.proofs.drawing.SixelRuns.{IsRun-take, fold_one, fold_run, length-front}
+use Rattle.sixel_decoder.proofs.drawing.SixelRuns.{length-bits_of, with_sixels}
 use Rattle.sixel_decoder.proofs.painter.Painter.draw_sixels.Goals as goal
+
+pub returns-then-self-len-clause-tolerates : goal.returns-then-self-len-clause-tolerates
+returns-then-self-len-clause-tolerates g c = λ o h state.
+    let old = c.args.self.now in
+    let bytes : List ℕ = c.args.bytes.now in
+    let older : History = effective o.pixel_limit h in
+    let len : ℕ = c.of-front.result.len in
+    let eight : List ℕ = c.of-front.result.bits in
+    let front = c.of-front.ensures in
+    let single = c.is_single_above_bottom.ensures in
+    let drawn = c.in_ok-draw_eight.ensures in
+    let within : len ≤ length bytes = omega (arith, front.few, c.if-bytes-ge8.true) in
+    let sixels : List ℕ = take len eight in
+    let long : length sixels ≡ len =
+    ap length front.bits ∙ length-bits_of (take len bytes)
+    ∙ length-front (take len bytes) bytes len refl within in
+    let whole : fold read older (take len bytes) ≡ with_sixels older sixels =
+    fold_run older (take len bytes) (IsRun-take len bytes within front.sixels)
+    ∙ ap (with_sixels older) (sym front.bits) in
+    has_drawn_front o _ _ h len bytes within front.sixels
+    (Shows-eight o older (fold read older (take len bytes)) old _ sixels eight whole state.shows
+    (single.single c.if-is_single_above_bottom.true)
+    (omega (arith, long, c.if-self-len.true))
+    (single.above_bottom c.if-is_single_above_bottom.true)
+    (omega (arith, long, front.few))
+    (ap (λ (n : ℕ). take n eight) long)
+    (λ k past. front.blank k (omega (arith, past, long)))
+    drawn.drawn drawn.paid drawn.top c.add_eight.ensures refl refl refl
+    (ap (λ (n : ℕ). old.column + n) (sym long))
+    refl refl refl refl refl refl refl)
+    state.count
 
 pub returns-in-Ok-clause-tolerates : goal.returns-in-Ok-clause-tolerates
 returns-in-Ok-clause-tolerates g c = λ o h state.
-    let is = c.in-Ok.ensures in
-    has_drawn_front o _ _ h _ _ is.within is.sixels (is.draws o _ state.shows) state.count
+    rw (fold_one h c.args.bytes.now c.requires.some c.requires.sixel)
+    (has_drawn_more o _ _ _ h
+    (c.find_ready.ensures.shows o _ (c.in-Ok.ensures.draws o _ state.shows)) state.count)
 
 pub returns-then-is_fault-clause-tolerates : goal.returns-then-is_fault-clause-tolerates
 returns-then-is_fault-clause-tolerates g c = λ o h state.
