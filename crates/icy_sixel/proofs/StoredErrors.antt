@@ -3,12 +3,14 @@
 use Rattle.std.proofs.Common.{◌≡◌, ◌≢◌, ℕ, Bool, true, false, List, [], ◌∷◌, None, Some, Option}
 use Rattle.std.proofs.Common.{Ok, Err}
 use Rattle.std.proofs.Common.{arith, refl}
-use Rattle.std.specs.Prelude.{MatchBool, if◌then◌else◌}
+use Rattle.std.specs.Option.{option_map}
+use Rattle.std.specs.Prelude.{MatchBool, if◌then◌else◌, is_some}
 use Rattle.std.proofs.lemmas.Bool.Decides.{nat_tests}
 use Rattle.sixel_base.specs.Fault.{Fault, Faults, Incomplete, IsFault, MissingCommand}
 use Rattle.sixel_base.specs.Dcs.{Introduced, Waiting, Absent, Entered, can_finish, introduced}
 use Rattle.sixel_base.specs.Dcs.{stage_after, stage_by, stage_fault}
-use Rattle.sixel_base.specs.Header.{Headed, Open, Begun, Faulty, headed, headed_by, header_rest}
+use Rattle.sixel_base.specs.Header.{Headed, Begun, Faulty, headed, headed_by, header_rest}
+use Rattle.sixel_base.specs.Header as headers
 use Rattle.sixel_base.specs.History.{History, Token, history_of}
 use Rattle.sixel_base.specs.Limits.{Limit}
 use Rattle.sixel_base.specs.Bytes.{front}
@@ -19,7 +21,18 @@ use Rattle.sixel_decoder.specs.FinishedImages.{IsAgain, IsStored, end_fault, fai
 use Rattle.sixel_decoder.specs.Reception.{Form, HasNoPayload, IsPayloadOf, Nothing, OfPayload}
 use Rattle.sixel_decoder.specs.Reception.{OfString, Reception}
 use Rattle.sixel_decoder.specs.Session.{Session}
+use Rattle.sixel_decoder.specs.declared.received.FailedRead.{FailedRead}
 use Rattle.sixel_decoder.specs.declared.received.Received.{Received}
+use Rattle.icy_sixel.specs.Receiver.{AreSettingsKept}
+use Rattle.icy_sixel.specs.ReceiverCalls.{IsCounted}
+use Rattle.icy_sixel.specs.ReceiverCalls as receivers
+use Rattle.icy_sixel.specs.declared.receiver.FailedFeed.{FailedFeed}
+use Rattle.icy_sixel.specs.declared.receiver.Open.{Open}
+use Rattle.icy_sixel.specs.declared.receiver.Open.TheVariants as opened
+use Rattle.icy_sixel.specs.declared.receiver.SixelReceiver.TheInside.{Inside}
+use Rattle.icy_sixel.specs.declared.receiver.failure.Failure.{Failure}
+use Rattle.icy_sixel.specs.inside.Receiving.{IsFirst, StoresFailure, receiver_of, reception_of}
+use Rattle.icy_sixel.specs.inside.Receiving as receiving
 
 -- the payload of the image, or that it has none
 pub lent_stored : (payload : Session) (image : Reception) (failure : Option (Option Fault))
@@ -36,11 +49,11 @@ pub fed_ok : (old new : Reception) (failure : Option (Option Fault)) (chunk : Li
     → IsFed (record old { failure = failure }) (record new { failure = failure }) chunk (Ok fed)
 fed_ok old new failure chunk fed is = grind (arith, nat_tests)
 
--- one that fails, of an image that had not failed or had
-first_err : (old new : Reception) (failure now : Option (Option Fault)) (chunk : List ℕ)
-    (error : SixelError) → IsFed old new chunk (Err error) → old.is_refused ≡ false
-    → IsFed (record old { failure = failure }) (record new { failure = now }) chunk (Err error)
-first_err old new failure now chunk error is accepted = grind (arith, nat_tests)
+-- one that fails, of an image that stored no error or did
+first_err : (old new : Reception) (now : Option (Option Fault)) (chunk : List ℕ)
+    (error : SixelError) → old.failure ≡ None → IsFed old new chunk (Err error)
+    → IsFed (record old { failure = None }) (record new { failure = now }) chunk (Err error)
+first_err old new now chunk error none is = grind (arith, nat_tests)
 
 again_err : (old new : Reception) (failure now : Option (Option Fault)) (chunk : List ℕ)
     (told error : SixelError) → IsFed old new chunk (Err told) → old.is_refused ≡ true
@@ -75,7 +88,7 @@ headed_other (byte ∷ rest) = grind (arith, nat_tests)
 
 after_other : (limit : Limit) (rest : List ℕ) (head : Headed) → head ≢ Faulty MissingCommand
     → stage_fault limit (stage_after rest head) ≢ Some MissingCommand
-after_other limit rest Open other = grind (arith, nat_tests)
+after_other limit rest headers.Open other = grind (arith, nat_tests)
 after_other limit rest (Begun payload) other =
     branch_other limit.lenient _ (payload_other limit (settled payload))
 after_other limit rest (Faulty fault) other = grind (arith, nat_tests)
@@ -103,36 +116,55 @@ end_other limit (OfPayload settings) bytes =
 end_other limit OfString bytes =
     branch_other (can_finish limit bytes) (Some Incomplete) (grind (arith, nat_tests))
 
--- the stored error is returned again
-error_stored : (was_refused may : Bool) (failure now : Option (Option Fault)) (form : Form)
+-- the error is stored
+error_stored : (was_refused may : Bool) (now : Option (Option Fault)) (form : Form)
     (found : Option Fault) (error : SixelError)
     → ((may : Bool) (found : Option Fault) → found ≢ Some MissingCommand → Faults error may found
     → IsStored now error) → found ≢ Some MissingCommand
-    → MatchBool was_refused (IsAgain failure form error) (Faults error may found)
+    → MatchBool was_refused (IsFault error (failed form)) (Faults error may found)
     → IsStored now error
-error_stored true may None now form found error stored other is =
+error_stored true may now form found error stored other is =
     stored false (Some (failed form)) (grind (arith, nat_tests)) (fault_told error (failed form) is)
-error_stored true may (Some fault) now form found error stored other is = stored _ fault is.1 is.0
-error_stored false may failure now form found error stored other is = stored may found other is
+error_stored false may now form found error stored other is = stored may found other is
 
-pub fed_err : (old new : Reception) (failure now : Option (Option Fault)) (chunk : List ℕ)
-    (told error : SixelError) → old.failure ≡ None → IsFed old new chunk (Err told)
-    → (old.is_refused ≡ true → IsAgain None old.form told → IsAgain failure old.form error)
-    → (old.is_refused ≡ false → error ≡ told)
-    → ((may : Bool) (found : Option Fault) → found ≢ Some MissingCommand → Faults error may found
-    → IsStored now error)
-    → IsFed (record old { failure = failure }) (record new { failure = now }) chunk (Err error)
-    × IsStored now error
-fed_err old new failure now chunk told error none is again first stored =
-    let fed : IsFed (record old { failure = failure }) (record new { failure = now }) chunk
-    (Err error) = (elim old.is_refused as (λ b. old.is_refused ≡ b
-    → IsFed (record old { failure = failure }) (record new { failure = now }) chunk (Err error)) [
-      | true ↦ λ refused. again_err old new failure now chunk told error is refused
-          (again refused (rw (refused, none) at is.error))
-      | false ↦ λ accepted. rw (first accepted)
-          (first_err old new failure now chunk told is accepted)
-    ]) refl in (
-      fed,
-      error_stored old.is_refused _ failure now old.form _ error stored
-          (feed_other old.start.pixel_limit new.form new.bytes) fed.error,
+fed_err : (old new : Reception) (failure now : Option Failure) (chunk : List ℕ)
+    (told : FailedRead) (result : FailedFeed) → old.failure ≡ None
+    → IsFed old new chunk (Err told.error)
+    → (is_some failure ≡ true → old.is_refused ≡ true) → IsFirst failure now told result
+    → IsFed (record old { failure = option_map receiving.fault_of failure })
+    (record new { failure = option_map receiving.fault_of now }) chunk (Err result.error)
+    × IsStored (option_map receiving.fault_of now) result.error
+fed_err old new None now chunk told result none is rejected first = rw (first.first refl) (
+  first_err old new _ chunk told.error none is,
+  error_stored old.is_refused _ _ old.form _ told.error (λ may found. first.stored may found refl)
+      (feed_other old.start.pixel_limit new.form new.bytes) (rw none at is.error),
+)
+fed_err old new (Some fault) now chunk told result none is rejected first =
+    let same = first.again refl in (
+      again_err old new _ _ chunk told.error result.error is (rejected refl) same.1,
+      rw same.0 same.1,
     )
+
+no_failure : (image : Open) → (reception_of image).failure ≡ None
+no_failure opened.Nothing = refl
+no_failure (opened.Payload reader) = refl
+no_failure (opened.ControlString reader) = refl
+
+-- what a feed of a receiver that fails does
+pub fed_failed : (old new : Inside) (chunk : List ℕ) (told : FailedRead) (result : FailedFeed)
+    → new.decoder ≡ old.decoder → AreSettingsKept (receiver_of old) (receiver_of new)
+    → StoresFailure old
+    → IsFed (reception_of old.open) (reception_of new.open) chunk (Err told.error)
+    → IsCounted (reception_of old.open) (reception_of new.open) chunk told.fed
+    → IsFirst old.failure new.failure told result
+    → receivers.IsFed (receiver_of old) (receiver_of new) chunk (Err result)
+fed_failed old new chunk told result decoder settings rejected is counted first =
+    let fed = fed_err (reception_of old.open) (reception_of new.open) old.failure new.failure chunk
+    told result (no_failure old.open) is rejected first in
+    record {
+      decoder = decoder;
+      settings = settings;
+      fed = fed.0;
+      failure = fed.1;
+      counted = rw (first.consumed, first.status) counted;
+    }

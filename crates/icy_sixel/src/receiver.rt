@@ -25,14 +25,14 @@ mod settings;
 use crate::decoder::{DcsSettings, SixelDcsFeedStatus, SixelDecoder, SixelFeedStatus};
 use crate::script::Status;
 use crate::sixel_image::SixelImage;
-use failure::{Failure, first_error, stored_error};
+use failure::{Failure, first_failed};
 pub use received_image::{Height, ReceivedImage};
 pub use rows::{BandStatus, ReceivedBand, band_len, stable_rows};
 use sixel_base::state::DecoderState;
 use sixel_base::{Result, SixelError};
 use sixel_canvas::band_canvas::BandCanvas;
 pub use sixel_decoder::Received;
-use sixel_decoder::{DcsReader, PayloadReader};
+use sixel_decoder::{DcsReader, FailedRead, PayloadReader};
 use std::alloc::Global;
 use std::marker::Model;
 use std::{mem, result};
@@ -96,9 +96,11 @@ impl Model for SixelReceiver {
 
     ghost Value = { Receiver };
 
-    ghost use Rattle.icy_sixel.specs.inside.Receiving.{receiver_of};
+    ghost use Rattle.icy_sixel.specs.inside.Receiving.{receiver_of, StoresFailure};
 
     ghost view = { receiver_of };
+
+    ghost invariant = { StoresFailure };
 }
 
 impl SixelReceiver {
@@ -184,45 +186,24 @@ impl SixelReceiver {
     pub fn feed(&mut self, piece: &[u8]) -> result::Result<Received, FailedFeed>
         ensures { IsFed self.old self.new piece.now result }
     {
-        match &mut self.open {
-            Open::Nothing => {
-                let mut error = SixelError::stream_failed();
-                stored_error(&mut self.failure, true, &mut error);
-                Err(FailedFeed {
+        let failed = match &mut self.open {
+            Open::Nothing => FailedRead {
+                fed: Received {
                     consumed: 0,
                     status: Status::Payload(SixelFeedStatus::NeedMoreData),
-                    error,
-                })
-            }
-            Open::Payload(reader) => {
-                let has_failed = reader.has_failed();
-                match reader.feed(piece) {
-                    Ok(fed) => Ok(Received::of_payload(fed)),
-                    Err(mut failed) => {
-                        stored_error(&mut self.failure, has_failed, &mut failed.error);
-                        Err(FailedFeed {
-                            consumed: failed.fed.consumed,
-                            status: failed.fed.status,
-                            error: failed.error,
-                        })
-                    }
-                }
-            }
-            Open::ControlString(reader) => {
-                let has_failed = reader.has_failed();
-                match reader.feed(piece) {
-                    Ok(fed) => Ok(Received::of_sequence(fed)),
-                    Err(mut failed) => {
-                        stored_error(&mut self.failure, has_failed, &mut failed.error);
-                        Err(FailedFeed {
-                            consumed: failed.fed.consumed,
-                            status: failed.fed.status,
-                            error: failed.error,
-                        })
-                    }
-                }
-            }
-        }
+                },
+                error: SixelError::stream_failed(),
+            },
+            Open::Payload(reader) => match reader.feed(piece) {
+                Ok(fed) => return Ok(Received::of_payload(fed)),
+                Err(failed) => failed,
+            },
+            Open::ControlString(reader) => match reader.feed(piece) {
+                Ok(fed) => return Ok(Received::of_sequence(fed)),
+                Err(failed) => failed,
+            },
+        };
+        Err(first_failed(&mut self.failure, failed))
     }
 
     /// Reads a byte of the payload that cannot fail, and returns the result of its feed.
@@ -271,7 +252,6 @@ impl SixelReceiver {
     {
         let failure = self.failure.take();
         let open = mem::replace(&mut self.open, Open::Nothing);
-        let has_failed = open.has_failed();
         let picture = match open {
             Open::Nothing => Err(SixelError::stream_failed()),
             Open::Payload(reader) => reader.finish(),
@@ -282,10 +262,10 @@ impl SixelReceiver {
                 self.decoder.state.registers = picture.registers;
                 Ok(ReceivedImage::from_picture(picture))
             }
-            Err(mut error) => {
-                first_error(failure, has_failed, &mut error);
-                Err(error)
-            }
+            Err(error) => match failure {
+                Some(first) => Err(first.error()),
+                None => Err(error),
+            },
         }
     }
 

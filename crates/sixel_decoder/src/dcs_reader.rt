@@ -117,13 +117,6 @@ impl<C: Canvas + Drop> DcsReader<C> {
         }
     }
 
-    /// Whether a feed has failed.
-    pub fn has_failed(&self) -> bool
-        ensures { result ≡ self.now.is_refused }
-    {
-        matches!(self.parser.state, DcsState::Failed)
-    }
-
     /// Returns the rows of the image that are left, and the registers after it.
     ///
     /// The DCS sequence has ended, or is lenient.

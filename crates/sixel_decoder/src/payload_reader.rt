@@ -185,13 +185,6 @@ impl<C: Canvas + Drop> PayloadReader<C> {
         }
     }
 
-    /// Whether a feed has failed.
-    pub fn has_failed(&self) -> bool
-        ensures { result ≡ self.now.is_refused }
-    {
-        matches!(self.state, PayloadState::Failed)
-    }
-
     /// Returns the rows of the image that are left, and the registers after it.
     pub fn finish(self) -> Result<DecodedPayload>
         ensures { IsTaken (of_payload self) result }

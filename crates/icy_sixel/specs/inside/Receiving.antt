@@ -1,12 +1,15 @@
 -- What contracts see of a receiver, by its parts: the record of the session inside, in the words of
 -- both forms, and the error that is stored. This library's own.
-use Rattle.std.specs.Prelude.{Option, Some, None}
+use Rattle.std.specs.Prelude.{◌≡◌, ◌≢◌, Bool, true, Option, Some, None, is_some}
 use Rattle.std.specs.Option.{option_map}
-use Rattle.sixel_base.specs.Fault.{Fault, Malformed, TooLarge, BadHeader}
+use Rattle.sixel_base.specs.Fault.{Fault, Faults, Malformed, MissingCommand, TooLarge, BadHeader}
 use Rattle.sixel_base.specs.Fault.{StreamFailed, DcsStreamFailed, Incomplete, NoIntroducer}
 use Rattle.sixel_base.specs.Fault.{Overflow}
+use Rattle.sixel_decoder.specs.FinishedImages.{IsStored}
 use Rattle.sixel_decoder.specs.Reception.{Reception, of_payload, of_sequence}
+use Rattle.sixel_decoder.specs.declared.received.FailedRead.{FailedRead}
 use Rattle.icy_sixel.specs.Receiver.{Receiver, no_image}
+use Rattle.icy_sixel.specs.declared.receiver.FailedFeed.{FailedFeed}
 use Rattle.icy_sixel.specs.declared.receiver.Open.{Open}
 use Rattle.icy_sixel.specs.declared.receiver.Open.TheVariants as opened
 use Rattle.icy_sixel.specs.declared.receiver.SixelReceiver.TheInside.{Inside}
@@ -38,3 +41,19 @@ receiver_of receiver = record {
   first_register = receiver.first_register;
   image = record (reception_of receiver.open) { failure = option_map fault_of receiver.failure };
 }
+
+-- an error is stored for a rejected image alone
+abbrev pub StoresFailure : Inside → Type 0
+StoresFailure receiver =
+    is_some receiver.failure ≡ true → (reception_of receiver.open).is_refused ≡ true
+
+-- The result is a failed feed with the error of the first one, which is stored.
+pub record IsFirst (old now : Option Failure) (failed : FailedRead) (result : FailedFeed)
+    : Type 0 where
+  pub consumed : result.consumed ≡ failed.fed.consumed
+  pub status : result.status ≡ failed.fed.status
+  pub again : is_some old ≡ true
+      → (now ≡ old) × IsStored (option_map fault_of old) result.error
+  pub first : old ≡ None → result.error ≡ failed.error
+  pub stored : (may : Bool) (found : Option Fault) → old ≡ None → found ≢ Some MissingCommand
+      → Faults failed.error may found → IsStored (option_map fault_of now) failed.error

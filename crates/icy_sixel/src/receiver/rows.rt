@@ -193,17 +193,6 @@ impl Open {
         }
     }
 
-    /// Whether a feed has failed, or nothing is open.
-    pub(super) fn has_failed(&self) -> bool
-        ensures { result ≡ (reception_of self.now).is_refused }
-    {
-        match self {
-            Open::Nothing => true,
-            Open::Payload(reader) => reader.has_failed(),
-            Open::ControlString(reader) => reader.has_failed(),
-        }
-    }
-
     /// Releases the rows above row `rows`, which are final.
     fn release_rows(&mut self, rows: usize)
         requires { rows ≤ rows_so_far (reception_of self.old) }

@@ -1,7 +1,7 @@
 -- What the parts of a painter keep, in the words of the history that was read. An invariant of this
 -- library's own: the words are those of Place and Stroke of sixel_base, where DEC's manual gives
 -- the rules.
-use Rattle.std.specs.Prelude.{ℕ, ◌≡◌, ◌+◌, ◌*◌, ◌<◌, ◌≤◌, Bool, true, MatchResult, Result}
+use Rattle.std.specs.Prelude.{ℕ, ◌≡◌, ◌+◌, ◌*◌, ◌<◌, ◌≤◌, Bool, MatchResult, Result}
 use Rattle.std.specs.Prelude.{None, is_none, [], ◌∷◌, ◌++◌, List, max}
 use Rattle.std.specs.Prelude.{min, ◌&&◌, if◌then◌else◌}
 use Rattle.sixel_base.specs.declared.error.SixelError.{SixelError}

@@ -1,38 +1,10 @@
-use Rattle.std.proofs.Common.{Err, refl, rules}
-use Rattle.sixel_decoder.specs.FedImages.{IsFed}
-use Rattle.icy_sixel.specs.Receiver.{no_image}
+use Rattle.std.proofs.Common.{ℕ, List, refl, rules}
 use Rattle.icy_sixel.proofs.Chunks.{fed_counted}
-use Rattle.icy_sixel.proofs.StoredErrors.{fed_err, fed_ok}
+use Rattle.icy_sixel.proofs.StoredErrors.{fed_failed, fed_ok}
+use Rattle.icy_sixel.specs.declared.receiver.SixelReceiver.TheInside.{Inside}
 use Rattle.icy_sixel.proofs.receiver.SixelReceiver.feed.Goals as goal
-
-pub returns-in-Nothing : goal.returns-in-Nothing
-returns-in-Nothing c =
-    let is : IsFed no_image no_image c.args.piece.now (Err c.stream_failed-error.result) =
-    search rules in
-    let stored = c.stored_error.ensures in
-    rw (← c.self.view_is, c.in-Nothing.is)
-    (let fed = fed_err no_image no_image _ _ c.args.piece.now c.stream_failed-error.result _ refl is
-    (stored.again _) stored.first stored.stored in
-    record {
-      decoder = refl;
-      settings = (refl, refl, refl);
-      fed = fed.0;
-      failure = fed.1;
-      counted = search rules;
-    })
-
-pub returns-in-Err : goal.returns-in-Err
-returns-in-Err c =
-    let stored = rw c.has_failed-has_failed.ensures at c.stored_error-in-Err.ensures in
-    let fed = fed_err _ _ _ _ c.args.piece.now c.in-Err.failed.error _ refl
-    c.in-Err.ensures.fed.fed (stored.again _) stored.first stored.stored in
-    rw (← c.self.view_is, c.in-Payload.is) (record {
-      decoder = refl;
-      settings = (refl, refl, refl);
-      fed = fed.0;
-      failure = fed.1;
-      counted = c.in-Err.ensures.counted;
-    })
+use Rattle.icy_sixel.proofs.receiver.SixelReceiver.feed.Goals.{in-Nothing, in-Payload+in-Err}
+use Rattle.icy_sixel.proofs.receiver.SixelReceiver.feed.Goals.{in-ControlString+in-Err-feed}
 
 pub returns-in-Ok-feed : goal.returns-in-Ok-feed
 returns-in-Ok-feed c =
@@ -45,16 +17,29 @@ returns-in-Ok-feed c =
       counted = fed_counted _ _ c.args.piece.now _ fed;
     })
 
-pub returns-in-Err-feed : goal.returns-in-Err-feed
-returns-in-Err-feed c =
-    let stored = rw c.has_failed-has_failed-in-ControlString.ensures
-    at c.stored_error-in-Err-feed.ensures in
-    let fed = fed_err _ _ _ _ c.args.piece.now c.in-Err-feed.failed.error _ refl
-    c.in-Err-feed.ensures.fed (stored.again _) stored.first stored.stored in
-    rw (← c.self.view_is, c.in-ControlString.is) (record {
-      decoder = refl;
-      settings = (refl, refl, refl);
-      fed = fed.0;
-      failure = fed.1;
-      counted = c.in-Err-feed.ensures.counted;
-    })
+pub returns : goal.returns
+returns c =
+    let old : Inside = c.self.inside in
+    let new : Inside =
+    record c.match-self.self-inside { failure = c.first_failed.new.failure } in
+    let piece : List ℕ = c.args.piece.now in
+    rw (← c.self.view_is) (elim c.match-self.branch [
+      | in-Nothing w ↦
+          fed_failed old new piece c.match-self.failed _ (rw w.self-inside-is refl)
+          (rw w.self-inside-is (refl, refl, refl)) c.self.invariant
+          (rw (w.self-inside-is, w.in-Nothing.is, w.failed-is) (search rules))
+          (rw (w.self-inside-is, w.in-Nothing.is, w.failed-is) (search rules))
+          (rw w.self-inside-is at c.first_failed.ensures)
+      | in-Payload+in-Err w ↦
+          fed_failed old new piece c.match-self.failed _ (rw w.self-inside-is refl)
+          (rw w.self-inside-is (refl, refl, refl)) c.self.invariant
+          (rw (w.self-inside-is, w.in-Payload.is, w.failed-is) w.in-Err.ensures.fed.fed)
+          (rw (w.self-inside-is, w.in-Payload.is, w.failed-is) w.in-Err.ensures.counted)
+          (rw w.self-inside-is at c.first_failed.ensures)
+      | in-ControlString+in-Err-feed w ↦
+          fed_failed old new piece c.match-self.failed _ (rw w.self-inside-is refl)
+          (rw w.self-inside-is (refl, refl, refl)) c.self.invariant
+          (rw (w.self-inside-is, w.in-ControlString.is, w.failed-is) w.in-Err-feed.ensures.fed)
+          (rw (w.self-inside-is, w.in-ControlString.is, w.failed-is) w.in-Err-feed.ensures.counted)
+          (rw w.self-inside-is at c.first_failed.ensures)
+    ])
