@@ -6,9 +6,6 @@ ghost use Rattle.sixel_decoder.specs.inside.Runs.{IsSixelByte, bits_of};
 
 use std::simd::prelude::*;
 
-/// How many bytes are compared at once.
-const LANES: usize = 8;
-
 /// Sixels of one column each: their number, and the bits of eight of them.
 ///
 /// Past the last one they are blank.
@@ -29,28 +26,13 @@ impl FrontSixels {
         ensures blank { (k : ℕ) → result.len ≤ k → slice_index_or result.bits k 0 ≡ 0 }
         ensures six { (k : ℕ) → slice_index_or result.bits k 0 < 64 }
     {
-        let len = sixels_in_lanes(bytes);
+        let lanes = u8x8::from_slice(bytes) - u8x8::splat(0x3f);
+        let others = lanes.simd_gt(u8x8::splat(0x3f)).to_bitmask();
+        let len = (others.trailing_zeros() as usize).min(8);
         let front = u8x8::from_array([0, 1, 2, 3, 4, 5, 6, 7]).simd_lt(u8x8::splat(len as u8));
-        let bits = front.select(u8x8::from_slice(bytes) - u8x8::splat(0x3f), u8x8::splat(0));
         FrontSixels {
             len,
-            bits: bits.to_array(),
+            bits: front.select(lanes, u8x8::splat(0)).to_array(),
         }
-    }
-}
-
-/// Returns how many of eight bytes are sixels, up to the first one that is none.
-#[inline(always)]
-fn sixels_in_lanes(bytes: &[u8]) -> usize
-    requires { 8 ≤ length bytes.now }
-    ensures few { result ≤ 8 }
-    ensures sixels { (k : ℕ) → k < result → IsSixelByte (slice_index bytes.now k) }
-{
-    let lanes = u8x8::from_slice(bytes) - u8x8::splat(0x3f);
-    let others = lanes.simd_gt(u8x8::splat(0x3f)).to_bitmask();
-    if others == 0 {
-        LANES
-    } else {
-        others.trailing_zeros() as usize
     }
 }

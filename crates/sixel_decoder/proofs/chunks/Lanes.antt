@@ -1,12 +1,13 @@
 -- From the mask of eight bytes to how many of the first ones are sixels.
 use Rattle.std.proofs.Common.{◌≡◌, ◌≢◌, ℕ, ◌+◌, ◌-◌, ◌%◌, ◌<◌, ◌≤◌, Bool, false, not, cond, List}
-use Rattle.std.proofs.Common.{map, length, get_or, replicate, w8, ap, sym, ◌∙◌, arith}
-use Rattle.std.specs.Prelude.{nat_lt}
+use Rattle.std.proofs.Common.{map, length, get_or, replicate, w8, ap, sym, ◌∙◌, ⊎_elim, arith}
+use Rattle.std.specs.Prelude.{min, nat_lt}
 use Rattle.std.specs.List.{prefix_len}
+use Rattle.std.proofs.lemmas.Bool.{cases_lt}
 use Rattle.std.proofs.lemmas.Bool.Decides.{nat_tests}
 use Rattle.std.proofs.lemmas.List.{length-map}
 use Rattle.std.proofs.lemmas.Simd.{length-chunk, map-map, mask_l-mod, none_from_empty_mask}
-use Rattle.std.proofs.lemmas.Simd.{run_in_chunk_le, run_in_chunk_fails, tops_compared}
+use Rattle.std.proofs.lemmas.Simd.{run_in_chunk_fails, tops_compared}
 use Rattle.std.proofs.lemmas.Simd.{trailing_mask_l, zip2_splat, zip2_splat_left}
 use lib.Count.{count_trailing_zeros}
 use lib.Lanes.{chunk, zip2, mask_l, top}
@@ -40,36 +41,32 @@ mask_is bytes at room =
 sixel_from : (byte : ℕ) → byte < 256 → is_other byte ≡ false → IsSixelByte byte
 sixel_from byte fits h = (grind (arith, nat_tests, fits, h), grind (arith, nat_tests, fits, h))
 
-module _ (bytes : List ℕ) (at mask : ℕ) (room : at + 8 ≤ length bytes)
+module _ (bytes : List ℕ) (mask : ℕ) (room : 8 ≤ length bytes)
     (fits : (k : ℕ) → get_or bytes k 0 < 256)
-    (is : mask ≡ mask_l (map is_other (chunk at 8 bytes))) where
+    (is : mask ≡ mask_l (map is_other (chunk 0 8 bytes))) where
   -- with no bit all eight are sixels
-  pub all_sixels : mask ≡ 0 → (k : ℕ) → at ≤ k → k < at + 8 → IsSixelByte (get_or bytes k 0)
-  all_sixels none k from to =
+  all_sixels : mask ≡ 0 → (k : ℕ) → k < 8 → IsSixelByte (get_or bytes k 0)
+  all_sixels none k lt =
       sixel_from (get_or bytes k 0) (fits k)
-      (none_from_empty_mask is_other bytes at 8 0 room (sym is ∙ none) k from to)
+      (none_from_empty_mask is_other bytes 0 8 0 room (sym is ∙ none) k (omega arith) lt)
 
   -- otherwise those below the lowest bit are
   counted : mask ≢ 0
-      → count_trailing_zeros 64 mask ≡ prefix_len (λ x. not (is_other x)) (chunk at 8 bytes)
+      → count_trailing_zeros 64 mask ≡ prefix_len (λ x. not (is_other x)) (chunk 0 8 bytes)
   counted some =
       ap (count_trailing_zeros 64) is
-      ∙ trailing_mask_l is_other 64 (chunk at 8 bytes)
-      (omega (arith, length-chunk at 8 bytes room)) (omega (arith, is))
+      ∙ trailing_mask_l is_other 64 (chunk 0 8 bytes)
+      (omega (arith, length-chunk 0 8 bytes room)) (omega (arith, is))
 
-  pub first_few : mask ≢ 0 → count_trailing_zeros 64 mask ≤ 8
-  first_few some =
-      run_in_chunk_le is_other bytes at 8 (count_trailing_zeros 64 mask) 0 room (counted some)
-
-  pub first_sixels : mask ≢ 0 → (k : ℕ) → at ≤ k → k < at + count_trailing_zeros 64 mask
+  first_sixels : mask ≢ 0 → (k : ℕ) → k < count_trailing_zeros 64 mask
       → IsSixelByte (get_or bytes k 0)
-  first_sixels some k from to =
-      sixel_from (get_or bytes k 0) (fits k) (run_in_chunk_fails is_other bytes at 8
-      (count_trailing_zeros 64 mask) 0 room (counted some) k from to)
+  first_sixels some k lt =
+      sixel_from (get_or bytes k 0) (fits k) (run_in_chunk_fails is_other bytes 0 8
+      (count_trailing_zeros 64 mask) 0 room (counted some) k (omega arith) (omega (arith, lt)))
 
--- at the front
-pub first_front : (bytes : List ℕ) (mask : ℕ) → 8 ≤ length bytes
-    → ((k : ℕ) → get_or bytes k 0 < 256) → mask ≡ mask_l (map is_other (chunk 0 8 bytes))
-    → mask ≢ 0 → (k : ℕ) → k < count_trailing_zeros 64 mask → IsSixelByte (get_or bytes k 0)
-first_front bytes mask room fits is some k lt =
-    first_sixels bytes 0 mask room fits is some k (omega arith) (omega (arith, lt))
+  pub front_sixels : (len : ℕ) → len ≡ min (count_trailing_zeros 64 mask) 8 → (k : ℕ) → k < len
+      → IsSixelByte (get_or bytes k 0)
+  front_sixels len is k lt =
+      ⊎_elim (λ none. all_sixels (omega (arith, none)) k (omega (arith, lt, is)))
+      (λ some. first_sixels (grind (arith, nat_tests, some)) k (omega (arith, lt, is)))
+      (cases_lt mask 1)
