@@ -30,8 +30,9 @@ struct call {
 
 enum {
     DECODE, CLIPPED, DECODE_PAYLOAD, DECODE_TAGS, OF_DCS, OF_PAYLOAD, OF_TAGS, IN_BANDS,
-    ENCODE_16, ENCODE_64, COMPACT, REFINED, REFINED_PLAIN, REFINED_ORDERED, IN_PALETTE, BGRA, RGB,
-    DENSE_BGR, INDEXED, CLEAR, CHOOSE, REFINE, NEAREST, ORDERED, DIFFUSED, COUNT, NEW,
+    ENCODE_16, ENCODE_64, COMPACT, REFINED, REFINED_PLAIN, REFINED_ORDERED, ON_BACKGROUND,
+    IN_PALETTE, BGRA, RGB, DENSE_BGR, INDEXED, CLEAR, CHOOSE, REFINE, NEAREST, ORDERED, DIFFUSED,
+    COUNT, NEW,
 };
 
 /* Wide runs over drawn pixels, which set tags, also in chunks. */
@@ -124,6 +125,7 @@ static const icysixel_encoding encodings[] = {
     [REFINED_PLAIN] = {COLUMNS(4), .max_colors = 16},
     [REFINED_ORDERED]
     = {COLUMNS(4), .max_colors = 16, .dithering = {ICYSIXEL_DITHER_ORDERED, 8}, TO_COMPACT},
+    [ON_BACKGROUND] = {COLUMNS(4), .max_colors = 16, .background = ICYSIXEL_BACKGROUND_COLOR},
     [IN_PALETTE] = {COLUMNS(4), IN_TWO, DIFFUSED_BY_6, TO_COMPACT, .tolerance = ICYSIXEL_AUTO},
     [BGRA] = {COLUMNS(4), IN_TWO, .format = ICYSIXEL_FORMAT_BGRA},
     [RGB] = {COLUMNS(3), .max_colors = 16, .format = ICYSIXEL_FORMAT_RGB},
@@ -187,10 +189,10 @@ static const struct call calls[] = {
     CALL(image, DECODE), CALL(image, CLIPPED), CALL(image, DECODE_PAYLOAD),
     CALL(image, DECODE_TAGS), CALL(text, ENCODE_16), CALL(text, ENCODE_64), CALL(text, COMPACT),
     CALL(text, REFINED), CALL(text, REFINED_PLAIN), CALL(text, REFINED_ORDERED),
-    CALL(text, IN_PALETTE), CALL(text, BGRA), CALL(text, RGB), CALL(text, DENSE_BGR),
-    CALL(text, INDEXED), CALL(text, CLEAR), CALL(palette, CHOOSE), CALL(palette, REFINE),
-    CALL(palette, NEAREST), CALL(palette, ORDERED), CALL(palette, DIFFUSED), CALL(palette, COUNT),
-    CALL(new, NEW),
+    CALL(text, ON_BACKGROUND), CALL(text, IN_PALETTE), CALL(text, BGRA), CALL(text, RGB),
+    CALL(text, DENSE_BGR), CALL(text, INDEXED), CALL(text, CLEAR), CALL(palette, CHOOSE),
+    CALL(palette, REFINE), CALL(palette, NEAREST), CALL(palette, ORDERED), CALL(palette, DIFFUSED),
+    CALL(palette, COUNT), CALL(new, NEW),
 };
 
 /* A decoder with a register that no new one has, and an image. */

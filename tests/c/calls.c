@@ -656,6 +656,38 @@ static void test_shapes(void)
     }
 }
 
+/* Register 0 has the first color of an opaque image, in both forms and though no pixel has it: that
+ * of a given palette, or one before a refined palette. The mean of black and 10 of 255 red is 2
+ * percent of red, and that with white 35 percent. */
+static void test_backgrounds(void)
+{
+    enum { REFINED, GIVEN = ICYSIXEL_PALETTE_GIVEN };
+    static const uint8_t pixels[] = {0, 0, 0, 255, 10, 0, 0, 255, 255, 255, 255, 255, 9, 9, 9, 0};
+#define GREEN "\033P9;0;0q\"1;1;4;1#0;2;0;100;0"
+    static const struct {
+        uint8_t palette, background, form;
+        uint16_t max;
+        const char *end;
+    } texts[] = {
+        {REFINED, 2, 1, 1, "#1;2;35;33;33#1@@@\033\\"},
+        {REFINED, 2, 1, 2, "#1;2;35;33;33#1@@@\033\\"},
+        {REFINED, 2, 1, 3, "#1;2;2;0;0#2;2;100;100;100#1@@#2@\033\\"},
+        {REFINED, 2, 0, 3, "#1;2;2;0;0#2;2;100;100;100#1@@??$#2??@?$-\033\\"},
+        {GIVEN, 1, 1, 0, "#1;2;0;0;0#2;2;100;100;100#1@@#2@\033\\"},
+        {GIVEN, 2, 1, 0, "#1;2;0;0;0#2;2;100;100;100#1@@#2@\033\\"},
+        {GIVEN, 2, 0, 0, "#1;2;0;0;0#2;2;100;100;100#1@@??$#2??@?$-\033\\"},
+    };
+    icysixel_encoding e = {.width = 4, .height = 1, .color_count = 3};
+    memcpy(e.colors, "\0\377\0\0\0\0\377\377\377", 9);
+    EACH(it, texts) {
+        e.palette = it->palette, e.background = it->background, e.form = it->form;
+        e.max_colors = it->max;
+        CHECK(has_text(encode(pixels, sizeof pixels, &e), GREEN, it->end));
+    }
+    e.palette = REFINED, e.max_colors = 257;
+    RETURNS(COLOR_COUNT, encode(pixels, sizeof pixels, &e));
+}
+
 /* Black, 10 of 255 red and white, and the text of a row of them in black and white. */
 #define ROW "\033P9;1;0q\"1;1;3;1"
 #define BLACK_WHITE ROW "#0;2;0;0;0#1;2;100;100;100"
@@ -723,7 +755,8 @@ static void test_options(void)
 {
     icysixel_encoding e = {.format = 6};
     const uint32_t of_encoding[] = {
-        ENCODE(row), (e.format = 0, e.background = 2, ENCODE(row)),
+        ENCODE(row), (e.format = 0, e.background = 3, ENCODE(row)),
+        (e.background = 2, e.palette = 1, ENCODE(row)),
         (e.background = 0, e.palette = 3, ENCODE(row)),
         (e.palette = 0, e.dithering.kind = 3, ENCODE(row)),
         (e.dithering.kind = 0, e.form = 2, ENCODE(row)),
@@ -980,7 +1013,7 @@ int main(void)
         TEST(lenient), TEST(transparent), TEST(first_register), TEST(cropped_rows), TEST(pixels), TEST(errors),
         TEST(drawn_height), TEST(clipped_heights), TEST(raster_size), TEST(take_pixels), TEST(new_on_full_handle),
         TEST(take_no_pixels),
-        TEST(registers), TEST(settings), TEST(encode), TEST(shapes),
+        TEST(registers), TEST(settings), TEST(encode), TEST(shapes), TEST(backgrounds),
         TEST(encodings), TEST(options), TEST(formats), TEST(widest), TEST(palettes), TEST(indices),
         TEST(tolerance), TEST(distinct), TEST(code_texts), TEST(version),
     };

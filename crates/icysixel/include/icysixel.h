@@ -164,7 +164,7 @@ typedef struct {
     icysixel_dithering dithering; /* for refined and given palettes */
     uint8_t form;                 /* an enum icysixel_form */
     uint8_t transparent;          /* the transparent index, if the format has one */
-    icysixel_color colors[256];   /* the given palette */
+    icysixel_color colors[256];   /* the given palette: the first is register 0 if it is opaque */
 } icysixel_encoding;
 
 /* How rows of pixels lie in a buffer. */
@@ -183,7 +183,7 @@ enum icysixel_code {
     ICYSIXEL_NO_SIZE = 3,    /* the payload has not begun, or an earlier feed failed */
     ICYSIXEL_NO_IMAGE = 4,   /* no image is stored */
     /* about the caller's numbers and buffers */
-    ICYSIXEL_BAD_OPTION = 5,       /* an enum of this header does not have the number */
+    ICYSIXEL_BAD_OPTION = 5,       /* an enum does not have the number, or it excludes another */
     ICYSIXEL_BUFFER_TOO_SMALL = 6, /* the buffer is smaller than the documented size */
     ICYSIXEL_BAD_STRIDE = 7,       /* it is shorter than a row */
     /* about memory and sizes */
@@ -226,7 +226,11 @@ enum icysixel_format {
 /* Backgrounds of encoded images. */
 enum icysixel_background {
     ICYSIXEL_BACKGROUND_TRANSPARENT = 0, /* transparent pixels stay as they are: P2 is 1 */
-    ICYSIXEL_BACKGROUND_OPAQUE = 1       /* they get the color of register 0: P2 is 0 */
+    ICYSIXEL_BACKGROUND_OPAQUE = 1,      /* they get the color of register 0: P2 is 0 */
+    /* The same, and register 0 has the first of `colors`. A refined palette has one color less
+     * then, though at least one, and no pixel is drawn in register 0. With a farthest palette the
+     * number is ICYSIXEL_BAD_OPTION. */
+    ICYSIXEL_BACKGROUND_COLOR = 2
 };
 
 /* A tolerance by the palette: its mean squared error, or 7/5 of it without dithering. It is at

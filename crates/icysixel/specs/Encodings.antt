@@ -2,7 +2,8 @@
 -- this library's own, and include/icysixel.h names them.
 use Rattle.std.specs.Prelude.{◌≡◌, ◌≢◌, ◌*◌, ◌<◌, ◌≤◌, ◌==◌, ◌||◌, not, if◌then◌else◌, ℕ, nat_lt}
 use Rattle.std.specs.Prelude.{nat_le, ◌&&◌}
-use Rattle.std.specs.Prelude.{List, [], length, take, Bool, Option, Some, None, IsTrue}
+use Rattle.std.specs.Prelude.{List, [], length, slice_index_or, take, Bool, Option, Some, None}
+use Rattle.std.specs.Prelude.{IsTrue}
 use Rattle.std.specs.Prelude.{◌⊎◌, Result, Err, IfOk, IfErr, IsErrAnd, MatchResult, String}
 use Rattle.std.specs.Prelude.{string_bytes}
 use Rattle.std.specs.Option.{option_or}
@@ -19,7 +20,8 @@ use Rattle.sixel_base.specs.declared.settings.PixelAspectRatio.TheVariants.{Rati
 use Rattle.sixel_encoder.specs.Form.{IsFormText}
 use Rattle.sixel_encoder.specs.IndexedDrawing.{IsPaletteText, IsTextOf, index_range_fault}
 use Rattle.sixel_encoder.specs.IndexedDrawing.{indexed_drawing}
-use Rattle.sixel_encoder.specs.RefinedText.{IsRefinedText}
+use Rattle.sixel_encoder.specs.RefinedText.{IsBackgroundText, IsRefinedText}
+use Rattle.sixel_encoder.specs.declared.refined.Background.{Background}
 use Rattle.sixel_palette.specs.declared.dither.Amplitude.TheVariants as amplitude
 use Rattle.sixel_palette.specs.declared.dither.Dither.{Dither}
 use Rattle.sixel_palette.specs.declared.dither.Dither.TheVariants.{Off, Diffusion, Ordered}
@@ -35,7 +37,7 @@ use Rattle.icysixel.specs.declared.encoding.Dithering.{Dithering}
 use Rattle.icysixel.specs.declared.encoding.Encoding.{Encoding}
 use Rattle.icysixel.specs.declared.encoding.PaletteMode.{PaletteMode}
 use Rattle.icysixel.specs.declared.encoding.PaletteMode.TheVariants.{Refined, Farthest, Given}
-use Rattle.icysixel.specs.declared.encoding.PaletteMode.TheVariants.{Indexed}
+use Rattle.icysixel.specs.declared.encoding.PaletteMode.TheVariants.{Indexed, OnBackground}
 use Rattle.icysixel.specs.declared.format.Format.{Format}
 use Rattle.icysixel.specs.declared.format.Format.TheVariants as format
 
@@ -80,21 +82,29 @@ ratio_of encoding =
     else if encoding.pixel_height == 5 then Ratio5To1
     else Square
 
--- 0 is transparent, and 1 opaque
+-- 0 is transparent, 1 opaque, and 2 opaque in the first of the colors
 abbrev pub background_of : Encoding → BackgroundMode
 background_of encoding = if encoding.background == 0 then Transparent else Opaque
 
--- palette indices are those of the given palette
+-- palette indices are those of the given palette, whose first color is the background anyway
 abbrev pub mode_of : Encoding → PaletteMode
 mode_of encoding =
     if encoding.format == 4 || encoding.format == 5 then Indexed
     else if encoding.palette == 1 then Farthest
     else if encoding.palette == 2 then Given
+    else if encoding.background == 2 then OnBackground
     else Refined
 
 -- the most entries of a palette that is not given
 abbrev pub color_limit : Encoding → ℕ
 color_limit encoding = if encoding.max_colors == 0 then 256 else encoding.max_colors
+
+-- the background of a refined palette, and the most entries with it
+abbrev pub color_background : Encoding → Background
+color_background encoding = record {
+  color = slice_index_or encoding.colors 0 [];
+  max_colors = color_limit encoding;
+}
 
 -- the given palette: it is empty if more colors are counted than there can be
 abbrev pub given_colors : Encoding → List (List ℕ)
@@ -105,11 +115,13 @@ given_colors encoding =
 abbrev pub is_kind : Dithering → Bool
 is_kind dithering = nat_le dithering.kind 2
 
--- whether it names each number that stands for an option
+-- whether it names each number that stands for an option: a palette that is chosen farthest first
+-- has no background of its own
 abbrev pub has_options : Encoding → Bool
 has_options encoding =
-    nat_le encoding.format 5 && nat_le encoding.background 1 && nat_le encoding.palette 2
+    nat_le encoding.format 5 && nat_le encoding.background 2 && nat_le encoding.palette 2
     && is_kind encoding.dithering && nat_le encoding.form 1
+    && not (encoding.background == 2 && encoding.palette == 1)
 
 -- ---- pixels
 
@@ -149,6 +161,7 @@ copies encoding =
 -- what is wrong with the colors of an image, or with the indices of its pixels
 abbrev pub colors_fault : PaletteMode → Encoding → Image → List ℕ → Option CallFault
 colors_fault Refined encoding image indices = color_count_fault (color_limit encoding)
+colors_fault OnBackground encoding image indices = color_count_fault (color_limit encoding)
 colors_fault Farthest encoding image indices = None
 colors_fault Given encoding image indices = color_count_fault (length (given_colors encoding))
 colors_fault Indexed encoding image indices =
@@ -160,6 +173,9 @@ abbrev pub IsTextIn : PaletteMode → Encoding → Image → List ℕ → List �
 IsTextIn Refined encoding image indices text =
     IsRefinedText image (color_limit encoding) (mapping_of encoding.dithering encoding.tolerance)
     (form_of encoding) text
+IsTextIn OnBackground encoding image indices text =
+    IsBackgroundText image (color_background encoding)
+    (mapping_of encoding.dithering encoding.tolerance) (form_of encoding) text
 IsTextIn Farthest encoding image indices text =
     IsFormText (form_of encoding) image (color_limit encoding) text
 IsTextIn Given encoding image indices text =

@@ -23,7 +23,8 @@ use crate::encoding::{Encoding, PaletteMode};
 use crate::layout::stride_of;
 use crate::source_layout::SourceLayout;
 use icy_sixel::encoder::{
-    Source, encode_in_palette, encode_refined, encode_source, encode_with_indices,
+    Source, encode_in_palette, encode_on_background, encode_refined, encode_source,
+    encode_with_indices,
 };
 use icy_sixel::{SixelError, validate_encode_dimensions};
 use std::alloc::Global;
@@ -194,6 +195,10 @@ impl Encoding {
             PaletteMode::Refined => {
                 let mapping = self.dithering.mapping(self.tolerance);
                 encode_refined(alloc, source, self.color_limit(), mapping, form)
+            }
+            PaletteMode::OnBackground => {
+                let mapping = self.dithering.mapping(self.tolerance);
+                encode_on_background(alloc, source, self.color_background(), mapping, form)
             }
             PaletteMode::Farthest => encode_source(alloc, source, self.color_limit(), form),
             PaletteMode::Given => {

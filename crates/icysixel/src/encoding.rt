@@ -1,12 +1,13 @@
 //! How pixels in the caller's memory are encoded: `icysixel_encoding` of the header.
 
 ghost use Rattle.std.specs.Prelude.{◌≡◌};
-ghost use Rattle.icysixel.specs.Encodings.{background_of, color_limit, dither_of, form_of};
+ghost use Rattle.icysixel.specs.Encodings.{background_of, color_background, color_limit};
+ghost use Rattle.icysixel.specs.Encodings.{dither_of, form_of};
 ghost use Rattle.icysixel.specs.Encodings.{format_of, given_colors, has_options, is_kind};
 ghost use Rattle.icysixel.specs.Encodings.{mapping_of, mode_of, ratio_of};
 
 use crate::format::Format;
-use icy_sixel::encoder::{Amplitude, Dither, Mapping, TextForm, Tolerance};
+use icy_sixel::encoder::{Amplitude, Background, Dither, Mapping, TextForm, Tolerance};
 use icy_sixel::{BackgroundMode, PixelAspectRatio};
 
 /// How each pixel gets an entry of the palette.
@@ -67,6 +68,8 @@ impl Dithering {
 pub enum PaletteMode {
     /// It is refined.
     Refined,
+    /// It is refined, behind a background of its own color.
+    OnBackground,
     /// It is chosen farthest first.
     Farthest,
     /// It is the caller's.
@@ -96,6 +99,8 @@ pub struct Encoding {
     /// The height of a pixel of width 1: 2, 3 or 5. Any other number means 1.
     pub pixel_height: u8,
     /// 0 is a transparent background, 1 one in the color of register 0.
+    ///
+    /// 2 is the same, and register 0 has the first of the colors.
     pub background: u8,
     /// 0 is a refined palette, 1 one that is chosen farthest first, 2 the given one.
     pub palette: u8,
@@ -114,10 +119,11 @@ impl Encoding {
         ensures { result ≡ has_options self.now }
     {
         self.format <= 5
-            && self.background <= 1
+            && self.background <= 2
             && self.palette <= 2
             && self.dithering.is_kind()
             && self.form <= 1
+            && !(self.background == 2 && self.palette == 1)
     }
 
     /// The format of the pixels.
@@ -165,6 +171,7 @@ impl Encoding {
             (4 | 5, _) => PaletteMode::Indexed,
             (_, 1) => PaletteMode::Farthest,
             (_, 2) => PaletteMode::Given,
+            _ if self.background == 2 => PaletteMode::OnBackground,
             _ => PaletteMode::Refined,
         }
     }
@@ -177,6 +184,16 @@ impl Encoding {
             256
         } else {
             self.max_colors
+        }
+    }
+
+    /// The background of a refined palette, and the most entries with it.
+    pub fn color_background(&self) -> Background
+        ensures { result ≡ color_background self.now }
+    {
+        Background {
+            color: self.colors[0],
+            max_colors: self.color_limit(),
         }
     }
 

@@ -1,7 +1,9 @@
 -- The text of an image in a refined palette.
-use Rattle.std.specs.Prelude.{◌≡◌, ℕ, ◌/◌, ◌<◌, ◌++◌, ◌∷◌, [], List, length, slice_index_or, Some}
-use Rattle.std.specs.Prelude.{None}
+use Rattle.std.specs.Prelude.{◌≡◌, ℕ, ◌+◌, ◌-◌, ◌/◌, ◌<◌, ◌++◌, ◌∷◌, [], List, length, map, max}
+use Rattle.std.specs.Prelude.{min, slice_index_or, Some, None}
 use Rattle.sixel_base.specs.Payload.{Image}
+use Rattle.sixel_base.specs.declared.settings.BackgroundMode.TheVariants.{Opaque}
+use Rattle.sixel_palette.specs.Dithering.{AreDithered}
 use Rattle.sixel_palette.specs.Palette.{IsOpaque, color_at}
 use Rattle.sixel_palette.specs.Refined.{IsRefined, opaque_pixels}
 use Rattle.sixel_palette.specs.Spread.{spread_amount, spread_entries}
@@ -10,7 +12,8 @@ use Rattle.sixel_palette.specs.declared.palette.refined.RefinedPalette.{RefinedP
 use Rattle.sixel_palette.specs.declared.mapping.Mapping.{Mapping}
 use Rattle.sixel_palette.specs.declared.mapping.Tolerance.TheVariants.{Squared}
 use Rattle.sixel_encoder.specs.declared.form.TextForm.{TextForm}
-use Rattle.sixel_encoder.specs.IndexedDrawing.{IsPaletteText, indexed_drawing}
+use Rattle.sixel_encoder.specs.declared.refined.Background.{Background}
+use Rattle.sixel_encoder.specs.IndexedDrawing.{IsPaletteText, IsTextOf, indexed_drawing}
 use Rattle.sixel_encoder.specs.Text.{Drawing}
 use Rattle.sixel_encoder.specs.Trip.{trip_pixel}
 
@@ -43,3 +46,31 @@ pub record IsRefinedText (image : Image) (max_colors : ℕ) (mapping : Mapping) 
       palette.colors.items
   pub text : IsPaletteText image colors mapping form bytes
   pub exact : ShowsEntries (indexed_drawing image colors text.indices)
+
+-- how many colors there may be beside a background: at least one
+abbrev pub others_of : ℕ → ℕ
+others_of max_colors = max (max_colors - 1) 1
+
+-- the index of one of them behind the background: there are at most 255
+abbrev pub next_index : ℕ → ℕ
+next_index index = min (index + 1) 255
+
+-- the image on an opaque background
+abbrev pub on_background : Image → Image
+on_background image = record image { background_mode = Opaque }
+
+-- The bytes are the text of the image on a background of its own color, which is entry 0. A pixel
+-- has the entry after that of its palette index in a refined palette of the other colors.
+pub record IsBackgroundText (image : Image) (background : Background) (mapping : Mapping)
+    (form : TextForm) (bytes : List ℕ) : Type 0 where
+  pub palette : RefinedPalette
+  pub refined : IsRefined image.pixels (others_of background.max_colors) palette
+  pub colors : List (List ℕ)
+  pub spread : colors
+      ≡ spread_entries (spread_amount mapping.dither (others_of background.max_colors))
+      (opaque_pixels image.pixels) palette.colors.items
+  pub indices : List ℕ
+  pub dithered : AreDithered mapping image.width image.pixels colors indices
+  pub text : IsTextOf form
+      (indexed_drawing (on_background image) (background.color ∷ colors) (map next_index indices))
+      bytes

@@ -34,7 +34,7 @@ mod text;
 
 pub use form::TextForm;
 pub use given_palette::{encode_in_palette, encode_with_indices};
-pub use refined::encode_refined;
+pub use refined::{Background, encode_on_background, encode_refined};
 use sixel_base::settings::{BackgroundMode, PixelAspectRatio};
 use sixel_base::{Result, SixelError};
 use sixel_palette::palette::one_palette;

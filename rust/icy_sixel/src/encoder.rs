@@ -7,10 +7,11 @@ use crate::proved;
 use crate::rattle::rattle_std::alloc::Global;
 use crate::rattle::rattle_std::prelude::String as ProvedText;
 use crate::rattle::sixel_base::size;
-pub use crate::rattle::sixel_encoder::TextForm;
 use crate::rattle::sixel_encoder::{
-    self, Source, encode_in_palette, encode_refined, encode_source, encode_with_indices,
+    self, Source, encode_in_palette, encode_on_background, encode_refined, encode_source,
+    encode_with_indices,
 };
+pub use crate::rattle::sixel_encoder::{Background, TextForm};
 pub use crate::rattle::sixel_palette::dither::{Amplitude, Dither};
 use crate::rattle::sixel_palette::dithering;
 pub use crate::rattle::sixel_palette::mapping::{Mapping, Tolerance};
@@ -38,9 +39,13 @@ impl Default for EncodeOptions {
 pub enum PaletteMode<'a> {
     /// That of [`refine_palette`](crate::refine_palette), with at most 1 to 256 colors.
     Refined(u16),
+    /// An opaque background, and a refined palette of the other colors.
+    ///
+    /// Register 0 has the background, and no pixel is drawn in it.
+    OnBackground(Background),
     /// That of [`choose_palette`](crate::choose_palette), with at most 2 to 256 colors.
     Farthest(u16),
-    /// These 1 to 256 colors.
+    /// These 1 to 256 colors. The first one is the background of an opaque image.
     Given(&'a [[u8; 3]]),
 }
 
@@ -160,6 +165,9 @@ impl<'a> Encoding<'a> {
             (PixelFormat::Indexed { .. }, _) => Err(proved::SixelError::color_count()),
             (_, PaletteMode::Refined(max_colors)) => {
                 encode_refined(Global, &source, max_colors, self.mapping, self.form)
+            }
+            (_, PaletteMode::OnBackground(background)) => {
+                encode_on_background(Global, &source, background, self.mapping, self.form)
             }
             (_, PaletteMode::Farthest(max_colors)) => {
                 encode_source(Global, &source, max_colors, self.form)

@@ -25,8 +25,9 @@ pub use decoder::{
     SixelFeedResult, SixelFeedStatus, SixelStreamDecoder, sixel_decode, sixel_decode_from_dcs,
 };
 pub use encoder::{
-    Amplitude, Dither, EncodeOptions, Encoding, Mapping, PaletteMode, PixelFormat, TextForm,
-    Tolerance, palette_indices, sixel_encode, sixel_encode_default, validate_encode_dimensions,
+    Amplitude, Background, Dither, EncodeOptions, Encoding, Mapping, PaletteMode, PixelFormat,
+    TextForm, Tolerance, palette_indices, sixel_encode, sixel_encode_default,
+    validate_encode_dimensions,
 };
 pub use error::{Result, SixelError};
 pub use palette::{

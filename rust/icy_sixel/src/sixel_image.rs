@@ -8,7 +8,8 @@ use crate::rattle::rattle_std::alloc::Global;
 pub use crate::rattle::sixel_base::settings::{BackgroundMode, PixelAspectRatio};
 use crate::rattle::sixel_base::size::pixel_bytes;
 use crate::rattle::sixel_encoder::{
-    Source, encode_in_palette, encode_refined, encode_source, encode_with_indices,
+    Background, Source, encode_in_palette, encode_on_background, encode_refined, encode_source,
+    encode_with_indices,
 };
 use crate::receiver::{Height, ReceivedImage};
 use alloc::string::String;
@@ -253,6 +254,36 @@ impl SixelImage {
         form: TextForm,
     ) -> Result<String> {
         text_of(encode_refined(Global, &self.source(), max_colors, mapping, form))
+    }
+
+    /// Returns the SIXEL output of this image on an opaque background of its own color.
+    ///
+    /// ```
+    /// use icy_sixel::encoder::{Background, Dither, Mapping, TextForm, Tolerance};
+    /// use icy_sixel::SixelImage;
+    ///
+    /// let image = SixelImage::try_from_rgba(vec![255, 0, 0, 255, 0, 0, 0, 0], 2, 1)?;
+    /// let background = Background { color: [0, 0, 255], max_colors: 16 };
+    /// let mapping = Mapping { dither: Dither::Off, tolerance: Tolerance::Squared(0) };
+    /// let text = image.encode_on_background(background, mapping, TextForm::Compact)?;
+    /// assert!(text.ends_with("#0;2;0;0;100#1;2;100;0;0#1@\x1b\\"));
+    /// # Ok::<(), icy_sixel::SixelError>(())
+    /// ```
+    ///
+    /// Register 0 has the background, and no pixel is drawn in it. Terminals such as xterm paint
+    /// transparent pixels of an opaque image in that color. The other registers have a refined
+    /// palette of at most `max_colors - 1` colors, or 1.
+    ///
+    /// # Errors
+    ///
+    /// Those of [`encode_refined`](Self::encode_refined).
+    pub fn encode_on_background(
+        &self,
+        background: Background,
+        mapping: Mapping,
+        form: TextForm,
+    ) -> Result<String> {
+        text_of(encode_on_background(Global, &self.source(), background, mapping, form))
     }
 
     /// This image with its pixels borrowed.

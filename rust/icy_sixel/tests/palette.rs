@@ -1,8 +1,9 @@
 //! A palette of more colors than it has entries for, and images in palettes.
 
 use icy_sixel::SixelError::{BufferSizeMismatch, InvalidData, InvalidDimensions};
-use icy_sixel::{Amplitude, BackgroundMode, Mapping, Tolerance, choose_palette, palette_indices};
+use icy_sixel::{Amplitude, Background, BackgroundMode, Mapping, Tolerance};
 use icy_sixel::{Dither, EncodeOptions, Encoding, PaletteMode, PixelFormat, SixelImage, TextForm};
+use icy_sixel::{choose_palette, palette_indices};
 use icy_sixel::{refine_palette, sixel_encode, witnesses_hold};
 
 /// Each pixel has the entry nearest to its target.
@@ -91,6 +92,42 @@ fn backgrounds() {
     assert_eq!(text(BackgroundMode::Opaque, TextForm::Compact), compact);
     let compact = format!("{HEAD}#1;2;0;0;0#0;2;100;100;100#0@@@$#1?@\x1b\\");
     assert_eq!(text(BackgroundMode::Transparent, TextForm::Compact), compact);
+}
+
+/// A color that no pixel is drawn in is the background, and the refined palette has one color less.
+#[test]
+fn backgrounds_of_their_own() {
+    let image = SixelImage::from_rgba([&ROW[..], &[0; 4]].concat(), 4, 1);
+    let off = exact(Dither::Off);
+    // The mean of the first two pixels is 2 percent of red, that of all three 35 percent.
+    let head = "\x1bP9;0;0q\"1;1;4;1#0;2;0;0;100";
+    let two = "#1;2;2;0;0#2;2;100;100;100";
+    let one = "#1;2;35;33;33#1@@@";
+    let texts = [
+        (0, Err(InvalidData("number of colors is not 1 to 256".into()))),
+        (1, Ok(format!("{head}{one}\x1b\\"))),
+        (2, Ok(format!("{head}{one}\x1b\\"))),
+        (3, Ok(format!("{head}{two}#1@@#2@\x1b\\"))),
+        (257, Err(InvalidData("number of colors is not 1 to 256".into()))),
+    ];
+    for (max_colors, text) in texts {
+        let background = Background { color: [0, 0, 255], max_colors };
+        assert_eq!(image.encode_on_background(background, off, TextForm::Compact), text);
+        let encoding = Encoding::new(4, 1).palette(PaletteMode::OnBackground(background));
+        assert_eq!(encoding.form(TextForm::Compact).encode(&image.pixels), text);
+    }
+    let background = Background { color: [0, 0, 255], max_colors: 3 };
+    let plain = format!("{head}{two}#1@@??$#2??@?$-\x1b\\");
+    assert_eq!(image.encode_on_background(background, off, TextForm::Plain), Ok(plain));
+    // With as many colors as there can be, no pixel has another color.
+    let pixels: Vec<u8> = (0..255).flat_map(|it| [it, it / 2, 0, 255]).collect();
+    let image = SixelImage::from_rgba(pixels, 255, 1);
+    let background = Background { color: [0, 0, 255], max_colors: 256 };
+    let text = image.encode_on_background(background, off, TextForm::Plain).unwrap();
+    let refined = image.encode_refined(255, off, TextForm::Plain).unwrap();
+    let shown =
+        |text: &str| SixelImage::decode(text.as_bytes()).unwrap().pixels[..4 * 255].to_vec();
+    assert_eq!(shown(&text), shown(&refined));
 }
 
 /// Two rows have one text in all formats, with and without a byte between them.

@@ -142,6 +142,9 @@ fn names_of_our_own() {
     let _: fn(&[u8], usize, Colors<'_>, Mapping) -> Indices = icy_sixel::palette_indices;
     let _: fn(&Image, &Options) -> Answer<String> = Image::encode_compact;
     let _: fn(&Image, u16, Mapping, Form) -> Answer<String> = Image::encode_refined;
+    type Background = icy_sixel::Background;
+    is_value::<Background>();
+    let _: fn(&Image, Background, Mapping, Form) -> Answer<String> = Image::encode_on_background;
     let _: fn(&Image, Colors<'_>, Mapping, Form) -> Answer<String> = Image::encode_with_palette;
     let _: fn(&Image, Colors<'_>, &[u8], Form) -> Answer<String> = Image::encode_indexed;
     let _: fn() -> icy_sixel::SixelReceiver = receiver::SixelReceiver::new;

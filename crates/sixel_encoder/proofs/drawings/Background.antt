@@ -47,6 +47,7 @@ module _ (decoder : DecoderState) (drawing : Drawing) (after : List (List ℕ))
           register-sequence (plain_definitions drawing) (plain_marks drawing) (text_of drawing)
           (Draws-plain drawing is) (register_entry-plain (length drawing.colors) 0 some)
           (grind (arith, text_of-parts, payload-plain)) read
+
       chosen : (b : Bool)
           → AreFoundRegisters decoder (found (cond b (text_of drawing) (marked_text drawing))) after
           → HasBackground drawing after
@@ -54,6 +55,7 @@ module _ (decoder : DecoderState) (drawing : Drawing) (after : List (List ℕ))
       chosen false read =
           register-sequence (numbered_definitions drawing) (compact_marks drawing) _
           (Draws-compact drawing is) (register_entry-background drawing is opaque some) refl read
+
       go : (which : TextForm) → AreFoundRegisters decoder (found (form_text which drawing)) after
           → HasBackground drawing after
       go Plain read = plain read

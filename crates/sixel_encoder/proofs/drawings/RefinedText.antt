@@ -1,5 +1,6 @@
 -- The text of an image in a refined palette: a decoder shows the entries unrounded.
-use Rattle.std.proofs.Common.{◌≡◌, ℕ, List, map, arith}
+use Rattle.std.proofs.Common.{◌≡◌, ℕ, Bool, List, arith, cond, false, length, map, refl, true}
+use Rattle.std.proofs.lemmas.List.{length-map}
 use Rattle.std.specs.Prelude.{All, IfOk, Result, Err, Ok}
 use Rattle.sixel_base.specs.Payload.{Image}
 use Rattle.sixel_base.specs.declared.error.SixelError.{SixelError}
@@ -24,6 +25,18 @@ rounded-register c is = grind (arith, nat_tests)
 pub ShowsEntries-register : (image : Image) (colors : List (List ℕ)) (indices : List ℕ)
     → All IsRegisterColor colors → ShowsEntries (indexed_drawing image colors indices)
 ShowsEntries-register image colors indices all = grind (arith, nat_tests, rounded-register)
+
+-- ---- the palette
+
+-- a spread drops no entry
+pub length-spread : (amount : ℕ) (sum : (List ℕ → ℕ) → ℕ) (entries : List (List ℕ))
+    → length (spread_entries amount sum entries) ≡ length entries
+length-spread amount sum entries = kept _ _ entries
+  where
+    kept : (stays : Bool) (moved : List ℕ → List ℕ) (all : List (List ℕ))
+        → length (cond stays all (map moved all)) ≡ length all
+    kept true moved all = refl
+    kept false moved all = length-map all moved
 
 -- ---- the text
 

@@ -1,17 +1,17 @@
-use Rattle.std.proofs.Common.{◌≡◌, ℕ, ◌/◌, ◌≤◌, Bool, true, false, List, length, map, refl, ap}
-use Rattle.std.proofs.Common.{◌∙◌, arith}
-use Rattle.std.specs.Prelude.{None, if◌then◌else◌, string_bytes}
+use Rattle.std.proofs.Common.{◌≡◌, ◌/◌, ◌≤◌, length, ap, ◌∙◌, arith}
+use Rattle.std.specs.Prelude.{None, string_bytes}
 use Rattle.sixel_base.specs.CallFault.{color_count_fault}
 use Rattle.sixel_encoder.specs.Encoding.{image_fault, source_value}
+use Rattle.sixel_palette.specs.Refined.{opaque_pixels}
+use Rattle.sixel_palette.specs.Spread.{spread_amount}
 use Rattle.sixel_palette.proofs.mapped_images.GraySource.{dithered-count, dithered-entry}
 use Rattle.sixel_encoder.proofs.drawings.PaletteText.{rows-sound}
-use Rattle.sixel_encoder.proofs.drawings.RefinedText.{IsRefinedText-returned}
+use Rattle.sixel_encoder.proofs.drawings.RefinedText.{IsRefinedText-returned, length-spread}
 use Rattle.sixel_encoder.proofs.drawings.Sizes.{rows-image, within-sound}
 use Rattle.sixel_encoder.proofs.drawings.Verdicts.{none-found, none-judged}
 use Rattle.sixel_encoder.proofs.refined.encode_refined.Goals as goal
 use Rattle.sixel_encoder.proofs.refined.encode_refined.Goals.{After-deref-2}
 use Rattle.std.proofs.lemmas.Bool.Decides.{nat_tests}
-use Rattle.std.proofs.lemmas.List.{length-map}
 use Rattle.std.proofs.lemmas.Result.{IfOk-at_ok, IfOk-weaker}
 
 -- the image has no fault
@@ -27,18 +27,14 @@ count c =
     dithered-count c.args.mapping image.width image.pixels refined.colors.items
     refined.indices.items c.in_ok-refined.ensures.dithered
 
--- a spread drops no entry
-kept : (stays : Bool) (moved : List ℕ → List ℕ) (entries : List (List ℕ))
-    → length (if stays then entries else map moved entries) ≡ length entries
-kept true moved entries = refl
-kept false moved entries = length-map entries moved
-
 -- there is a register for each entry
 few : (c : After-deref-2) → length c.in_ok-refined.refined.colors.items ≤ 256
 few c =
     let (palette, refined, spread) = c.in_ok-refined.ensures.spread in
-    let size : length c.in_ok-refined.refined.colors.items ≡ length palette.colors.items =
-    ap length spread ∙ kept _ _ _ in
+    let size =
+    ap length spread
+    ∙ length-spread (spread_amount c.args.mapping.dither c.from-room.result)
+    (opaque_pixels c.args.source.now.pixels.now) palette.colors.items in
     let counted =
     none-judged (color_count_fault c.from.result) c.validate_color_count.result _
     c.validate_color_count.ensures c.in_ok-validate_color_count.was in

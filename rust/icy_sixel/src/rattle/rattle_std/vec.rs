@@ -97,6 +97,13 @@ impl<T> Vec<T> {
         Ok(())
     }
 
+    /// Inserts an item, and moves those from there on by one.
+    pub fn insert(&mut self, at: usize, item: T) -> Result<(), AllocFailed<T>> {
+        self.push(item)?;
+        self.0[at..].rotate_right(1);
+        Ok(())
+    }
+
     /// Appends an item, for which there is capacity.
     #[inline]
     pub fn push_reserved(&mut self, item: T) {
