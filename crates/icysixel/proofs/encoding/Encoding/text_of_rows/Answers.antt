@@ -1,6 +1,7 @@
-use Rattle.std.proofs.Common.{◌≡◌, ◌*◌, true, length, arith}
-use Rattle.icysixel.specs.Encodings.{format_of}
+use Rattle.std.proofs.Common.{◌≡◌, ◌*◌, true, length, arith, not}
+use Rattle.icysixel.specs.Encodings.{format_of, rows_fault}
 use Rattle.icysixel.specs.Formats.{is_rgba}
+use Rattle.icysixel.proofs.Calls.{failed_copied}
 use Rattle.icysixel.proofs.Conversion.{rgba_len, rgba_same}
 use Rattle.icysixel.proofs.encoding.Encoding.text_of_rows.Goals as goal
 use Rattle.std.proofs.lemmas.Bool.Decides.{nat_tests}
@@ -16,3 +17,9 @@ text_of_image-requires-clause-count c =
 pub text_of_image-requires-clause-pixels : goal.text_of_image-requires-clause-pixels
 text_of_image-requires-clause-pixels c =
     grind (arith, nat_tests, rgba_same, text_of_image-requires-clause-count)
+
+pub returns-in-Ok-clause-colors : goal.returns-in-Ok-clause-colors
+returns-in-Ok-clause-colors c =
+    failed_copied _ (not (is_rgba (format_of c.args.self.now)))
+    (rows_fault c.args.self.now c.args.rows.now) c.text_of_image-in-Ok.result
+    c.text_of_image-in-Ok.ensures.colors
