@@ -155,7 +155,7 @@ class TestPrograms(ProgramTest):
         """Strengths, tolerances and their defaults in a given palette."""
         noise = random.Random(1).randbytes(20000)
         error = sum(3 * min(it, 255 - it) ** 2 for it in noise) // len(noise)
-        levels, picture = math.isqrt(error), b"P5 200 100 255\n" + noise
+        levels, picture = math.isqrt(4 * error), b"P5 200 100 255\n" + noise
         with tempfile.NamedTemporaryFile() as file:
             Path(file.name).write_bytes(b"P5 2 1 255\n\0\xff")
             for program in self.builds():

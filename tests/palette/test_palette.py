@@ -58,7 +58,7 @@ def automatic_tolerance(kind, colors, pixels):
 
 
 def automatic_amplitude(colors, pixels):
-    return min(math.isqrt(mean_error(colors, pixels)[0]), 255)
+    return min(math.isqrt(4 * mean_error(colors, pixels)[0]), 255)
 
 
 def chosen(colors, color, tolerance, neighbors):
@@ -243,6 +243,9 @@ class PaletteTest(unittest.TestCase):
             with self.subTest(name, program=program.name, words=words):
                 drawn = run(program, *words, stdin=b"P6 96 64 255\n" + data)[1]
                 self.assertEqual(encoded(data, encoding), drawn)
+                if kind == ORDERED and amount == 0 and most in ERRORS[name]:
+                    encoding.amount = math.isqrt(ERRORS[name][most] // len(pixels))
+                    self.assertEqual(encoded(data, encoding), drawn)
 
     def test_error(self):
         """The summed error of a refined palette is at most 1 % above the model's."""

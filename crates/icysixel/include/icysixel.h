@@ -141,7 +141,8 @@ typedef struct {
 } icysixel_distinct;
 
 /* How each pixel gets an entry of the palette. Zeros mean the nearest entry. An amount of 0 is 7
- * for diffusion, and for the pattern the square root of the palette's mean squared error. */
+ * for diffusion, and for the pattern the square root of the palette's mean squared error, twice
+ * that in a given palette. */
 typedef struct {
     uint8_t kind;   /* an enum icysixel_dither */
     uint8_t amount; /* diffusion: eighths of the error; ordered: the amplitude in levels; or 0 */

@@ -3,7 +3,7 @@ use Rattle.std.specs.Prelude.{◌≡◌, ℕ, ◌+◌, ◌-◌, ◌/◌, ◌<◌
 use Rattle.std.specs.Prelude.{min, slice_index_or, Some, None}
 use Rattle.sixel_base.specs.Payload.{Image}
 use Rattle.sixel_base.specs.declared.settings.BackgroundMode.TheVariants.{Opaque}
-use Rattle.sixel_palette.specs.Dithering.{AreDithered}
+use Rattle.sixel_palette.specs.Dithering.{AreDithered, refined_mapping}
 use Rattle.sixel_palette.specs.Palette.{IsOpaque, color_at}
 use Rattle.sixel_palette.specs.Refined.{IsRefined, opaque_pixels}
 use Rattle.sixel_palette.specs.Spread.{spread_amount, spread_entries}
@@ -44,7 +44,7 @@ pub record IsRefinedText (image : Image) (max_colors : ℕ) (mapping : Mapping) 
   pub spread : colors
       ≡ spread_entries (spread_amount mapping.dither max_colors) (opaque_pixels image.pixels)
       palette.colors.items
-  pub text : IsPaletteText image colors mapping form bytes
+  pub text : IsPaletteText image colors (refined_mapping mapping colors image.pixels) form bytes
   pub exact : ShowsEntries (indexed_drawing image colors text.indices)
 
 -- how many colors there may be beside a background: at least one
@@ -70,7 +70,8 @@ pub record IsBackgroundText (image : Image) (background : Background) (mapping :
       ≡ spread_entries (spread_amount mapping.dither (others_of background.max_colors))
       (opaque_pixels image.pixels) palette.colors.items
   pub indices : List ℕ
-  pub dithered : AreDithered mapping image.width image.pixels colors indices
+  pub dithered : AreDithered (refined_mapping mapping colors image.pixels) image.width image.pixels
+      colors indices
   pub text : IsTextOf form
       (indexed_drawing (on_background image) (background.color ∷ colors) (map next_index indices))
       bytes

@@ -286,10 +286,23 @@ unfoldable pub root : ℕ → ℕ → ℕ
 root number zero = 0
 root number (suc n) = if nat_le (suc n * suc n) number then suc n else root number n
 
--- the amplitude for a palette
+-- the amplitude for a palette: the distance of evenly spaced levels with this mean error
 abbrev pub amplitude_of : Amplitude → List (List ℕ) → List ℕ → ℕ
 amplitude_of (Levels amplitude) colors pixels = amplitude
-amplitude_of AutoAmplitude colors pixels = root (mean_error colors pixels) 255
+amplitude_of AutoAmplitude colors pixels = root (4 * mean_error colors pixels) 255
+
+-- in a palette that is refined for the image the automatic amplitude is half of that
+abbrev pub refined_dither : Dither → List (List ℕ) → List ℕ → Dither
+refined_dither (Ordered AutoAmplitude) colors pixels =
+    Ordered (Levels (root (mean_error colors pixels) 255))
+refined_dither dither colors pixels = dither
+
+-- so are its pixels mapped
+abbrev pub refined_mapping : Mapping → List (List ℕ) → List ℕ → Mapping
+refined_mapping mapping colors pixels = record {
+  dither = refined_dither mapping.dither colors pixels;
+  tolerance = mapping.tolerance;
+}
 
 -- how many eighths of an error a kind of dithering passes on
 abbrev pub strength_of : Dither → ℕ

@@ -24,9 +24,10 @@ pub enum Dither {
 /// How far apart the pattern of ordered dithering moves a channel at most.
 #[derive(Debug, Clone, Copy, PartialEq, Eq)]
 pub enum Amplitude {
-    /// The square root of the palette's mean squared error over the opaque pixels.
+    /// Twice the square root of the palette's mean squared error over the opaque pixels.
     ///
-    /// It is rounded down, and at most 255.
+    /// Evenly spaced levels are so far apart. A palette that is refined for the image has half of
+    /// that. It is rounded down, and at most 255.
     Auto,
     /// A number of the 256 levels.
     ///

@@ -13,9 +13,10 @@ ghost use Rattle.sixel_palette.specs.Spread.{spread_amount, spread_entries};
 ghost use Rattle.sixel_palette.specs.Dithering.{AreDithered, HasTarget, HaveTargets, Mapped};
 ghost use Rattle.sixel_palette.specs.Dithering.{before_share, below_share, errors_of, index_error};
 ghost use Rattle.sixel_palette.specs.Dithering.{indices_fault, mapped_of, next_share, no_error};
-ghost use Rattle.sixel_palette.specs.Dithering.{passed_on, rest_share, rounded_sixteenths};
-ghost use Rattle.sixel_palette.specs.Dithering.{rows_fault, serpentine, target_of_visit};
-ghost use Rattle.sixel_palette.specs.Dithering.{tolerance_of, visit_error, whole_rows};
+ghost use Rattle.sixel_palette.specs.Dithering.{passed_on, refined_mapping, rest_share};
+ghost use Rattle.sixel_palette.specs.Dithering.{rounded_sixteenths, rows_fault, serpentine};
+ghost use Rattle.sixel_palette.specs.Dithering.{target_of_visit, tolerance_of, visit_error};
+ghost use Rattle.sixel_palette.specs.Dithering.{whole_rows};
 ghost use Rattle.sixel_palette.specs.Gray.{is_gray, maps_grays, source_pixels};
 ghost use Rattle.sixel_palette.specs.GrayDiffusion.{AreGrays, level_gap};
 ghost use Rattle.sixel_palette.specs.inside.Mapped.{IsMappable, IsPlain};
@@ -37,7 +38,7 @@ use crate::dithering::gray::{gray_pixels, maps_grays};
 use crate::dithering::mapped::MappedImage;
 use crate::dithering::nearest::Nearest;
 use crate::dithering::ordered::ordered_indices;
-use crate::dithering::palette_error::{amplitude_of, tolerance_of};
+use crate::dithering::palette_error::{amplitude_of, refined_dither, tolerance_of};
 use crate::dithering::undithered::keep_entries;
 use crate::mapping::{Mapping, Tolerance};
 use crate::palette::nearest_indices::{color_bytes, nearest_indices};
@@ -148,7 +149,8 @@ pub struct RefinedMapping {
 
 /// Refines a palette of at most `room` entries for whole rows of pixels, and maps them to it.
 ///
-/// A palette of at most 64 entries is spread for error diffusion, unless the image is flat art.
+/// A palette of at most 64 entries is spread for error diffusion, unless the image is flat art. An
+/// automatic amplitude is half of that in a given palette.
 pub fn map_to_refined(
     alloc: Global,
     pixels: &[u8],
@@ -168,12 +170,18 @@ pub fn map_to_refined(
         (opaque_pixels pixels.now) palette.colors.items)) }
     ensures shown { IfOk result (λ it. All IsRegisterColor it.colors.items) }
     ensures dithered { IfOk result (λ it.
-        AreDithered mapping width pixels.now it.colors.items it.indices.items) }
+        AreDithered (refined_mapping mapping it.colors.items pixels.now) width pixels.now
+        it.colors.items it.indices.items) }
 {
     let amount = spread_amount(mapping.dither, room);
     let refinement = Refinement::of(alloc, pixels, room, amount)?;
     let image = MappedImage::plain(pixels, width, &refinement.entries.colors);
-    let indices = indices_from(alloc, &image, Nearest::Refined(&refinement), mapping)?;
+    let nearest = Nearest::Refined(&refinement);
+    let mapping = Mapping {
+        dither: refined_dither(&image, &nearest, mapping.dither),
+        ..mapping
+    };
+    let indices = indices_from(alloc, &image, nearest, mapping)?;
     Ok(RefinedMapping {
         colors: refinement.entries.colors,
         indices,

@@ -15,12 +15,13 @@ use Rattle.sixel_palette.proofs.refinement.One.{refined_same}
 use Rattle.sixel_palette.proofs.refinement.Tops.{tops_alike}
 use Rattle.sixel_palette.specs.declared.mapping.Mapping.{Mapping}
 use Rattle.sixel_encoder.specs.declared.form.TextForm.{TextForm}
-use Rattle.sixel_palette.specs.Dithering.{AreDithered}
+use Rattle.sixel_palette.specs.Dithering.{AreDithered, refined_mapping}
 use Rattle.sixel_encoder.specs.Encoding.{image_fault, shown_image}
+use Rattle.sixel_encoder.specs.IndexedDrawing.{IsTextOf}
 use Rattle.sixel_encoder.specs.RefinedText.{IsRefinedText, ShowsEntries}
 use Rattle.sixel_encoder.proofs.drawings.PaletteText.{hidden-returned, rows-sound}
 use Rattle.sixel_encoder.proofs.drawings.SameDithering.{AreDithered-alike, drawing-alike}
-use Rattle.sixel_encoder.proofs.drawings.SameDithering.{pixels-same}
+use Rattle.sixel_encoder.proofs.drawings.SameDithering.{pixels-same, refined-alike}
 use Rattle.sixel_palette.proofs.mapped_images.SameVisits.{AreAlike}
 use Rattle.sixel_encoder.proofs.drawings.SameDrawing.{IsShown-other}
 use Rattle.std.proofs.lemmas.Bool.Decides.{nat_tests}
@@ -96,15 +97,23 @@ IsRefinedText-other image other max_colors mapping form text sound e is =
     let colors = is.colors in
     let indices = is.text.indices in
     let wide : image.width ≡ other.width = ap (λ s. s.width) e in
-    let dithered : AreDithered mapping other.width other.pixels colors indices =
-    rw wide at (AreDithered-alike mapping _ _ _ _ _ alike rows is.text.dithered) in
-    let drawing = drawing-alike mapping colors _ _ image other e rows is.text.dithered dithered in
+    let own = refined_mapping mapping colors image.pixels in
+    let same = refined-alike mapping colors image.pixels other.pixels alike in
+    let dithered : AreDithered own other.width other.pixels colors indices =
+    rw wide at (AreDithered-alike own _ _ _ _ _ alike rows is.text.dithered) in
+    let drawing = drawing-alike own colors _ _ image other e rows is.text.dithered dithered in
     record {
       palette = is.palette;
       refined = IsRefined-other image other max_colors is.palette e is.refined;
       colors = colors;
       spread = is.spread ∙ spread-alike image other _ is.palette.colors.items e;
-      text = grind (arith, nat_tests);
+      text = record {
+        indices = indices;
+        dithered =
+            subst (λ (m : Mapping). AreDithered m other.width other.pixels colors indices) same
+            dithered;
+        text = subst (λ d. IsTextOf form d text) drawing is.text.text;
+      };
       exact = subst ShowsEntries drawing is.exact;
     }
 
@@ -118,13 +127,15 @@ pub hidden-refined : {S : Type 0} (bytes : S → List ℕ) (result : Result S Si
     → shown_image image ≡ shown_image other → IsRefinedText other max_colors mapping form others
     → IfOk result (λ text. bytes text ≡ others)
 hidden-refined bytes (Ok text) image other most mapping form others rest fails small is e too =
-    let same = pixels-same image.pixels other.pixels (AreAlike-images image other e) in
+    let alike = AreAlike-images image other e in
+    let same = pixels-same image.pixels other.pixels alike in
     let palette =
     (refined_same _ _ most is.palette too.palette small (IsShown-other image other e)
     (IsShown-other other image (sym e)) same is.refined too.refined).1 in
     let colors : is.colors ≡ too.colors =
     is.spread ∙ spread-alike image other _ is.palette.colors.items e
     ∙ ap (spread_entries _ (opaque_pixels other.pixels)) palette ∙ sym too.spread in
-    hidden-returned bytes (Ok text) image other is.colors mapping form others rest
-    fails is.text e (rw colors too.text)
+    let mapped = refined-alike mapping is.colors image.pixels other.pixels alike in
+    hidden-returned bytes (Ok text) image other is.colors _ form others rest
+    fails is.text e (rw mapped (rw colors too.text))
 hidden-refined bytes (Err f) image other most mapping form others rest fails small is e too = tt

@@ -9,7 +9,7 @@ use Rattle.sixel_palette.specs.Spread.{spread_amount, spread_entries}
 use Rattle.sixel_palette.specs.declared.palette.refined.RefinedPalette.{RefinedPalette}
 use Rattle.sixel_encoder.specs.declared.form.TextForm.{TextForm}
 use Rattle.sixel_palette.specs.declared.mapping.Mapping.{Mapping}
-use Rattle.sixel_palette.specs.Dithering.{AreDithered}
+use Rattle.sixel_palette.specs.Dithering.{AreDithered, refined_mapping}
 use Rattle.sixel_encoder.specs.IndexedDrawing.{IsTextOf, indexed_drawing}
 use Rattle.sixel_encoder.specs.RefinedText.{IsRefinedText, ShowsEntries}
 use Rattle.sixel_encoder.specs.Trip.{rounded}
@@ -49,7 +49,8 @@ pub IsRefinedText-returned : {S : Type 0} (bytes : S → List ℕ) (result : Res
     ≡ spread_entries (spread_amount mapping.dither max_colors) (opaque_pixels image.pixels)
     palette.colors.items
     → All IsRegisterColor colors
-    → AreDithered mapping image.width image.pixels colors indices
+    → AreDithered (refined_mapping mapping colors image.pixels) image.width image.pixels colors
+    indices
     → IfOk result (λ text. IsTextOf form (indexed_drawing image colors indices) (bytes text))
     → IfOk result (λ text. IsRefinedText image max_colors mapping form (bytes text))
 IsRefinedText-returned bytes (Ok text) image max_colors mapping form palette colors indices is

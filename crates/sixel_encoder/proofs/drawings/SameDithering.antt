@@ -15,7 +15,7 @@ use Rattle.sixel_palette.specs.declared.mapping.Mapping.{Mapping}
 use Rattle.sixel_palette.specs.declared.mapping.Tolerance.{Tolerance}
 use Rattle.sixel_palette.specs.Dithering.{AreDithered, AreMapped, HasTarget, HaveTargets, IsIndex}
 use Rattle.sixel_palette.specs.Dithering.{Mapped, amplitude_of, entry_of, mapped_of, pattern_of}
-use Rattle.sixel_palette.specs.Dithering.{serpentine, target_of, tolerance_of}
+use Rattle.sixel_palette.specs.Dithering.{refined_mapping, serpentine, target_of, tolerance_of}
 use Rattle.sixel_encoder.specs.Encoding.{shown_image}
 use Rattle.sixel_palette.specs.Gray.{source_pixels}
 use Rattle.sixel_encoder.specs.IndexedDrawing.{entries_of, indexed_drawing}
@@ -107,6 +107,11 @@ amplitude-alike amplitude colors p q alike = grind (arith, nat_tests, pixels-sam
 pattern-alike : (dither : Dither) (colors : List (List ℕ)) (p q : List ℕ) → AreAlike p q
     → pattern_of dither colors p ≡ pattern_of dither colors q
 pattern-alike dither colors p q alike = grind (arith, nat_tests, amplitude-alike)
+
+-- so is the mapping to a refined palette
+pub refined-alike : (mapping : Mapping) (colors : List (List ℕ)) (p q : List ℕ) → AreAlike p q
+    → refined_mapping mapping colors p ≡ refined_mapping mapping colors q
+refined-alike mapping colors p q alike = grind (arith, nat_tests, pixels-same)
 
 -- indices that are mapped are mapped for the other pixels
 other-mapped : (dither : Dither) (m : Mapped) (q a : List ℕ) → AreAlike m.pixels q

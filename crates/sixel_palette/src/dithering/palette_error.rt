@@ -3,7 +3,7 @@
 ghost use Rattle.std.specs.Prelude.{◌≡◌, ◌*◌, ◌/◌, ◌≤◌, IfOk, max};
 ghost use Rattle.sixel_palette.specs.Palette.{AreIndices, no_entry};
 ghost use Rattle.sixel_palette.specs.Refined.{opaque_pixels, summed_error};
-ghost use Rattle.sixel_palette.specs.Dithering.{amplitude_of, root, tolerance_of};
+ghost use Rattle.sixel_palette.specs.Dithering.{amplitude_of, refined_dither, root, tolerance_of};
 ghost use Rattle.sixel_palette.specs.Gray.{measured_pixels};
 ghost use Rattle.sixel_palette.specs.inside.Mapped.{IsMappable};
 ghost use Rattle.sixel_palette.specs.inside.PaletteError.{HasNearest, IsErrorOf};
@@ -84,7 +84,22 @@ pub fn amplitude_of(image: &MappedImage<'_>, nearest: &Nearest<'_>, amplitude: A
 {
     match amplitude {
         Amplitude::Levels(levels) => levels,
-        Amplitude::Auto => root(palette_error(image, nearest).mean()),
+        Amplitude::Auto => root(4 * palette_error(image, nearest).mean()),
+    }
+}
+
+/// Returns the dithering of an image in its refined palette.
+pub fn refined_dither(image: &MappedImage<'_>, nearest: &Nearest<'_>, dither: Dither) -> Dither
+    requires { HasNearest image.now nearest.now }
+    ensures { result ≡ refined_dither dither image.now.colors.now image.now.pixels.now }
+{
+    match dither {
+        Dither::Ordered {
+            amplitude: Amplitude::Auto,
+        } => Dither::Ordered {
+            amplitude: Amplitude::Levels(root(palette_error(image, nearest).mean())),
+        },
+        _ => dither,
     }
 }
 

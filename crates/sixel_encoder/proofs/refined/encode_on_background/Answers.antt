@@ -3,8 +3,10 @@ use Rattle.std.specs.Prelude.{None}
 use Rattle.sixel_base.specs.CallFault.{color_count_fault}
 use Rattle.sixel_encoder.specs.Encoding.{image_fault, source_value}
 use Rattle.sixel_encoder.specs.RefinedText.{next_index, others_of}
+use Rattle.sixel_palette.specs.Dithering.{refined_mapping}
 use Rattle.sixel_palette.specs.Refined.{opaque_pixels}
 use Rattle.sixel_palette.specs.Spread.{spread_amount}
+use Rattle.sixel_palette.specs.declared.mapping.Mapping.{Mapping}
 use Rattle.sixel_palette.proofs.mapped_images.GraySource.{dithered-count, dithered-entry}
 use Rattle.sixel_encoder.proofs.drawings.PaletteText.{rows-sound}
 use Rattle.sixel_encoder.proofs.drawings.RefinedText.{length-spread}
@@ -19,6 +21,11 @@ use Rattle.std.proofs.lemmas.Result.{IfOk-weaker}
 -- the image has no fault
 sound : (c : After-deref-2) → image_fault (source_value c.args.source.now) ≡ None
 sound c = none-found _ _ _ c.validate_source.ensures c.in_ok-validate_source.was
+
+-- how the pixels get their entries
+abbrev mapping : (c : After-deref-2) → Mapping
+mapping c =
+    refined_mapping c.args.mapping c.in_ok-refined.refined.colors.items c.args.source.now.pixels.now
 
 -- the entries behind the background
 moved : (c : After-deref-2)
@@ -42,7 +49,7 @@ count c =
     let image = source_value c.args.source.now in
     let made = c.in_ok-refined.refined in
     let each =
-    dithered-count c.args.mapping image.width image.pixels made.colors.items made.indices.items
+    dithered-count (mapping c) image.width image.pixels made.colors.items made.indices.items
     c.in_ok-refined.ensures.dithered in
     omega (
       arith,
@@ -81,7 +88,7 @@ encode_drawing-requires-clause-opaque c = λ pixel inside opaque.
     let image = source_value c.args.source.now in
     let made = c.in_ok-refined.refined in
     let entry =
-    dithered-entry c.args.mapping image.width image.pixels made.colors.items made.indices.items
+    dithered-entry (mapping c) image.width image.pixels made.colors.items made.indices.items
     pixel (rows-sound image (sound c)) c.in_ok-refined.ensures.dithered
     (omega (arith, (within-sound image (sound c)).sized, count c, inside)) opaque in
     let size = length-map made.indices.items next_index in

@@ -2,8 +2,10 @@ use Rattle.std.proofs.Common.{◌≡◌, ◌/◌, ◌≤◌, length, ap, ◌∙�
 use Rattle.std.specs.Prelude.{None, string_bytes}
 use Rattle.sixel_base.specs.CallFault.{color_count_fault}
 use Rattle.sixel_encoder.specs.Encoding.{image_fault, source_value}
+use Rattle.sixel_palette.specs.Dithering.{refined_mapping}
 use Rattle.sixel_palette.specs.Refined.{opaque_pixels}
 use Rattle.sixel_palette.specs.Spread.{spread_amount}
+use Rattle.sixel_palette.specs.declared.mapping.Mapping.{Mapping}
 use Rattle.sixel_palette.proofs.mapped_images.GraySource.{dithered-count, dithered-entry}
 use Rattle.sixel_encoder.proofs.drawings.PaletteText.{rows-sound}
 use Rattle.sixel_encoder.proofs.drawings.RefinedText.{IsRefinedText-returned, length-spread}
@@ -18,13 +20,18 @@ use Rattle.std.proofs.lemmas.Result.{IfOk-at_ok, IfOk-weaker}
 sound : (c : After-deref-2) → image_fault (source_value c.args.source.now) ≡ None
 sound c = none-found _ _ _ c.validate_source.ensures c.in_ok-validate_source.was
 
+-- how the pixels get their entries
+abbrev mapping : (c : After-deref-2) → Mapping
+mapping c =
+    refined_mapping c.args.mapping c.in_ok-refined.refined.colors.items c.args.source.now.pixels.now
+
 -- each pixel has an index
 count : (c : After-deref-2) → length c.in_ok-refined.refined.indices.items
     ≡ length c.args.source.now.pixels.now / 4
 count c =
     let image = source_value c.args.source.now in
     let refined = c.in_ok-refined.refined in
-    dithered-count c.args.mapping image.width image.pixels refined.colors.items
+    dithered-count (mapping c) image.width image.pixels refined.colors.items
     refined.indices.items c.in_ok-refined.ensures.dithered
 
 -- there is a register for each entry
@@ -63,7 +70,7 @@ encode_drawing-requires-clause-opaque c = λ pixel inside opaque.
     let image = source_value c.args.source.now in
     let refined = c.in_ok-refined.refined in
     rw (c.deref.ensures.value, c.deref-2.ensures.value)
-    (dithered-entry c.args.mapping image.width image.pixels refined.colors.items
+    (dithered-entry (mapping c) image.width image.pixels refined.colors.items
     refined.indices.items pixel (rows-sound image (sound c)) c.in_ok-refined.ensures.dithered
     (omega (arith, count c, inside, ap length c.deref-2.ensures.value)) opaque)
 
