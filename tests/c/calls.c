@@ -903,15 +903,18 @@ static void test_indices(void)
     }
 }
 
-/* The second pixel has squared distances of 36 and 16 to the entries. It keeps the first one if the
- * tolerance is above 20. The mean squared error is 8, so the automatic tolerance is 12. */
+/* The second pixel has squared distances of 36 and 16 to the entries, the first one of 0 and 100.
+ * Both columns beside lack the nearest entry, and one lacks the other. So the second pixel has the
+ * first entry above 40, and the first pixel the second one above 200. The mean squared error is 8,
+ * so the automatic tolerance is 36. */
 static void test_tolerance(void)
 {
     static const uint8_t pixels[] = {0, 0, 0, 255, 6, 0, 0, 255};
     static const icysixel_color dark[] = {{0, 0, 0}, {10, 0, 0}};
-    static const struct { uint32_t tolerance; uint8_t index; const char *end; } runs[] = {
-        {0, 1, "#0@?$#1?@$-\033\\"}, {20, 1, "#0@?$#1?@$-\033\\"}, {21, 0, "#0@@$-\033\\"},
-        {ICYSIXEL_AUTO - 1, 0, "#0@@$-\033\\"}, {ICYSIXEL_AUTO, 1, "#0@?$#1?@$-\033\\"},
+    static const struct { uint32_t tolerance; uint8_t first, second; const char *end; } runs[] = {
+        {0, 0, 1, "#0@?$#1?@$-\033\\"}, {40, 0, 1, "#0@?$#1?@$-\033\\"},
+        {41, 0, 0, "#0@@$-\033\\"}, {200, 0, 0, "#0@@$-\033\\"}, {201, 1, 1, "#1@@$-\033\\"},
+        {ICYSIXEL_AUTO - 1, 1, 1, "#1@@$-\033\\"}, {ICYSIXEL_AUTO, 0, 1, "#0@?$#1?@$-\033\\"},
     };
     icysixel_encoding e = {.width = 2, .height = 1, .palette = ICYSIXEL_PALETTE_GIVEN};
     memcpy(e.colors, dark, sizeof dark);
@@ -922,7 +925,7 @@ static void test_tolerance(void)
         CHECK(has_text(ENCODE(pixels), "\033P9;1;0q\"1;1;2;1#0;2;0;0;0#1;2;4;0;0", it->end));
         RETURNS(OK, icysixel_palette_indices(SIZED(pixels), 2, dark, 2, &e.dithering, it->tolerance,
                                              SIZED(found)));
-        CHECK(found[0] == 0 && found[1] == it->index);
+        CHECK(found[0] == it->first && found[1] == it->second);
     }
 }
 

@@ -53,8 +53,7 @@ def mean_error(colors, pixels):
 
 def automatic_tolerance(kind, colors, pixels):
     mean, has_error = mean_error(colors, pixels)
-    part = 7 * mean // 5 if kind == OFF else mean
-    return max(12, part) if has_error else 0
+    return max(12, mean) * (3 if kind == OFF else 1) if has_error else 0
 
 
 def automatic_amplitude(colors, pixels):
@@ -84,6 +83,37 @@ def moved(width, place, color, amplitude):
         threshold = (column + 237 * row + 112 * channel) * 119 % 256
         offset = (2 * threshold - 255) * amplitude // 512
         yield min(max(color[channel] + offset, 0), 255)
+
+
+def cheapest(width, pixels, colors, tolerance):
+    """Undithered indices: of each pixel's nearest entry and its neighbors' the cheapest one."""
+    near, height = nearest_of(colors, pixels), len(pixels) // width
+    indices = [None] * len(pixels)
+    columns = itertools.product(range(0, height, 6), range(width), range(6))
+    for (column, row), top in (((x, top + line), top) for top, x, line in columns):
+        if row >= height:
+            continue
+        def entry(list_of, across, down):
+            place = down * width + across
+            inside = 0 <= across < width and top <= down < min(top + 6, height)
+            return list_of[place] if inside and pixels[place][3] >= 128 else None
+
+        def cost(index):
+            beside = [(indices, column - 1), (near, column + 1)]
+            lacking = sum(
+                all(entry(list_of, across, it) != index for it in range(top, top + 6))
+                for list_of, across in beside
+            )
+            free = entry(indices, column, row - 1) == index
+            squares = distance(colors[index], pixels[row * width + column])
+            return 2 * squares + tolerance * (0 if free else lacking)
+
+        around = [entry(near, column, row), entry(indices, column - 1, row)]
+        around += [entry(indices, column, row - 1), entry(near, column + 1, row)]
+        is_shown = around[0] is not None
+        entries = (it for it in around if it is not None)
+        indices[row * width + column] = min(entries, key=cost) if is_shown else 0
+    return indices
 
 
 def mapped(width, pixels, colors, amplitude=0, strength=0, tolerance=0):
@@ -202,8 +232,9 @@ class PaletteTest(unittest.TestCase):
                         "icysixel_palette_indices", pixels, 4 * len(pixels), width, colors,
                         len(colors), bytes([kind, number]), *passed.values(), found, len(pixels),
                     )
+                    model = cheapest if kind == OFF else mapped
                     wanted = pixels if kind == OFF else dithered
-                    self.assertEqual(list(found.raw), mapped(width, wanted, colors, **options))
+                    self.assertEqual(list(found.raw), model(width, wanted, colors, **options))
             self.assertEqual(mapped(width, pixels, colors), nearest_of(colors, pixels))
 
     def test_refined(self):

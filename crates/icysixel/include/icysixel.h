@@ -234,8 +234,8 @@ enum icysixel_background {
     ICYSIXEL_BACKGROUND_COLOR = 2
 };
 
-/* A tolerance by the palette: its mean squared error, or 7/5 of it without dithering. It is at
- * least 12, or 0 if there is no error. In a palette of grays it is that of the brightness. */
+/* A tolerance by the palette: its mean squared error, at least 12, or 0 if there is no error. It is
+ * three times that without dithering. In a palette of grays it is that of the brightness. */
 #define ICYSIXEL_AUTO UINT32_MAX
 
 /* Palettes of encoded images. Indexed pixels have the given palette in each mode. */
@@ -518,10 +518,12 @@ void icysixel_set_clip(icysixel *handle, size_t width, size_t height);
  * - In a given palette pixels have the indices of icysixel_palette_indices. Indexed pixels have
  *   their own, without dithering or tolerance.
  *
- * With a tolerance a pixel keeps the entry of an opaque neighbor, unless the nearest entry is
- * nearer by the tolerance or more. Neighbors are the pixel above in the same band of six rows, and
- * the pixel before: on the left in even rows, and on the right in odd ones. So runs are longer, and
- * the output is shorter.
+ * With dithering and a tolerance a pixel keeps the entry of an opaque neighbor, unless the nearest
+ * entry is nearer by the tolerance or more. Neighbors are the pixel above in the same band of six
+ * rows, and the pixel before: on the left in even rows, and on the right in odd ones. Without
+ * dithering an entry costs twice its squared distance, and the tolerance for each column beside the
+ * pixel, in its band, that lacks the entry. A pixel has the cheapest one of its own and of its
+ * neighbors. So runs are longer, and the output is shorter.
  *
  * The errors, in this order, are:
  *

@@ -13,7 +13,8 @@ use Rattle.sixel_base.specs.Payload.{Image}
 use Rattle.sixel_base.specs.Size.{banded}
 use Rattle.sixel_palette.specs.declared.mapping.Mapping.{Mapping}
 use Rattle.sixel_encoder.specs.declared.form.TextForm.{TextForm}
-use Rattle.sixel_palette.specs.Dithering.{AreDithered, entry_of}
+use Rattle.sixel_palette.specs.Dithering.{AreDithered}
+use Rattle.sixel_palette.specs.Palette.{entry_of}
 use Rattle.sixel_encoder.specs.Encoding.{AreShortest, image_fault}
 use Rattle.sixel_encoder.specs.Form.{form_text}
 use Rattle.sixel_encoder.specs.Text.{Drawing, text_of}

@@ -240,19 +240,23 @@ fn are_kept(alloc: Global, grays: (&[u8], usize), tolerance: Tolerance, expected
 
 #[test]
 fn tolerances(rt: HostRuntime) {
-    let row: (&[u8], usize) = (&[0, 5, 9], 3);
+    let row: (&[u8], usize) = (&[0, 5, 0], 3);
     let most = Tolerance::Squared(49);
-    // The entry before is at 75, the nearest one at 27: 48 more is not enough.
-    let is_nearest = are_kept(rt.alloc(), row, Tolerance::Squared(48), &[0, 1, 1]);
-    let is_kept = are_kept(rt.alloc(), row, most, &[0, 0, 1]);
-    let is_automatic = are_kept(rt.alloc(), row, Tolerance::Auto, &[0, 1, 1]);
+    // The entry before is at 75, the nearest one at 27, and both columns beside lack it.
+    let is_nearest = are_kept(rt.alloc(), row, Tolerance::Squared(48), &[0, 1, 0]);
+    let is_kept = are_kept(rt.alloc(), row, most, &[0, 0, 0]);
+    let is_automatic = are_kept(rt.alloc(), row, Tolerance::Auto, &[0, 1, 0]);
+    // The first pixel is at 192 from the entry of the column after, which lacks its own.
+    let pair: (&[u8], usize) = (&[0, 5, 5], 3);
+    let is_first = are_kept(rt.alloc(), pair, Tolerance::Squared(384), &[0, 1, 1]);
+    let is_pair = are_kept(rt.alloc(), pair, Tolerance::Squared(385), &[1, 1, 1]);
     // The seventh row begins a band.
     let column: (&[u8], usize) = (&[0, 5, 5, 5, 5, 5, 5], 1);
     let is_band = are_kept(rt.alloc(), column, most, &[0, 0, 0, 0, 0, 0, 1]);
-    // The second row goes from the right, and transparent pixels have no entry.
+    // Transparent pixels have no entry.
     let rows: (&[u8], usize) = (&[255, 255, 5, 0], 2);
-    let is_serpentine = are_kept(rt.alloc(), rows, most, &[0, 0, 0, 0]);
-    assert!(rt; is_nearest & is_kept & is_automatic & is_band & is_serpentine);
+    let is_transparent = are_kept(rt.alloc(), rows, most, &[0, 0, 1, 0]);
+    assert!(rt; is_nearest & is_kept & is_automatic & is_first & is_pair & is_band & is_transparent);
 }
 
 /// Draws a DCS sequence of two bands in chunks, and returns whether each row is drawn in time.

@@ -7,3 +7,8 @@ pub mod KeptEntries
 pub mod PaletteError
 pub mod SameVisits
 pub mod Serpentine
+pub mod Undithered
+pub mod UnditheredVisits
+pub mod AllKinds
+pub mod UnditheredLaws
+pub mod UnditheredAlike

@@ -12,7 +12,9 @@ use Rattle.sixel_base.specs.CallFault.{CallFault, color_count_fault, size_call_f
 use Rattle.sixel_base.specs.declared.error.SixelError.{SixelError}
 use Rattle.sixel_base.specs.declared.error.SixelError.TheVariants.{InvalidDimensions}
 use Rattle.sixel_base.specs.declared.error.SixelError.TheVariants.{BufferSizeMismatch}
-use Rattle.sixel_palette.specs.Palette.{color_at, distance, nearest, IsOpaque, IsNearest}
+use Rattle.sixel_palette.specs.Palette.{AreIndices, IsNearest, IsOpaque, color_at, entry_distance}
+use Rattle.sixel_palette.specs.Palette.{entry_of, nearest}
+use Rattle.sixel_palette.specs.Undithered.{AreChosen, Undithered}
 use Rattle.sixel_palette.specs.Refined.{opaque_pixels, sum_to, summed_error}
 use Rattle.sixel_palette.specs.Gray.{measured_pixels, source_pixels}
 use Rattle.sixel_palette.specs.declared.dither.Amplitude.{Amplitude}
@@ -64,12 +66,6 @@ serpentine width n = n / width * width + column_of_step width (n / width) (n % w
 
 -- ---- the entry of a pixel
 
--- the entry of a pixel: its index, if it is opaque
-abbrev pub entry_of : List ℕ → List ℕ → ℕ → Option ℕ
-entry_of pixels indices pixel =
-    if nat_le 128 (slice_index pixels (4 * pixel + 3)) then Some (slice_index indices pixel)
-    else None
-
 -- the entry of the pixel that is visited before this visit's, in the same row
 abbrev pub entry_before : Mapped → List ℕ → ℕ → Option ℕ
 entry_before m indices n =
@@ -80,10 +76,6 @@ abbrev pub entry_above : Mapped → List ℕ → ℕ → Option ℕ
 entry_above m indices n =
     if n / m.width % 6 == 0 then None
     else entry_of m.pixels indices (serpentine m.width n - m.width)
-
--- the squared distance of an entry to a color
-abbrev pub entry_distance : List (List ℕ) → List ℕ → ℕ → ℕ
-entry_distance colors c entry = distance (slice_index_or colors entry []) c
 
 -- of two entries the one nearer to a color, the first one on ties
 abbrev pub nearer_entry : List (List ℕ) → List ℕ → Option ℕ → Option ℕ → Option ℕ
@@ -271,7 +263,7 @@ index_error colors pixels indices =
 
 -- the automatic tolerance for a mean error, which is greater without dithering
 abbrev pub automatic_tolerance : Dither → ℕ → ℕ
-automatic_tolerance Off mean = max 12 (7 * mean / 5)
+automatic_tolerance Off mean = 3 * max 12 mean
 automatic_tolerance dither mean = max 12 mean
 
 -- the tolerance for a palette
@@ -329,15 +321,31 @@ mapped_of mapping width pixels colors = record {
 
 -- the target of each visit
 abbrev pub target_of : Dither → Mapped → List ℕ → ℕ → List ℕ
-target_of Off m indices n = color_at m.pixels (serpentine m.width n)
-target_of (Ordered amplitude) m indices n = ordered_color m (serpentine m.width n)
 target_of (Diffusion strength) m indices n = target_of_visit m (errors_of m indices n) n
+target_of dither m indices n = ordered_color m (serpentine m.width n)
 
--- each pixel has the index for its target
+-- indices without dithering, and those of nearest entries
+abbrev pub undithered_of : Mapped → List ℕ → List ℕ → Undithered
+undithered_of m nearest indices = record {
+  width = m.width;
+  pixels = m.pixels;
+  colors = m.colors;
+  price = m.tolerance;
+  nearest = nearest;
+  chosen = indices;
+}
+
+-- each pixel has the index for its target, or without dithering the one that is chosen
+abbrev pub HaveIndices : Dither → Mapped → List ℕ → Type 0
+HaveIndices Off m indices =
+    (nearest : List ℕ) × AreIndices m.pixels m.colors nearest
+    × AreChosen (undithered_of m nearest indices)
+HaveIndices dither m indices = AreMapped m (target_of dither m indices) indices
+
+-- so it is in a palette
 abbrev pub HaveTargets : Mapping → ℕ → List ℕ → List (List ℕ) → List ℕ → Type 0
 HaveTargets mapping width pixels colors indices =
-    AreMapped (mapped_of mapping width pixels colors)
-    (target_of mapping.dither (mapped_of mapping width pixels colors) indices) indices
+    HaveIndices mapping.dither (mapped_of mapping width pixels colors) indices
 
 -- the indices are those of the pixels in the palette
 abbrev pub AreDithered : Mapping → ℕ → List ℕ → List (List ℕ) → List ℕ → Type 0

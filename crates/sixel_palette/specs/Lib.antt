@@ -9,3 +9,4 @@ pub mod inside
 pub mod Dithering
 pub mod Gray
 pub mod GrayDiffusion
+pub mod Undithered

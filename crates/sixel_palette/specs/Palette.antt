@@ -3,6 +3,7 @@
 -- k-center problem. The order of ties is this library's.
 use Rattle.std.specs.Prelude.{◌≡◌, ◌⊎◌, ℕ, ◌+◌, ◌*◌, ◌/◌, ◌<◌, ◌≤◌, min, max, List, [], ◌∷◌, ◌++◌}
 use Rattle.std.specs.Prelude.{length, take, All, AllPairs, Contains, slice_index, slice_index_or}
+use Rattle.std.specs.Prelude.{nat_le, if◌then◌else◌, Option, Some, None}
 use Rattle.std.specs.Int.{abs_diff}
 
 -- a color is a list of three channels: red, green, blue. This is its rank in the order by red,
@@ -85,6 +86,16 @@ pub record IsNearest (entries : List (List ℕ)) (c : List ℕ) (i : ℕ) : Type
       → distance (slice_index_or entries i []) c ≤ distance (slice_index_or entries j []) c
   pub first : (j : ℕ) → j < i
       → distance (slice_index_or entries i []) c < distance (slice_index_or entries j []) c
+
+-- the entry of a pixel: its index, if it is opaque
+abbrev pub entry_of : List ℕ → List ℕ → ℕ → Option ℕ
+entry_of pixels indices pixel =
+    if nat_le 128 (slice_index pixels (4 * pixel + 3)) then Some (slice_index indices pixel)
+    else None
+
+-- the squared distance of an entry to a color
+abbrev pub entry_distance : List (List ℕ) → List ℕ → ℕ → ℕ
+entry_distance colors c entry = distance (slice_index_or colors entry []) c
 
 -- one palette index a pixel: that of the nearest entry for an opaque pixel, 0 for a transparent one
 pub record AreIndices (pixels : List ℕ) (entries : List (List ℕ)) (indices : List ℕ) : Type 0 where

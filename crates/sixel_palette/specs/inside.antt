@@ -17,3 +17,4 @@ pub mod Diffusion
 pub mod Mapped
 pub mod PaletteError
 pub mod SixteenEntries
+pub mod Undithered

@@ -39,7 +39,7 @@ use crate::dithering::mapped::MappedImage;
 use crate::dithering::nearest::Nearest;
 use crate::dithering::ordered::ordered_indices;
 use crate::dithering::palette_error::{amplitude_of, refined_dither, tolerance_of};
-use crate::dithering::undithered::keep_entries;
+use crate::dithering::undithered::chosen_indices;
 use crate::mapping::{Mapping, Tolerance};
 use crate::palette::nearest_indices::{color_bytes, nearest_indices};
 use crate::palette::refined::Refinement;
@@ -52,15 +52,22 @@ use std::alloc::{AllocError, Global};
 ///
 /// The pixels are rows of `width`, four bytes each: red, green, blue, alpha. The target of a pixel
 /// is its color, moved by the dithering. Each opaque pixel has the index of the entry nearest to
-/// its target, the first of equals. A distance is the sum of the squared differences of the
-/// channels.
+/// its target, the first of equals, apart from the tolerance. A distance is the sum of the squared
+/// differences of the channels.
 ///
-/// A pixel keeps the entry of an opaque neighbor if the distance of that entry to the target is
-/// below the distance of the nearest entry plus the tolerance. One neighbor is the pixel before it
-/// in its row: even rows go from the left, odd rows from the right. The other one is the pixel
-/// above it in the same band of six rows. Of two entries the nearer one is kept, that of the pixel
-/// before it on ties. Without dithering the summed squared error is at most the least one plus the
-/// tolerance for each opaque pixel.
+/// With dithering, a pixel keeps the entry of an opaque neighbor if the distance of that entry to
+/// the target is below the distance of the nearest entry plus the tolerance. One neighbor is the
+/// pixel before it in its row: even rows go from the left, odd rows from the right. The other one
+/// is the pixel above it in the same band of six rows. Of two entries the nearer one is kept, that
+/// of the pixel before it on ties.
+///
+/// Without dithering, a pixel has the cheapest of up to four entries, the first of equals: the
+/// nearest one, those of the opaque pixels before and above it, and the nearest one of the opaque
+/// pixel after it. An entry costs twice its distance, and the tolerance for each of the two columns
+/// beside the pixel, in its band of six rows, that lacks the entry. The columns cost nothing if the
+/// pixel above has it. Bands, columns of a band and pixels of a column are visited in order. The
+/// column after counts with nearest entries. So the summed squared error is at most the least one
+/// plus the tolerance for each opaque pixel.
 ///
 /// In a palette of grays, dithering maps the brightness of the pixels, because no gray repays the
 /// difference of a hue. What pixels pass on is gray then. Without dithering the colors are mapped,
@@ -277,7 +284,10 @@ fn mapped_indices(
         ..*image
     };
     match mapping.dither {
-        Dither::Off => Ok(keep_entries(&image, nearest.indices(alloc, &image)?)),
+        Dither::Off => {
+            let nearest = nearest.indices(alloc, &image)?;
+            chosen_indices(alloc, &image, nearest)
+        }
         Dither::Ordered { amplitude } => {
             let amplitude = amplitude_of(&image, &nearest, amplitude);
             ordered_indices(alloc, &MappedImage { amplitude, ..image })

@@ -11,16 +11,17 @@ fn exact(dither: Dither) -> Mapping {
     Mapping { dither, tolerance: Tolerance::Squared(0) }
 }
 
-/// The second pixel has squared distances of 36 and 16 to the entries.
+/// The pixels have squared distances of 0 and 100, and of 36 and 16 to the entries.
 #[test]
 fn tolerances() {
     let pixels = [0, 0, 0, 255, 6, 0, 0, 255];
     let (dither, squared) = (Dither::Off, Tolerance::Squared);
-    let runs = [(squared(20), 1), (squared(21), 0), (squared(u32::MAX), 0), (Tolerance::Auto, 1)];
-    for (tolerance, index) in runs {
+    let most = [(squared(200), [0, 0]), (squared(201), [1, 1]), (squared(u32::MAX), [1, 1])];
+    let runs = [(Tolerance::Auto, [0, 1]), (squared(40), [0, 1]), (squared(41), [0, 0])];
+    for (tolerance, indices) in runs.into_iter().chain(most) {
         let mapping = Mapping { dither, tolerance };
         let found = palette_indices(&pixels, 2, &[[0; 3], [10, 0, 0]], mapping).unwrap();
-        assert_eq!(found, [0, index]);
+        assert_eq!(found, indices);
     }
 }
 

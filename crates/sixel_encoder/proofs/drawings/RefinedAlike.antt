@@ -5,7 +5,7 @@ use Rattle.std.specs.Option.{option_or}
 use Rattle.sixel_base.specs.CallFault.{CallFault, FailsBy, size_call_fault}
 use Rattle.sixel_base.specs.Payload.{Image}
 use Rattle.sixel_base.specs.declared.error.SixelError.{SixelError}
-use Rattle.sixel_palette.specs.Palette.{AreIndices, nearest}
+use Rattle.sixel_palette.specs.Palette.{nearest}
 use Rattle.sixel_palette.specs.Refined.{IsRefined, base_entries, cut_entries, opaque_bins}
 use Rattle.sixel_palette.specs.Refined.{opaque_pixels}
 use Rattle.sixel_palette.specs.Spread.{spread_entries}
@@ -22,19 +22,14 @@ use Rattle.sixel_encoder.specs.RefinedText.{IsRefinedText, ShowsEntries}
 use Rattle.sixel_encoder.proofs.drawings.PaletteText.{hidden-returned, rows-sound}
 use Rattle.sixel_encoder.proofs.drawings.SameDithering.{AreDithered-alike, drawing-alike}
 use Rattle.sixel_encoder.proofs.drawings.SameDithering.{pixels-same, refined-alike}
-use Rattle.sixel_palette.proofs.mapped_images.SameVisits.{AreAlike}
+use Rattle.sixel_palette.proofs.mapped_images.UnditheredAlike.{indices-alike}
 use Rattle.sixel_encoder.proofs.drawings.SameDrawing.{IsShown-other}
 use Rattle.std.proofs.lemmas.Bool.Decides.{nat_tests}
 use Rattle.sixel_encoder.proofs.drawings.SameDrawing.{AreAlike-images}
 
 -- ---- the palette
 
--- the indices of nearest entries are the same
-indices-same : (p q : List ℕ) (entries : List (List ℕ)) (indices : List ℕ) → AreAlike p q
-    → AreIndices p entries indices → AreIndices q entries indices
-indices-same p q entries indices alike are = grind (arith, nat_tests)
-
--- so a palette is refined for both
+-- a palette is refined for both
 pub IsRefined-other : (image other : Image) (max_colors : ℕ) (palette : RefinedPalette)
     → shown_image image ≡ shown_image other → IsRefined image.pixels max_colors palette
     → IsRefined other.pixels max_colors palette
@@ -63,7 +58,7 @@ IsRefined-other image other max_colors palette e is =
             w.0 ∙ ap (λ p. cut_entries p max_colors) same,
             w.1 ∙ ap (λ p. base_entries p max_colors) same,
           );
-      indices = grind (arith, nat_tests, indices-same);
+      indices = grind (arith, nat_tests, indices-alike);
       error = is.error ∙ first;
       falls = omega (arith, is.falls, first, initial);
       initial_shown = is.initial_shown;

@@ -1,11 +1,12 @@
 -- Images that show the same have the same indices at their opaque pixels, so one drawing.
 use Rattle.std.proofs.Common.{◌≡◌, ℕ, zero, suc, ◌+◌, ◌*◌, ◌<◌, ◌≤◌, List, length, refl}
 use Rattle.std.proofs.Common.{ap, sym, subst, arith, inl, inr}
-use Rattle.std.specs.Prelude.{◌/◌, None, Option, slice_index}
+use Rattle.std.specs.Prelude.{◌/◌, ◌%◌, None, Option, slice_index}
+use Rattle.std.proofs.lemmas.Nat.{div-add-mod', mod_below}
 use Rattle.std.proofs.lemmas.Bool.{cases_lt}
 use Rattle.std.proofs.lemmas.List.{ext_get_or}
 use Rattle.std.proofs.lemmas.List.FromFn.{length-map-range_with_len}
-use Rattle.sixel_palette.specs.Palette.{IsOpaque}
+use Rattle.sixel_palette.specs.Palette.{IsOpaque, entry_of}
 use Rattle.sixel_palette.specs.Refined.{opaque_pixels}
 use Rattle.sixel_base.specs.Payload.{Image}
 use Rattle.sixel_palette.specs.declared.dither.Amplitude.{Amplitude}
@@ -13,8 +14,9 @@ use Rattle.sixel_palette.specs.declared.dither.Dither.{Dither}
 use Rattle.sixel_palette.specs.declared.dither.Dither.TheVariants.{Diffusion, Off, Ordered}
 use Rattle.sixel_palette.specs.declared.mapping.Mapping.{Mapping}
 use Rattle.sixel_palette.specs.declared.mapping.Tolerance.{Tolerance}
-use Rattle.sixel_palette.specs.Dithering.{AreDithered, AreMapped, HasTarget, HaveTargets, IsIndex}
-use Rattle.sixel_palette.specs.Dithering.{Mapped, amplitude_of, entry_of, mapped_of, pattern_of}
+use Rattle.sixel_palette.specs.Dithering.{AreDithered, AreMapped, HasTarget, HaveIndices}
+use Rattle.sixel_palette.specs.Dithering.{HaveTargets, IsIndex, undithered_of}
+use Rattle.sixel_palette.specs.Dithering.{Mapped, amplitude_of, mapped_of, pattern_of}
 use Rattle.sixel_palette.specs.Dithering.{refined_mapping, serpentine, target_of, tolerance_of}
 use Rattle.sixel_encoder.specs.Encoding.{shown_image}
 use Rattle.sixel_palette.specs.Gray.{source_pixels}
@@ -28,6 +30,8 @@ use Rattle.sixel_encoder.proofs.drawings.IndexedDrawing.{get_or-entries}
 use Rattle.sixel_palette.proofs.mapped_images.KeptEntries.{IsIndex-same}
 use Rattle.sixel_palette.proofs.mapped_images.PaletteError.{number-dark, number-light, sum_to-same}
 use Rattle.sixel_encoder.proofs.drawings.SameDrawing.{drawing-fields}
+use Rattle.sixel_palette.proofs.mapped_images.UnditheredAlike.{AreChosen-alike, chosen-alike}
+use Rattle.sixel_palette.proofs.mapped_images.UnditheredAlike.{indices-alike}
 use Rattle.sixel_palette.proofs.mapped_images.SameVisits.{AreAlike, AreSameOpaque, channel-alike}
 use Rattle.sixel_palette.proofs.mapped_images.SameVisits.{entry-before, errors-alike}
 use Rattle.sixel_palette.proofs.mapped_images.SameVisits.{neighbor-alike}
@@ -42,7 +46,8 @@ target_of-alike : (dither : Dither) (m : Mapped) (q a b : List ℕ) (n : ℕ) �
     → AreRowsOf m.pixels m.width → n < length m.pixels / 4 → AreSameOpaque m a b n
     → IsOpaque m.pixels (serpentine m.width n)
     → target_of dither m a n ≡ target_of dither (with_pixels m q) b n
-target_of-alike Off m q a b n alike rows l same light = grind (arith, nat_tests, visit-inside)
+target_of-alike Off m q a b n alike rows l same light =
+    grind (arith, nat_tests, visit-inside, channel-alike)
 target_of-alike (Ordered amplitude) m q a b n alike rows l same light =
     grind (arith, nat_tests, visit-inside, channel-alike)
 target_of-alike (Diffusion strength) m q a b n alike rows l same light =
@@ -61,11 +66,12 @@ index-alike : (dither : Dither) (m : Mapped) (q a b : List ℕ) (n : ℕ) → Ar
     → IsOpaque m.pixels (serpentine m.width n)
     → slice_index a (serpentine m.width n) ≡ slice_index b (serpentine m.width n)
 index-alike dither m q a b n alike rows l same first second light =
-    let at = serpentine m.width n in
-    let there = alike.opaque at (visit-inside m n rows l) light in
+    let there = alike.opaque (serpentine m.width n) (visit-inside m n rows l) light in
     let own = target_of dither m a n in
     let target = target_of-alike dither m q a b n alike rows l same light in
-    grind (arith, nat_tests, neighbor-alike m q own a b n alike rows l same, IsIndex-same, at)
+    let near = neighbor-alike m q own a b n alike rows l same in
+    let is = IsIndex-other m q _ _ _ (first.opaque light) in
+    IsIndex-same (with_pixels m q) _ _ _ _ (rw target at (rw near at is)) (second.opaque there.0)
 
 -- so are those of all visits
 same-opaque : (dither : Dither) (m : Mapped) (q a b : List ℕ) (n : ℕ) → AreAlike m.pixels q
@@ -141,6 +147,42 @@ other-mapped dither m q a alike rows are = record {
       };
 }
 
+-- so are those of all kinds
+HaveIndices-alike : (dither : Dither) (m : Mapped) (q a : List ℕ) → AreAlike m.pixels q
+    → AreRowsOf m.pixels m.width → HaveIndices dither m a → HaveIndices dither (with_pixels m q) a
+HaveIndices-alike Off m q a alike rows have =
+    let near = indices-alike m.pixels q m.colors have.0 alike have.1 in
+    (have.0, near, AreChosen-alike (undithered_of m have.0 a) q alike have.1 near have.2)
+HaveIndices-alike (Ordered amplitude) m q a alike rows have =
+    other-mapped (Ordered amplitude) m q a alike rows have
+HaveIndices-alike (Diffusion strength) m q a alike rows have =
+    other-mapped (Diffusion strength) m q a alike rows have
+
+-- and the entries
+mapped-entry : (dither : Dither) (m : Mapped) (q a b : List ℕ) (pixel : ℕ) → AreAlike m.pixels q
+    → AreRowsOf m.pixels m.width → AreMapped m (target_of dither m a) a
+    → AreMapped (with_pixels m q) (target_of dither (with_pixels m q) b) b
+    → pixel < length m.pixels / 4 → entry_of m.pixels a pixel ≡ entry_of q b pixel
+mapped-entry dither m q a b pixel alike rows first second l =
+    let count = length m.pixels / 4 in
+    entry-before m q a b count pixel alike rows.some l (same-opaque dither m q a b count
+    alike rows (omega arith) first.each (λ k lk. second.each k (omega (arith, alike.count, lk))))
+    (visit-inside m pixel rows l)
+
+have-alike : (dither : Dither) (m : Mapped) (q a b : List ℕ) (pixel : ℕ) → AreAlike m.pixels q
+    → AreRowsOf m.pixels m.width → HaveIndices dither m a → HaveIndices dither (with_pixels m q) b
+    → pixel < length m.pixels / 4 → entry_of m.pixels a pixel ≡ entry_of q b pixel
+have-alike Off m q a b pixel alike rows first second l =
+    let place = div-add-mod' pixel m.width in
+    rw place at
+    (chosen-alike (undithered_of m first.0 a) q second.0 b alike first.1 second.1 first.2 second.2
+    (suc (6 * (pixel % m.width) + pixel / m.width % 6)) (pixel % m.width) (pixel / m.width)
+    (omega arith) (mod_below pixel m.width rows.some))
+have-alike (Ordered amplitude) m q a b pixel alike rows first second l =
+    mapped-entry (Ordered amplitude) m q a b pixel alike rows first second l
+have-alike (Diffusion strength) m q a b pixel alike rows first second l =
+    mapped-entry (Diffusion strength) m q a b pixel alike rows first second l
+
 module _ (mapping : Mapping) (width : ℕ) (colors : List (List ℕ)) where
   -- so the images are mapped alike
   mapped-alike : (p q : List ℕ) → AreAlike p q
@@ -150,9 +192,9 @@ module _ (mapping : Mapping) (width : ℕ) (colors : List (List ℕ)) where
   -- so indices of the one are indices of the other
   HaveTargets-alike : (p q a : List ℕ) → AreAlike p q → AreRowsOf p width
       → HaveTargets mapping width p colors a → HaveTargets mapping width q colors a
-  HaveTargets-alike p q a alike rows are =
-      subst (λ (o : Mapped). AreMapped o (target_of mapping.dither o a) a) (mapped-alike p q alike)
-      (other-mapped mapping.dither (mapped_of mapping width p colors) q a alike rows are)
+  HaveTargets-alike p q a alike rows have =
+      subst (λ (o : Mapped). HaveIndices mapping.dither o a) (mapped-alike p q alike)
+      (HaveIndices-alike mapping.dither (mapped_of mapping width p colors) q a alike rows have)
 
   pub AreDithered-alike : (p q a : List ℕ) → AreAlike p q → AreRowsOf p width
       → AreDithered mapping width p colors a → AreDithered mapping width q colors a
@@ -168,14 +210,11 @@ module _ (mapping : Mapping) (colors : List (List ℕ)) (a b : List ℕ) where
       → HaveTargets mapping width p colors a → HaveTargets mapping width q colors b
       → pixel < length p / 4 → entry_of p a pixel ≡ entry_of q b pixel
   entry-targets width p q pixel alike rows first second l =
-      let m = mapped_of mapping width p colors in
       let also =
-      subst (λ (o : Mapped). AreMapped o (target_of mapping.dither o b) b)
+      subst (λ (o : Mapped). HaveIndices mapping.dither o b)
       (sym (mapped-alike mapping width colors p q alike)) second in
-      let count = length p / 4 in
-      entry-before m q a b count pixel alike rows.some l (same-opaque mapping.dither m q a b count
-      alike rows (omega arith) first.each (λ k lk. also.each k (omega (arith, alike.count, lk))))
-      (visit-inside m pixel rows l)
+      have-alike mapping.dither (mapped_of mapping width p colors) q a b pixel alike rows first
+      also l
 
   entry-alike : (width : ℕ) (p q : List ℕ) (pixel : ℕ) → AreAlike p q → AreRowsOf p width
       → AreDithered mapping width p colors a → AreDithered mapping width q colors b

@@ -4,15 +4,13 @@ use Rattle.std.proofs.Common.{◌≡◌, ℕ, ◌/◌, ◌<◌, ◌≤◌, List,
 use Rattle.std.proofs.Common.{arith}
 use Rattle.std.specs.Prelude.{All, Contains, None, slice_index, slice_index_or}
 use Rattle.std.proofs.lemmas.Bool.Decides.{nat_tests}
-use Rattle.std.proofs.Math.Nat.{mul_comm}
 use Rattle.std.proofs.lemmas.List.{get_or-map, length-map}
 use Rattle.sixel_base.specs.Payload.{Image}
 use Rattle.sixel_palette.specs.Palette.{AreIndices, HasSize, IsOpaque, IsShown, color_at}
 use Rattle.sixel_palette.specs.Refined.{IsRegisterColor, register_color}
-use Rattle.sixel_palette.specs.Dithering.{mapped_of, target_of}
-use Rattle.sixel_palette.specs.declared.dither.Dither.TheVariants.{Off}
+use Rattle.sixel_palette.specs.Dithering.{mapped_of, undithered_of}
 use Rattle.sixel_palette.proofs.mapped_images.DiffusionLaws.{nearest-own}
-use Rattle.sixel_palette.proofs.mapped_images.DitheredIndices.{AreIndices-mapped, AreRows}
+use Rattle.sixel_palette.proofs.mapped_images.UnditheredLaws.{AreIndices-chosen}
 use Rattle.sixel_palette.proofs.mapped_images.KeptEntries.{entry_of-opaque}
 use Rattle.sixel_palette.proofs.refinement.Refined.{register_color-own}
 use Rattle.sixel_palette.proofs.traversal.Law.{size_same}
@@ -54,20 +52,12 @@ module _ (image : Image) (max_colors n : ℕ) (form : TextForm) (text : List ℕ
   own-indices : (pixel : ℕ) → pixel < length image.pixels / 4 → IsOpaque image.pixels pixel
       → AreIndices image.pixels is.colors is.text.indices
   own-indices pixel l light =
-      let m = mapped_of no_mapping image.width image.pixels is.colors in
-      let has = held (color_at image.pixels pixel) (pixel, l, light, refl) in
+      let have = is.text.dithered in
       let within = within-sound image sound in
-      let rows : AreRows m =
-      record {
-        rows = record {
-          some = omega (arith, within.some_width);
-          count = image.height;
-          whole = omega (arith, within.sized, mul_comm image.width image.height);
-        };
-        some = omega (arith, has.1);
-      } in
-      AreIndices-mapped m (target_of Off m is.text.indices) is.text.indices rows refl
-      is.text.dithered (λ visit inside opaque. refl)
+      let entry = held (color_at image.pixels pixel) (pixel, l, light, refl) in
+      AreIndices-chosen (undithered_of (mapped_of no_mapping image.width image.pixels is.colors)
+      have.0 is.text.indices) have.2 have.1 (omega (arith, within.some_width))
+      (omega (arith, entry.1)) refl
 
   -- so an opaque pixel has the index of its color
   own-index : (pixel : ℕ) → pixel < length image.pixels / 4 → IsOpaque image.pixels pixel

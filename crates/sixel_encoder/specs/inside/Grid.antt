@@ -4,7 +4,7 @@
 use Rattle.std.specs.Prelude.{◌≡◌, ℕ, ◌+◌, ◌*◌, ◌<◌, ◌≤◌, ◌==◌, Bool, true, false, ◌&&◌}
 use Rattle.std.specs.Prelude.{if◌then◌else◌, List, [], length, map, slice_index, slice_index_or}
 use Rattle.std.specs.Prelude.{Option, nat_lt}
-use Rattle.sixel_palette.specs.Dithering.{entry_of}
+use Rattle.sixel_palette.specs.Palette.{entry_of}
 use Rattle.std.specs.List.{range_with_len}
 use Rattle.sixel_encoder.specs.declared.band.BandRows.{BandRows}
 use Rattle.sixel_encoder.specs.declared.band.Line.{Line}

@@ -5,7 +5,7 @@ use Rattle.std.specs.Prelude.{◌≡◌, ℕ, ◌+◌, ◌*◌, ◌<◌, ◌≤�
 use Rattle.sixel_base.specs.Limits.{side_limit}
 use Rattle.sixel_encoder.specs.declared.text.IndexedImage.{IndexedImage}
 use Rattle.sixel_encoder.specs.Text.{Drawing}
-pub use Rattle.sixel_palette.specs.Dithering.{entry_of}
+pub use Rattle.sixel_palette.specs.Palette.{entry_of}
 pub use Rattle.sixel_encoder.specs.IndexedDrawing.{entries_of}
 
 -- the drawing that an image is

@@ -10,7 +10,7 @@ use Rattle.sixel_palette.specs.Palette.{AreIndices, IsOpaque, color_at}
 use Rattle.sixel_palette.specs.Dithering.{AreMapped, HasTarget, IsIndex, Mapped, neighbor_of}
 use Rattle.sixel_palette.specs.Dithering.{serpentine, whole_rows}
 use Rattle.sixel_palette.specs.declared.dithering.mapped.MappedImage.{MappedImage}
-use Rattle.sixel_palette.specs.inside.Mapped.{AreEntries, IsIndexAt, IsLater, IsMappable}
+use Rattle.sixel_palette.specs.inside.Mapped.{AreEntries, IsIndexAt, IsMappable}
 use Rattle.sixel_palette.specs.inside.Mapped.{mapped_value}
 use Rattle.sixel_palette.proofs.mapped_images.KeptEntries.{AreSame, IsIndex-exact, neighbor-inside}
 use Rattle.sixel_palette.proofs.mapped_images.KeptEntries.{neighbor-same}
@@ -99,16 +99,6 @@ HasTarget-pixel m target indices pixel rows are l =
 pub AreEntries-indices : (m : Mapped) (indices : List ℕ) → AreRows m
     → AreIndices m.pixels m.colors indices → AreEntries m.colors indices
 AreEntries-indices m indices rows are = grind (arith, nat_tests, get_or_past)
-
--- before the visits each has that of its nearest entry
-pub IsLater-indices : (m : Mapped) (indices : List ℕ) (n : ℕ) → AreRows m
-    → AreIndices m.pixels m.colors indices → n < length m.pixels / 4 → IsLater m indices n
-IsLater-indices m indices n rows are l = grind (arith, nat_tests, visit-inside)
-
--- and keeps it until its visit
-pub IsLater-set : (m : Mapped) (indices : List ℕ) (n index k : ℕ) → 0 < m.width → n < k
-    → IsLater m indices k → IsLater m (set indices (serpentine m.width n) index) k
-IsLater-set m indices n index k some later is = grind (arith, get_or-set_other, serpentine-apart)
 
 -- without a tolerance the nearest entries of the colors have the colors as targets
 pub AreMapped-exact : (m : Mapped) (target : ℕ → List ℕ) (indices : List ℕ) → AreRows m

@@ -5,19 +5,20 @@ use Rattle.std.specs.Prelude.{◌/◌, ◌%◌, ◌&&◌, Contains, slice_index,
 use Rattle.std.proofs.lemmas.Bool.{and_parts, cases_lt}
 use Rattle.std.proofs.lemmas.List.{get_or_default, get_or_past}
 use Rattle.sixel_palette.specs.Palette.{AreIndices, IsOpaque, color_at, distance, square_gap}
+use Rattle.sixel_palette.specs.Palette.{entry_of}
 use Rattle.sixel_palette.specs.declared.dither.Dither.{Dither}
 use Rattle.sixel_palette.specs.declared.dither.Dither.TheVariants.{Diffusion, Off, Ordered}
 use Rattle.sixel_palette.specs.declared.mapping.Mapping.{Mapping}
-use Rattle.sixel_palette.specs.Dithering.{AreDithered, entry_of, mapped_of, target_of, Mapped}
+use Rattle.sixel_palette.specs.Dithering.{AreDithered, mapped_of, Mapped}
 use Rattle.sixel_palette.specs.Dithering.{errors_of, no_error, opaque_error, passed_on, received}
 use Rattle.sixel_palette.specs.Dithering.{sixteenths, target_of_visit, error_above, error_before}
 use Rattle.sixel_palette.specs.Dithering.{error_behind, error_beyond}
 use Rattle.sixel_palette.specs.Gray.{are_gray, gray_color, gray_pixel, gray_pixels, is_gray}
 use Rattle.sixel_palette.specs.Gray.{maps_grays, measured_pixels, source_pixels}
-use Rattle.sixel_palette.proofs.mapped_images.DitheredIndices.{AreRowsOf, HasTarget-pixel}
+use Rattle.sixel_palette.proofs.mapped_images.AllKinds.{have-count, have-entry}
+use Rattle.sixel_palette.proofs.mapped_images.DitheredIndices.{AreRowsOf}
 use Rattle.sixel_palette.proofs.mapped_images.SameVisits.{AreAlike}
 use Rattle.std.proofs.lemmas.Bool.Decides.{nat_tests}
-use Rattle.sixel_palette.proofs.mapped_images.Serpentine.{serpentine-serpentine}
 use Rattle.std.specs.Int.{abs_diff}
 use Rattle.sixel_palette.specs.GrayDiffusion.{AreGrays}
 use Rattle.sixel_palette.proofs.mapped_images.DiffusionLaws.{errors-all, neighbors-all}
@@ -157,7 +158,10 @@ AreIndices-source p s colors indices is own are = grind (arith, nat_tests)
 pub dithered-count : (mapping : Mapping) (width : ℕ) (p : List ℕ) (colors : List (List ℕ))
     (indices : List ℕ) → AreDithered mapping width p colors indices
     → length indices ≡ length p / 4
-dithered-count mapping width p colors indices are = grind (arith, nat_tests, IsSource-pixels)
+dithered-count mapping width p colors indices are =
+    let s = source_pixels mapping.dither colors p in
+    have-count mapping.dither (mapped_of mapping width s colors) indices are
+    ∙ (IsSource-pixels mapping.dither colors p).count
 
 -- that of an opaque pixel is the index of an entry
 pub dithered-entry : (mapping : Mapping) (width : ℕ) (p : List ℕ) (colors : List (List ℕ))
@@ -167,12 +171,9 @@ pub dithered-entry : (mapping : Mapping) (width : ℕ) (p : List ℕ) (colors : 
 dithered-entry mapping width p colors indices pixel rows are l light =
     let s = source_pixels mapping.dither colors p in
     let is = IsSource-pixels mapping.dither colors p in
-    let m = mapped_of mapping width s colors in
-    let has =
-    HasTarget-pixel m (target_of mapping.dither m indices) indices pixel
-    (AreRowsOf-source p s width is rows) are (omega (arith, l, is.count)) in
-    let back = serpentine-serpentine width pixel rows.some in
-    grind (arith, nat_tests, is.alpha pixel)
+    have-entry mapping.dither (mapped_of mapping width s colors) indices pixel
+    (AreRowsOf-source p s width is rows) are (omega (arith, l, is.count))
+    (omega (arith, is.alpha pixel l, light))
 
 -- ---- gray colors
 

@@ -5,11 +5,11 @@ use Rattle.std.specs.Prelude.{◌/◌, ◌%◌, ◌==◌, Option, Some, None, sl
 use Rattle.std.proofs.lemmas.Bool.{cases_eq, cases_lt}
 use Rattle.std.proofs.lemmas.Bool.Decides.{nat_tests}
 use Rattle.std.proofs.lemmas.Nat.{div-add-mod', div-mul-add, mod-mul-add, mod_below, mul-le}
-use Rattle.sixel_palette.specs.Palette.{IsNearest, nearest, no_entry}
+use Rattle.sixel_palette.specs.Palette.{IsNearest, entry_distance, entry_of, nearest, no_entry}
 use Rattle.sixel_palette.proofs.nearest_entries.Nearest.{nearest-le, nearest-reached}
 use Rattle.sixel_palette.specs.declared.dithering.mapped.Kept.{Kept}
 use Rattle.sixel_palette.specs.Dithering.{IsIndex, Mapped, column_of_step, entry_above}
-use Rattle.sixel_palette.specs.Dithering.{entry_before, entry_distance, entry_of, neighbor_of}
+use Rattle.sixel_palette.specs.Dithering.{entry_before, neighbor_of}
 use Rattle.sixel_palette.specs.Dithering.{serpentine}
 use Rattle.sixel_palette.specs.inside.Mapped.{AreEntries, IsInside, IsKept, kept_value}
 use Rattle.sixel_palette.specs.inside.Mapped.{no_distance}

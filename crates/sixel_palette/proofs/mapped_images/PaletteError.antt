@@ -1,22 +1,19 @@
 -- The error of a palette: sums over the opaque pixels, and what follows where it is none.
 use Rattle.std.proofs.Common.{◌≡◌, ℕ, zero, suc, ◌+◌, ◌*◌, ◌<◌, ◌≤◌, List, []}
-use Rattle.std.proofs.Common.{length, refl, ap, sym, subst, ◌∙◌, arith, inl, inr}
+use Rattle.std.proofs.Common.{length, refl, ◌∙◌, arith, inl, inr}
 use Rattle.std.specs.Prelude.{◌/◌, Contains, All, Option, slice_index}
 use Rattle.std.proofs.lemmas.Bool.{cases_eq, cases_lt}
 use Rattle.std.proofs.lemmas.Bool.Decides.{nat_tests}
 use Rattle.std.proofs.lemmas.List.{get_or_default}
-use Rattle.sixel_palette.specs.Palette.{IsOpaque, color_at, nearest, no_entry}
+use Rattle.sixel_palette.specs.Palette.{IsOpaque, color_at, entry_distance, nearest, no_entry}
 use Rattle.sixel_palette.specs.Refined.{opaque_number, opaque_pixels, sum_to, summed_error}
-use Rattle.sixel_palette.proofs.colors.Colors.{Contains-nearest, IsColor, distance-lt}
+use Rattle.sixel_palette.proofs.colors.Colors.{Contains-nearest}
 use Rattle.sixel_palette.proofs.colors.Distance.{distance_self}
-use Rattle.sixel_palette.proofs.nearest_entries.Nearest.{nearest-cap, nearest-le, nearest-reached}
-use Rattle.sixel_palette.proofs.colors.Shown.{IsColor-color_at}
+use Rattle.sixel_palette.proofs.nearest_entries.Nearest.{nearest-cap, nearest-le}
 use Rattle.sixel_palette.specs.declared.dither.Dither.TheVariants.{Diffusion}
 use Rattle.sixel_palette.specs.declared.mapping.Tolerance.TheVariants.{Auto}
-use Rattle.sixel_palette.specs.Dithering.{AreMapped, IsIndex, Mapped, entry_distance, index_error}
-use Rattle.sixel_palette.specs.Dithering.{pixel_index_error, root, serpentine, tolerance_of}
-use Rattle.sixel_palette.proofs.mapped_images.DitheredIndices.{AreRowsOf, HasTarget-pixel}
-use Rattle.sixel_palette.proofs.mapped_images.Serpentine.{serpentine-serpentine}
+use Rattle.sixel_palette.specs.Dithering.{IsIndex, Mapped}
+use Rattle.sixel_palette.specs.Dithering.{root, tolerance_of}
 
 -- the number of a transparent pixel is 0
 pub number-dark : (number : List ℕ → ℕ) (pixels : List ℕ) (pixel : ℕ)
@@ -103,7 +100,7 @@ tolerance-held strength colors pixels held =
 -- ---- the error of indices
 
 -- sums of numbers that are greater by a multiple at most
-sum_to-more_le : (f g h : ℕ → ℕ) (k n : ℕ) → ((i : ℕ) → i < n → f i ≤ g i + k * h i)
+pub sum_to-more_le : (f g h : ℕ → ℕ) (k n : ℕ) → ((i : ℕ) → i < n → f i ≤ g i + k * h i)
     → sum_to f n ≤ sum_to g n + k * sum_to h n
 unfolding sum_to
 sum_to-more_le f g h k zero le = omega arith
@@ -115,44 +112,3 @@ pub any-near : (m : Mapped) (c : List ℕ) (neighbor : Option ℕ) (index i : �
     → IsIndex m c neighbor index → i < length m.colors
     → entry_distance m.colors c index ≤ entry_distance m.colors c i + m.tolerance
 any-near m c neighbor index i is l = grind (arith, nat_tests, nearest-le)
-
-index-near : (m : Mapped) (c : List ℕ) (neighbor : Option ℕ) (index : ℕ)
-    → ((i : ℕ) → i < length m.colors → entry_distance m.colors c i < no_entry)
-    → IsIndex m c neighbor index
-    → entry_distance m.colors c index ≤ nearest m.colors c + m.tolerance
-index-near m c neighbor index small is =
-    let most = nearest-le m.colors c index [] in
-    grind (arith, nat_tests, nearest-reached m.colors c [], any-near)
-
--- so without dithering the summed error is greater by the tolerance for each opaque pixel at most
-pub error-bound : (m : Mapped) (indices : List ℕ) → AreRowsOf m.pixels m.width
-    → ((k : ℕ) → slice_index m.pixels k < 256) → All IsColor m.colors
-    → AreMapped m (λ n. color_at m.pixels (serpentine m.width n)) indices
-    → index_error m.colors m.pixels indices
-    ≤ summed_error m.colors m.pixels + m.tolerance * opaque_pixels m.pixels (λ _. 1)
-error-bound m indices rows bytes all are =
-    sum_to-more_le (pixel_index_error m.colors m.pixels indices)
-    (opaque_number (nearest m.colors) m.pixels) (opaque_number (λ _. 1) m.pixels) m.tolerance
-    (length m.pixels / 4)
-    (λ pixel l.
-    elim (cases_lt (slice_index m.pixels (4 * pixel + 3)) 128) [
-      | inl dark ↦ grind (arith, nat_tests)
-      | inr light ↦
-          let c = color_at m.pixels pixel in
-          let own : pixel_index_error m.colors m.pixels indices pixel
-          ≡ entry_distance m.colors c (slice_index indices pixel) = grind (arith, nat_tests) in
-          let back = serpentine-serpentine m.width pixel rows.some in
-          let n = serpentine m.width pixel in
-          let has =
-          (HasTarget-pixel m (λ n. color_at m.pixels (serpentine m.width n)) indices pixel rows are
-          l).opaque (subst (IsOpaque m.pixels) (sym back) light) in
-          let near =
-          subst (λ (p : ℕ).
-          entry_distance m.colors (color_at m.pixels p) (slice_index indices p)
-          ≤ nearest m.colors (color_at m.pixels p) + m.tolerance) back (index-near _ _ _ _
-          (λ i li. distance-lt _ _ (all i [] li) (IsColor-color_at _ (serpentine m.width n) bytes))
-          has) in
-          let lit = number-light (nearest m.colors) m.pixels pixel light in
-          let one = ap (λ h. m.tolerance * h) (number-light (λ _. 1) m.pixels pixel light) in
-          omega (arith, own, near, lit, one)
-    ])

@@ -4,8 +4,8 @@ use Rattle.std.proofs.Common.{length, get_or, refl, ap, ◌∙◌, arith, inl, i
 use Rattle.std.specs.Prelude.{◌/◌, ◌%◌, slice_index}
 use Rattle.std.proofs.lemmas.Bool.{cases_eq, cases_lt}
 use Rattle.std.proofs.lemmas.Bool.Decides.{nat_tests}
-use Rattle.sixel_palette.specs.Palette.{IsOpaque, color_at}
-use Rattle.sixel_palette.specs.Dithering.{Mapped, entry_above, entry_before, entry_of, errors_of}
+use Rattle.sixel_palette.specs.Palette.{IsOpaque, color_at, entry_of}
+use Rattle.sixel_palette.specs.Dithering.{Mapped, entry_above, entry_before, errors_of}
 use Rattle.sixel_palette.specs.Dithering.{nearer_entry, neighbor_of, opaque_error, serpentine}
 use Rattle.sixel_palette.specs.Dithering.{sixteenths, target_of_visit, visit_error}
 use Rattle.sixel_palette.proofs.mapped_images.DiffusionVisit.{visit_error-opaque}

@@ -12,10 +12,10 @@ use Rattle.std.proofs.lemmas.Nat.{mul-le}
 use Rattle.std.proofs.lemmas.Simd.{get_or-replicate, get_or-zip2}
 use Rattle.std.proofs.lemmas.Simd.{length-sel_l, length-zip2, get_or-sel_l, tops_compared}
 use lib.Lanes.{Each1, sel_l, top, zip2}
-use Rattle.sixel_palette.specs.Palette.{distance, no_entry, square_gap}
+use Rattle.sixel_palette.specs.Palette.{distance, entry_distance, no_entry, square_gap}
 use Rattle.sixel_palette.proofs.colors.Distance.{below_three, square-le}
 use Rattle.sixel_palette.proofs.nearest_entries.Nearest.{nearest-le, nearest-reached}
-use Rattle.sixel_palette.specs.Dithering.{IsIndex, Mapped, entry_distance, nearer_entry}
+use Rattle.sixel_palette.specs.Dithering.{IsIndex, Mapped, nearer_entry}
 use Rattle.sixel_palette.specs.declared.dithering.sixteen_entries.SixteenEntries.{SixteenEntries}
 use Rattle.sixel_palette.specs.inside.Diffusion.{channels}
 use Rattle.sixel_palette.specs.inside.SixteenEntries.{AreSixteen, added, beside, fixed_key}

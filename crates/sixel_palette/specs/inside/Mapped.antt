@@ -1,11 +1,12 @@
 -- How code sees an image that is mapped to a palette, its places, and the entries that may be kept.
 use Rattle.std.specs.Prelude.{◌≡◌, ℕ, ◌+◌, ◌*◌, ◌/◌, ◌<◌, ◌≤◌, List, length, slice_index, Option}
 use Rattle.std.specs.Prelude.{Some, None}
-use Rattle.sixel_palette.specs.Palette.{IsNearest, IsOpaque, color_at, nearest, no_entry}
+use Rattle.sixel_palette.specs.Palette.{IsOpaque, nearest, no_entry}
+use Rattle.sixel_palette.specs.Palette.{entry_distance}
 use Rattle.sixel_palette.specs.declared.dithering.mapped.Kept.{Kept}
 use Rattle.sixel_palette.specs.declared.dithering.mapped.MappedImage.{MappedImage}
 use Rattle.sixel_palette.specs.declared.dithering.mapped.Place.{Place}
-use Rattle.sixel_palette.specs.Dithering.{IsIndex, Mapped, entry_distance, neighbor_of}
+use Rattle.sixel_palette.specs.Dithering.{IsIndex, Mapped, neighbor_of}
 use Rattle.sixel_palette.specs.Dithering.{serpentine, whole_rows}
 
 -- the image, apart from where its pixels and colors lie
@@ -77,11 +78,3 @@ pub record IsIndexAt (m : Mapped) (target indices : List ℕ) (n index : ℕ) : 
   pub opaque : IsOpaque m.pixels (serpentine m.width n)
       → IsIndex m target (neighbor_of m target indices n) index
   pub hidden : slice_index m.pixels (4 * serpentine m.width n + 3) < 128 → index ≡ 0
-
--- the pixel of a visit still has the index of its nearest entry
-pub record IsLater (m : Mapped) (indices : List ℕ) (n : ℕ) : Type 0 where
-  pub opaque : IsOpaque m.pixels (serpentine m.width n)
-      → IsNearest m.colors (color_at m.pixels (serpentine m.width n))
-      (slice_index indices (serpentine m.width n))
-  pub hidden : slice_index m.pixels (4 * serpentine m.width n + 3) < 128
-      → slice_index indices (serpentine m.width n) ≡ 0

@@ -4,8 +4,7 @@
 -- others at one distance; without a tolerance it has nothing more.
 use Rattle.std.specs.Prelude.{◌≡◌, ℕ, ◌+◌, ◌*◌, ◌-◌, ◌<◌, ◌≤◌, ◌==◌, min, if◌then◌else◌, List}
 use Rattle.std.specs.Prelude.{[], ◌∷◌, slice_index, slice_index_or, Option, Some, None}
-use Rattle.sixel_palette.specs.Palette.{distance, no_entry}
-use Rattle.sixel_palette.specs.Dithering.{entry_distance}
+use Rattle.sixel_palette.specs.Palette.{distance, entry_distance, no_entry}
 use Rattle.sixel_palette.specs.declared.dithering.sixteen_entries.SixteenEntries.{SixteenEntries}
 
 -- the lane of an entry, and one that is none

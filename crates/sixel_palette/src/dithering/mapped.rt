@@ -2,10 +2,10 @@
 
 ghost use Rattle.std.specs.Prelude.{◌≡◌, ◌+◌, ◌*◌, ◌/◌, ◌<◌, ◌≤◌, ℕ, IfOk, List, OnOk, Option};
 ghost use Rattle.std.specs.Prelude.{Some, length};
-ghost use Rattle.sixel_palette.specs.Palette.{IsNearest, color_at, nearest};
+ghost use Rattle.sixel_palette.specs.Palette.{IsNearest, color_at, entry_of, nearest};
 ghost use Rattle.sixel_palette.specs.inside.PaletteKeys.{IsSearchOf};
 ghost use Rattle.sixel_palette.specs.Dithering.{IsIndex, column_of_step, entry_above};
-ghost use Rattle.sixel_palette.specs.Dithering.{entry_before, entry_of, neighbor_of};
+ghost use Rattle.sixel_palette.specs.Dithering.{entry_before, neighbor_of};
 ghost use Rattle.sixel_palette.specs.inside.Mapped.{AreEntries, IsInside, IsKept, IsMappable};
 ghost use Rattle.sixel_palette.specs.inside.Mapped.{IsPlace, IsPlain, kept_value, mapped_value};
 

@@ -42,11 +42,13 @@ pub fn tolerance_of(
         Tolerance::Auto => {
             let error = measured_error(alloc, image, nearest, mapping.dither)?;
             if error.sum == 0 {
-                0
-            } else if mapping.dither == Dither::Off {
-                (7 * error.mean() / 5).max(12)
+                return Ok(0);
+            }
+            let mean = error.mean().max(12);
+            if mapping.dither == Dither::Off {
+                3 * mean
             } else {
-                error.mean().max(12)
+                mean
             }
         }
     };

@@ -5,7 +5,8 @@
 
 ghost use Rattle.std.specs.Prelude.{◌≡◌, ◌+◌, ◌*◌, ◌/◌, ◌%◌, ◌^◌, ◌<◌, ◌≤◌, ℕ, List};
 ghost use Rattle.std.specs.Prelude.{Option, Some, length, slice_index, true};
-ghost use Rattle.sixel_palette.specs.Dithering.{IsIndex, Mapped, entry_distance, nearer_entry};
+ghost use Rattle.sixel_palette.specs.Dithering.{IsIndex, Mapped, nearer_entry};
+ghost use Rattle.sixel_palette.specs.Palette.{entry_distance};
 ghost use Rattle.sixel_palette.specs.inside.Diffusion.{channels};
 ghost use Rattle.sixel_palette.specs.inside.SixteenEntries.{AreSixteen, lane_key, lane_of};
 

@@ -1,7 +1,7 @@
 use Rattle.std.proofs.Common.{◌≡◌, length, arith}
-use Rattle.sixel_palette.specs.Dithering.{mapped_of, target_of}
+use Rattle.sixel_palette.specs.Dithering.{mapped_of}
 use Rattle.sixel_palette.specs.Gray.{source_pixels}
-use Rattle.sixel_palette.proofs.mapped_images.DitheredIndices.{AreMapped-none}
+use Rattle.sixel_palette.proofs.mapped_images.AllKinds.{have-none}
 use Rattle.sixel_palette.proofs.mapped_images.GraySource.{AreRowsOf-source, IsSource-pixels}
 use Rattle.std.proofs.lemmas.Bool.Decides.{nat_tests}
 use Rattle.sixel_palette.proofs.dithering.indices_from.Goals as goal
@@ -15,7 +15,6 @@ returns-then-is_empty c =
     let is = IsSource-pixels c.args.mapping.dither colors pixels in
     let m = mapped_of c.args.mapping image.width s colors in
     let none : length colors ≡ 0 = grind (arith, nat_tests) in
-    AreMapped-none m (target_of c.args.mapping.dither m c.in_ok-indices.field-0.items)
-    c.in_ok-indices.field-0.items
+    have-none c.args.mapping.dither m c.in_ok-indices.field-0.items
     (grind (arith, nat_tests, AreRowsOf-source))
     none (grind (arith, nat_tests))

@@ -1,16 +1,13 @@
 use Rattle.std.proofs.Common.{◌≡◌, arith, subst, sym, ◌∙◌}
 use Rattle.sixel_palette.specs.declared.dither.Dither.{Dither}
 use Rattle.sixel_palette.specs.declared.mapping.Tolerance.TheVariants.{Auto}
-use Rattle.sixel_palette.specs.Dithering.{AreMapped, mapped_of, target_of}
+use Rattle.sixel_palette.specs.Dithering.{HaveIndices, mapped_of}
 use Rattle.sixel_palette.proofs.mapped_images.DiffusionLaws.{AreMapped-diffused}
 use Rattle.sixel_palette.proofs.mapped_images.DitheredIndices.{AreRows}
 use Rattle.sixel_palette.proofs.mapped_images.PaletteError.{error-none, held-none}
 use Rattle.std.proofs.lemmas.Bool.Decides.{nat_tests}
 use Rattle.std.proofs.lemmas.Result.{IfOk-weaker}
 use Rattle.sixel_palette.proofs.dithering.mapped_indices.Goals as goal
-
-pub returns-in_ok-indices-in-Off : goal.returns-in_ok-indices-in-Off
-returns-in_ok-indices-in-Off c = grind (arith, nat_tests)
 
 pub returns-in-Ordered : goal.returns-in-Ordered
 returns-in-Ordered c = grind (arith, nat_tests)
@@ -26,7 +23,7 @@ returns-in-Diffusion c =
     let three = c.channel_bytes.ensures.three in
     let rows : AreRows m = grind (arith, nat_tests) in
     IfOk-weaker c.indices-in-Diffusion.result _ _ (λ indices are.
-    subst (λ (d : Dither). AreMapped m (target_of d m indices.items) indices.items)
+    subst (λ (d : Dither). HaveIndices d m indices.items)
     (sym c.in-Diffusion.is) (AreMapped-diffused m indices.items rows
     (record { three = three; bytes = c.channel_bytes.ensures.bytes })
     (held-none colors pixels three (error-none colors pixels c.in-Diffusion.strength (grind (

@@ -1,18 +1,21 @@
-use Rattle.std.proofs.Common.{◌≡◌, ◌<◌, ℕ, length, ap, subst, arith, refl}
+use Rattle.std.proofs.Common.{◌≡◌, ◌<◌, ℕ, length, subst, arith, refl}
 use Rattle.std.specs.Prelude.{◌/◌, All}
 use Rattle.std.proofs.lemmas.Bool.Decides.{nat_tests}
 use Rattle.std.proofs.lemmas.List.{get_or_default}
 use Rattle.sixel_palette.proofs.colors.Colors.{IsColor}
 use Rattle.sixel_palette.specs.Palette.{IsOpaque, color_at}
 use Rattle.sixel_palette.specs.declared.dither.Dither.{Dither}
-use Rattle.sixel_palette.specs.Dithering.{AreMapped, Mapped, mapped_of, target_of, tolerance_of}
+use Rattle.sixel_palette.specs.declared.dither.Dither.TheVariants.{Off}
+use Rattle.sixel_palette.specs.Dithering.{AreMapped, HaveIndices, Mapped, mapped_of, target_of}
+use Rattle.sixel_palette.specs.Dithering.{tolerance_of, undithered_of}
 use Rattle.sixel_palette.specs.Gray.{source_pixels}
 use Rattle.sixel_palette.proofs.mapped_images.DiffusionLaws.{AreHeld, AreIndices-exact}
-use Rattle.sixel_palette.proofs.mapped_images.DitheredIndices.{AreIndices-mapped, AreRows}
+use Rattle.sixel_palette.proofs.mapped_images.DitheredIndices.{AreRows}
 use Rattle.sixel_palette.proofs.mapped_images.GraySource.{AreIndices-source, AreRowsOf-source}
 use Rattle.sixel_palette.proofs.mapped_images.GraySource.{IsSource-pixels}
 use Rattle.sixel_palette.proofs.mapped_images.GraySource.{bytes-source, dithered-count, chosen-own}
-use Rattle.sixel_palette.proofs.mapped_images.PaletteError.{error-bound, tolerance-held}
+use Rattle.sixel_palette.proofs.mapped_images.PaletteError.{tolerance-held}
+use Rattle.sixel_palette.proofs.mapped_images.UnditheredLaws.{AreIndices-chosen, chosen-bound}
 use Rattle.sixel_palette.proofs.dithering.palette_indices.Goals as goal
 
 -- the rows of an image without a fault, mapped in any way to the colors
@@ -25,14 +28,22 @@ returns-clause-count c =
     dithered-count c.args.mapping c.args.width c.args.pixels.now c.args.colors.now
     c.in_ok-dithered_indices.field-0.items (grind (arith, nat_tests))
 
+-- the choice without dithering
+undithered-of : (c : goal.In_ok-dithered_indices) → c.args.mapping.dither ≡ Off
+    → HaveIndices Off (mapped_of c.args.mapping c.args.width c.args.pixels.now c.args.colors.now)
+    c.in_ok-dithered_indices.field-0.items
+undithered-of c off =
+    let m = mapped_of c.args.mapping c.args.width c.args.pixels.now c.args.colors.now in
+    let indices = c.in_ok-dithered_indices.field-0.items in
+    subst (λ (d : Dither). HaveIndices d m indices) off (grind (arith, nat_tests))
+
 pub returns-clause-nearest : goal.returns-clause-nearest
 returns-clause-nearest c = λ off exact.
-    let pixels = c.args.pixels.now in
-    let m = mapped_of c.args.mapping c.args.width pixels c.args.colors.now in
-    let indices = c.in_ok-dithered_indices.field-0.items in
-    AreIndices-mapped m (target_of c.args.mapping.dither m indices) indices
-    (rows-of c m refl refl refl) (grind (arith, exact)) (grind (arith, nat_tests))
-    (λ n l light. ap (λ d. target_of d m indices n) off)
+    let m = mapped_of c.args.mapping c.args.width c.args.pixels.now c.args.colors.now in
+    let have = undithered-of c off in
+    let rows = rows-of c m refl refl refl in
+    AreIndices-chosen (undithered_of m have.0 c.in_ok-dithered_indices.field-0.items) have.2 have.1
+    rows.rows.some rows.some (grind (arith, exact))
 
 pub returns-clause-exact : goal.returns-clause-exact
 returns-clause-exact c = λ strength is none held.
@@ -65,15 +76,9 @@ returns-clause-exact c = λ strength is none held.
 
 pub returns-clause-summed : goal.returns-clause-summed
 returns-clause-summed c = λ off.
-    let pixels = c.args.pixels.now in
-    let colors = c.args.colors.now in
-    let m = mapped_of c.args.mapping c.args.width pixels colors in
-    let indices = c.in_ok-dithered_indices.field-0.items in
-    let all : All IsColor colors =
-    λ k e l. grind (arith, nat_tests, get_or_default, colors, c.color_bytes.ensures) in
-    error-bound m indices (rows-of c m refl refl refl).rows
-    (λ j. omega (arith, c.type_inv.pixels j)) all
-    (subst (λ (d : Dither). AreMapped m (target_of d m indices) indices) off (grind (
-      arith,
-      nat_tests,
-    )))
+    let m = mapped_of c.args.mapping c.args.width c.args.pixels.now c.args.colors.now in
+    let have = undithered-of c off in
+    let all : All IsColor c.args.colors.now =
+    λ k e l. grind (arith, nat_tests, get_or_default, c.color_bytes.ensures) in
+    chosen-bound (undithered_of m have.0 c.in_ok-dithered_indices.field-0.items) have.2 have.1
+    (rows-of c m refl refl refl).rows.some (λ j. omega (arith, c.type_inv.pixels j)) all
