@@ -256,7 +256,9 @@ fn tolerances(rt: HostRuntime) {
     // Transparent pixels have no entry.
     let rows: (&[u8], usize) = (&[255, 255, 5, 0], 2);
     let is_transparent = are_kept(rt.alloc(), rows, most, &[0, 0, 1, 0]);
-    assert!(rt; is_nearest & is_kept & is_automatic & is_first & is_pair & is_band & is_transparent);
+    assert!(rt;
+        is_nearest & is_kept & is_automatic & is_first & is_pair & is_band & is_transparent
+    );
 }
 
 /// Draws a DCS sequence of two bands in chunks, and returns whether each row is drawn in time.

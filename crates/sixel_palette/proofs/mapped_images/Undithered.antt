@@ -72,5 +72,5 @@ module _ (u : Undithered) (column row : ℕ) where
       let left = cheaper-free own (entry_before u column row) is free (grind (arith, nat_tests)) in
       let upper = cheaper-free own (entry_above u column row) is free (grind (arith, nat_tests)) in
       let right = cheaper-free own (entry_after u column row) is free
-          (grind (arith, nat_tests, entry_of-past)) in
+      (grind (arith, nat_tests, entry_of-past)) in
       rw (left, upper, right) refl

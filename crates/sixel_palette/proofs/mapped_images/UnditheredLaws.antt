@@ -56,9 +56,12 @@ cheapest-le u column row =
     let own = slice_index u.nearest (pixel_of u column row) in
     let left = cheaper u column row own (entry_before u column row) in
     let upper = cheaper u column row left (entry_above u column row) in
-    omega (arith, cheaper-le u column row own (entry_before u column row),
-    cheaper-le u column row left (entry_above u column row),
-    cheaper-le u column row upper (entry_after u column row))
+    omega (
+      arith,
+      cheaper-le u column row own (entry_before u column row),
+      cheaper-le u column row left (entry_above u column row),
+      cheaper-le u column row upper (entry_after u column row),
+    )
 
 lacking-le : (u : Undithered) (column row entry : ℕ)
     → u.price * lacking u column row entry ≤ 2 * u.price
@@ -125,10 +128,9 @@ module _ (u : Undithered) (are : AreChosen u) (near : AreIndices u.pixels u.colo
         → IsChosen u (pixel % u.width) (pixel / u.width)
         × (pixel_of u (pixel % u.width) (pixel / u.width) ≡ pixel)
     chosen-pixel pixel inside =
-        let place = div-add-mod' pixel u.width in
-        (
+        let place = div-add-mod' pixel u.width in (
           are.each (pixel % u.width) (pixel / u.width) (mod_below pixel u.width wide)
-          (omega (arith, place, inside)),
+              (omega (arith, place, inside)),
           place,
         )
 

@@ -138,13 +138,12 @@ module _ (u : Undithered) (q n b : List ℕ) (column row : ℕ) (across : column
 -- a pixel has one column and one row
 pixel-place : (width x y column row : ℕ) → x < width → column < width
     → y * width + x ≡ row * width + column → (x ≡ column) × (y ≡ row)
-pixel-place width x y column row l across same =
-    (
-      sym (mod-mul-add y width x l) ∙ ap (λ p. p % width) same
-          ∙ mod-mul-add row width column across,
-      sym (div-mul-add y width x l) ∙ ap (λ p. p / width) same
-          ∙ div-mul-add row width column across,
-    )
+pixel-place width x y column row l across same = (
+  sym (mod-mul-add y width x l) ∙ ap (λ p. p % width) same
+      ∙ mod-mul-add row width column across,
+  sym (div-mul-add y width x l) ∙ ap (λ p. p / width) same
+      ∙ div-mul-add row width column across,
+)
 
 -- earlier bands are visited, and the first pixels of a band
 abbrev pub IsVisited : ℕ → ℕ → ℕ → ℕ → Type 0
@@ -187,8 +186,8 @@ module _ (u : Undithered) (column row index : ℕ) (across : column < u.width)
     nearest = λ pixel. refl;
     chosen = λ i j li band before.
         let apart : pixel_of u column row ≢ pixel_of u i j = λ same.
-            let place = pixel-place u.width column row i j across li same in
-            omega (arith, place.0, place.1, band, before, earlier (omega (arith, place.1, band))) in
+        let place = pixel-place u.width column row i j across li same in
+        omega (arith, place.0, place.1, band, before, earlier (omega (arith, place.1, band))) in
         grind (arith, nat_tests, get_or-set_other);
   }
 
@@ -201,9 +200,9 @@ module _ (u : Undithered) (column row index : ℕ) (across : column < u.width)
       cheapest-same u u.pixels u.nearest after.chosen x y l
       (same-before x y l (λ band. omega (arith, earlier band))) in
       let apart : pixel_of u x y ≢ pixel_of u column row = λ e.
-          let place = pixel-place u.width x y column row l across e in
-          let band : y / 6 ≡ row / 6 = omega (arith, place.1) in
-          omega (arith, place.0, place.1, earlier band) in
+      let place = pixel-place u.width x y column row l across e in
+      let band : y / 6 ≡ row / 6 = omega (arith, place.1) in
+      omega (arith, place.0, place.1, earlier band) in
       let kept = get_or-set_other u.chosen (pixel_of u column row) (pixel_of u x y) index 0 apart in
       record {
         opaque = λ light. kept ∙ (is.opaque light ∙ same);
@@ -249,51 +248,54 @@ module _ (u : Undithered) (column row index : ℕ) (across : column < u.width)
 -- ---- the end of a column, of a band, and of the image
 
 module _ (u : Undithered) (whole : length u.pixels / 4 ≡ length u.pixels / 4 / u.width * u.width)
-    where
-  -- the row of a pixel lies in the image
-  row-below : (x y : ℕ) → pixel_of u x y < length u.pixels / 4
-      → y < length u.pixels / 4 / u.width
-  row-below x y inside =
-      elim (cases_lt y (length u.pixels / 4 / u.width)) [
-        | inl less ↦ less
-        | inr most ↦
-            let far =
-            mul-le (length u.pixels / 4 / u.width) u.width y u.width most (omega arith) in
-            absurd (omega (arith, far, whole, inside))
-      ]
+  where
+    -- the row of a pixel lies in the image
+    row-below : (x y : ℕ) → pixel_of u x y < length u.pixels / 4
+        → y < length u.pixels / 4 / u.width
+    row-below x y inside =
+        elim (cases_lt y (length u.pixels / 4 / u.width)) [
+          | inl less ↦ less
+          | inr most ↦
+              let far =
+              mul-le (length u.pixels / 4 / u.width) u.width y u.width most (omega arith) in
+              absurd (omega (arith, far, whole, inside))
+        ]
 
-  pub AreVisited-column : (band column row : ℕ)
-      → 6 * band + 6 ≤ row ⊎ length u.pixels / 4 / u.width ≤ row
-      → AreVisited u band (6 * column + (row - 6 * band)) → AreVisited u band (6 * (column + 1))
-  AreVisited-column band column row end are =
-      AreVisited-less u band _ band _ are (λ x y l inside is.
-      let lower = row-below x y inside in
-      elim is [
-        | inl early ↦ inl early
-        | inr same ↦ inr (same.0, elim end [
-            | inl whole ↦ omega (arith, same.0, same.1, whole)
-            | inr last ↦ omega (arith, same.0, same.1, last, lower)
-          ])
-      ])
-
-  pub AreVisited-band : (band column : ℕ) → u.width ≤ column → AreVisited u band (6 * column)
-      → AreVisited u (band + 1) 0
-  AreVisited-band band column end are =
-      AreVisited-less u band _ (band + 1) 0 are (λ x y l inside is.
-      elim is [
-        | inl early ↦
-            elim (cases_lt (y / 6) band) [
-              | inl before ↦ inl before
-              | inr last ↦ inr (omega (arith, early, last), omega (arith, l, end))
-            ]
-        | inr same ↦ absurd (omega (arith, same.1))
-      ])
-
-  pub AreChosen-visited : (band : ℕ) → length u.pixels / 4 / u.width / 6 < band
-      → AreVisited u band 0 → AreChosen u
-  AreChosen-visited band end are = record {
-    one_each = are.size;
-    each = λ x y l inside.
+    pub AreVisited-column : (band column row : ℕ)
+        → 6 * band + 6 ≤ row ⊎ length u.pixels / 4 / u.width ≤ row
+        → AreVisited u band (6 * column + (row - 6 * band)) → AreVisited u band (6 * (column + 1))
+    AreVisited-column band column row end are =
+        AreVisited-less u band _ band _ are (λ x y l inside is.
         let lower = row-below x y inside in
-        are.each x y l inside (inl (omega (arith, lower, end)));
-  }
+        elim is [
+          | inl early ↦ inl early
+          | inr same ↦ inr (
+            same.0,
+            elim end [
+              | inl whole ↦ omega (arith, same.0, same.1, whole)
+              | inr last ↦ omega (arith, same.0, same.1, last, lower)
+            ],
+          )
+        ])
+
+    pub AreVisited-band : (band column : ℕ) → u.width ≤ column → AreVisited u band (6 * column)
+        → AreVisited u (band + 1) 0
+    AreVisited-band band column end are =
+        AreVisited-less u band _ (band + 1) 0 are (λ x y l inside is.
+        elim is [
+          | inl early ↦
+              elim (cases_lt (y / 6) band) [
+                | inl before ↦ inl before
+                | inr last ↦ inr (omega (arith, early, last), omega (arith, l, end))
+              ]
+          | inr same ↦ absurd (omega (arith, same.1))
+        ])
+
+    pub AreChosen-visited : (band : ℕ) → length u.pixels / 4 / u.width / 6 < band
+        → AreVisited u band 0 → AreChosen u
+    AreChosen-visited band end are = record {
+      one_each = are.size;
+      each = λ x y l inside.
+          let lower = row-below x y inside in
+          are.each x y l inside (inl (omega (arith, lower, end)));
+    }
