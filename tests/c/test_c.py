@@ -31,7 +31,7 @@ NEEDED = {*"memcpy memmove memset rattle_alloc rattle_dealloc rattle_realloc".sp
 SIXELS = b"!200~$" + 200 * (20 * b"?@A~]^Zo" + b"$")
 FEEDS = [
     (1, SIXELS, 3_520_000),
-    (2, SIXELS, 3_980_000),
+    (2, SIXELS, 4_100_000),
     (1, 500 * b"#1!9~$", 710_000),
     (4096, 500 * b"!65535~$", 6_810_000),
     (4096, 500 * b"~-" + b"".join(b"!%d~-" % (2**it) for it in range(1, 12)), 27_300_000),
