@@ -59,14 +59,18 @@ GRAYS = [
 
 # Arguments of `draw`, colored pixels, and how they are drawn in black and white. The gray of green
 # is 149. The squared distances of red are 65025 from black and 130050 from white, and that of its
-# gray 76 is 17328 from black. 7/5 of the mean is 75861 in colors and 20216 in grays.
-GREEN, RED = (0, 255, 0), (255, 0, 0)
+# gray 76 is 17328 from black. Three times the mean is 83601 in colors and 22278 in grays. A red
+# between two white pixels becomes white above 65025, the difference of its distances.
+GREEN, RED, WHITE = (0, 255, 0), (255, 0, 0), (255, 255, 255)
+STRIPES = [*3 * [WHITE, RED], WHITE]
 HUES = [
     ("-d none -t 0", [GREEN], [0]),
     ("-d ordered -t 0 -s 1", [GREEN], [255]),
     ("-d diffusion -t 0", [GREEN], [255]),
-    ("-d none", [(255, 255, 255), *5 * [RED]], [255, 0, 0, 0, 0, 0]),
-    ("-d none -t 75861", [(255, 255, 255), *5 * [RED]], 6 * [255]),
+    ("-d none", STRIPES, [255, 0, 255, 0, 255, 0, 255]),
+    ("-d none -t 65025", STRIPES, [255, 0, 255, 0, 255, 0, 255]),
+    ("-d none -t 65026", STRIPES, 7 * [255]),
+    ("-d none -t 83601", STRIPES, 7 * [255]),
 ]
 
 # The most colors of a palette, and by how many 32nds its entries are spread for diffusion.
