@@ -109,6 +109,13 @@ def build(folder, *options):
     return folder / "sixel-view"
 
 
+def begin_session():
+    """The terminal controls the viewer, whose signals are not ignored, as they are under nohup."""
+    for number in signal.SIGHUP, signal.SIGINT, signal.SIGQUIT:
+        signal.signal(number, signal.SIG_DFL)
+    fcntl.ioctl(1, termios.TIOCSCTTY, 0)
+
+
 class Terminal:
     """A terminal in which the viewer runs: what it wrote, its status, and what is restored."""
 
@@ -126,7 +133,7 @@ class Terminal:
             file.write(stdin)
             file.seek(0)
             options = {"stdin": file, "stdout": output, "stderr": subprocess.PIPE, "env": env}
-            options["preexec_fn"] = lambda: fcntl.ioctl(1, termios.TIOCSCTTY, 0)
+            options["preexec_fn"] = begin_session
             self.program = subprocess.Popen(command, start_new_session=True, **options)
         while self.program.poll() is None or self.is_ready():
             if self.is_ready(0.02):
