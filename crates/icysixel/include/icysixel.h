@@ -7,11 +7,11 @@
  *
  * Handles. An `icysixel` is 16 bytes of the caller's memory, and refers to a decoder. A zeroed
  * handle is valid and empty, and so is a handle after icysixel_free. Every function can be called
- * on an empty handle. icysixel_new creates its decoder. Other calls that return a code return
- * ICYSIXEL_NO_HANDLE, icysixel_is_empty returns 1, other numbers are 0, and void calls do nothing.
- * A call that takes a const handle changes nothing behind it. Do not write to the members of a
- * handle. Do not use two copies of it: it can be moved to another address between calls if the old
- * copy is not used again.
+ * on an empty handle. icysixel_new creates its decoder. All others that return a code return
+ * ICYSIXEL_NO_HANDLE. icysixel_is_empty returns 1. Calls that return another number return 0. Void
+ * calls do nothing. A call that takes a const handle changes nothing behind it. Do not write to the
+ * members of a handle. Do not use two copies of it: it can be moved to another address between
+ * calls if the old copy is not used again.
  *
  * Ownership. icysixel_free frees all memory behind a handle. The library stores no pointer that the
  * caller passes. It copies input, and it copies pixels to the caller's buffers. Only
@@ -140,9 +140,9 @@ typedef struct {
     uint8_t are_exact; /* 1 if each is a color that a register can have, else 0 */
 } icysixel_distinct;
 
-/* How each pixel gets an entry of the palette. Zeros mean the nearest entry. An amount of 0 is 7
- * for diffusion, and for the pattern the square root of the palette's mean squared error, twice
- * that in a given palette. */
+/* How each pixel gets an entry of the palette. Zeros mean the nearest entry. An amount of 0 means
+ * the default: 7 for diffusion, and for the pattern the square root of the palette's mean squared
+ * error, twice that in a given palette. */
 typedef struct {
     uint8_t kind;   /* an enum icysixel_dither */
     uint8_t amount; /* diffusion: eighths of the error; ordered: the amplitude in levels; or 0 */
@@ -159,7 +159,7 @@ typedef struct {
     uint16_t max_colors;  /* entries of a refined or farthest palette at most, or 0 for 256 */
     uint16_t color_count; /* colors at `colors` */
     uint8_t format;       /* an enum icysixel_format */
-    uint8_t pixel_height; /* the displayed height of a pixel of width 1: 2, 3 or 5, else 1 */
+    uint8_t pixel_height; /* the height of a pixel of width 1: 2, 3 or 5; others mean 1 */
     uint8_t background;   /* an enum icysixel_background */
     uint8_t palette;      /* an enum icysixel_palette_mode */
     icysixel_dithering dithering; /* for refined and given palettes */
@@ -184,7 +184,7 @@ enum icysixel_code {
     ICYSIXEL_NO_SIZE = 3,    /* the payload has not begun, or an earlier feed failed */
     ICYSIXEL_NO_IMAGE = 4,   /* no image is stored */
     /* about the caller's numbers and buffers */
-    ICYSIXEL_BAD_OPTION = 5,       /* an enum does not have the number, or it excludes another */
+    ICYSIXEL_BAD_OPTION = 5,       /* an enum does not have the number, or two options conflict */
     ICYSIXEL_BUFFER_TOO_SMALL = 6, /* the buffer is smaller than the documented size */
     ICYSIXEL_BAD_STRIDE = 7,       /* it is shorter than a row */
     /* about memory and sizes */
@@ -228,9 +228,9 @@ enum icysixel_format {
 enum icysixel_background {
     ICYSIXEL_BACKGROUND_TRANSPARENT = 0, /* transparent pixels stay as they are: P2 is 1 */
     ICYSIXEL_BACKGROUND_OPAQUE = 1,      /* they get the color of register 0: P2 is 0 */
-    /* The same, and register 0 has the first of `colors`. A refined palette has one color less
-     * then, though at least one, and no pixel is drawn in register 0. With a farthest palette the
-     * number is ICYSIXEL_BAD_OPTION. */
+    /* The same, and register 0 has the first of `colors`. With a refined palette no pixel is drawn
+     * in register 0, so the palette has at most max_colors - 1 entries, but at least one. With a
+     * farthest palette the error is ICYSIXEL_BAD_OPTION. */
     ICYSIXEL_BACKGROUND_COLOR = 2
 };
 
@@ -450,7 +450,7 @@ uint8_t icysixel_get_height(const icysixel *handle);
  * icysixel_height; the error is ICYSIXEL_BAD_OPTION. Most images have a height that is no multiple
  * of six. With ICYSIXEL_HEIGHT_BANDS they have background rows at the bottom. ICYSIXEL_HEIGHT_DRAWN
  * is the height of foot, xterm and libsixel: the greater of the raster height and the drawn height.
- * It is 0 for an empty image, which then has no rows. No height adds a row to an image, or shows
+ * It is 0 for an empty image, which then has no rows. No setting adds a row to an image, or shows
  * one below the clip. icysixel_get_size_so_far does not depend on this setting. */
 uint32_t icysixel_set_height(icysixel *handle, uint8_t height);
 
@@ -507,8 +507,8 @@ void icysixel_set_clip(icysixel *handle, size_t width, size_t height);
 /* -- Encoding -- */
 
 /* Encodes pixels as a DCS sequence and transfers this text to the caller. The text has no zero at
- * its end. The call needs no handle. `length` is the number of bytes at `pixels`. They may continue
- * after the last row. Pixels of other formats than RGBA, and rows with gaps, are copied first.
+ * its end. The call needs no handle. `length` is the number of bytes at `pixels`. Bytes after the
+ * last row have no effect. Pixels of other formats than RGBA, and rows with gaps, are copied first.
  *
  * - A refined palette has at most max_colors entries. A decoder shows them without rounding. With
  *   diffusion and at most 64 as max_colors, they are moved away from the mean color, unless the
@@ -552,12 +552,12 @@ uint32_t icysixel_encode(const uint8_t *pixels, size_t length, const icysixel_en
  * A pixel with an alpha of at least 128 is opaque. The palette has at most max_colors entries,
  * where 0 and 1 are taken as 2 and a number above 256 as 256. If there are no more opaque colors
  * than that, they are the entries. Otherwise the entries are chosen by a farthest-first traversal
- * (Gonzalez). The first entry is the least opaque color by red, green and blue. Each next entry is
- * the color that is farthest from its nearest entry so far, the least of these. A distance is the
- * sum of the squared differences of the channels.
+ * (Gonzalez). Opaque colors are ordered by red, then green, then blue, and the first entry is the
+ * lowest one. Each next entry is the color that is farthest from its nearest entry so far, the
+ * lowest of equals. A distance is the sum of the squared differences of the channels.
  *
  * `colors` receives the entries. `indices` receives one byte for each pixel: the index of its
- * nearest entry, the first of these, and 0 for a transparent pixel. `witnesses` receives the
+ * nearest entry, the first of equals, and 0 for a transparent pixel. `witnesses` receives the
  * certificate unless every opaque color is an entry: opaque colors, one more than there are
  * entries, each two of them at least `error` apart. In any palette of that size two of them share
  * an entry, so its error is at least a fourth of `error`.
@@ -606,7 +606,7 @@ uint32_t icysixel_count_colors(const uint8_t *pixels, size_t length, icysixel_di
 /* Writes the palette index of each pixel in a given palette of 1 to 256 colors. It needs no handle.
  *
  * The pixels are rows of `width` without gaps. Without dithering and tolerance an opaque pixel has
- * the index of its nearest entry, the first of these. In a palette of grays, dithering maps the
+ * the index of its nearest entry, the first of equals. In a palette of grays, dithering maps the
  * brightness of the pixels. A transparent pixel has index 0, and its color has no effect. The
  * tolerance is that of icysixel_encoding. `indices` has a capacity of at least one byte for each
  * pixel, and the bytes after these are unchanged. The errors, in this order, are:

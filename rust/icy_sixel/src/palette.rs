@@ -39,8 +39,8 @@ pub struct PaletteChoice {
 /// palette has at most `max_colors` entries, at least 2 and at most 256, and contains all opaque
 /// colors if they are not more. Otherwise it is chosen farthest first. The first entry is the
 /// least color, by red, then green, then blue. Each further entry is the color that is farthest
-/// from its nearest entry so far, the least of those. An opaque pixel's index is that of its
-/// nearest entry, the first of those. Distances are sums of squared differences of the channels.
+/// from its nearest entry so far, the least of equals. An opaque pixel's index is that of its
+/// nearest entry, the first of equals. Distances are sums of squared differences of the channels.
 ///
 /// Any palette of the same size has at least a fourth of this error, whatever its colors. The
 /// witnesses prove it, because two of them share an entry of any such palette.
