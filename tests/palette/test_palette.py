@@ -53,7 +53,7 @@ def mean_error(colors, pixels):
 
 def automatic_tolerance(kind, colors, pixels):
     mean, has_error = mean_error(colors, pixels)
-    return max(12, mean) * (3 if kind == OFF else 1) if has_error else 0
+    return max(12, mean) * {OFF: 3, ORDERED: 2, DIFFUSION: 1}[kind] if has_error else 0
 
 
 def automatic_amplitude(colors, pixels):
@@ -85,7 +85,7 @@ def moved(width, place, color, amplitude):
         yield min(max(color[channel] + offset, 0), 255)
 
 
-def cheapest(width, pixels, colors, tolerance):
+def cheapest(width, pixels, colors, tolerance=0):
     """Undithered indices: of each pixel's nearest entry and its neighbors' the cheapest one."""
     near, height = nearest_of(colors, pixels), len(pixels) // width
     indices = [None] * len(pixels)
@@ -116,8 +116,14 @@ def cheapest(width, pixels, colors, tolerance):
     return indices
 
 
-def mapped(width, pixels, colors, amplitude=0, strength=0, tolerance=0):
-    """Indices with the pattern, error diffusion, and entries of neighbors that are kept.
+def ordered(width, pixels, colors, amplitude, tolerance=0):
+    """The undithered indices of colors that are moved by the pattern."""
+    target = [(*moved(width, at, it, amplitude), it[3]) for at, it in enumerate(pixels)]
+    return cheapest(width, target, colors, tolerance)
+
+
+def mapped(width, pixels, colors, strength=0, tolerance=0):
+    """Indices with error diffusion, and entries of neighbors that are kept.
 
     Each visit adds shares of its error to pixels still to come.
     """
@@ -131,7 +137,6 @@ def mapped(width, pixels, colors, amplitude=0, strength=0, tolerance=0):
         *color, alpha = pixels[place]
         if alpha < 128:
             continue
-        color = moved(width, place, color, amplitude)
         wanted = [min(max(16 * c + e, 0), 4080) for c, e in zip(color, received[place])]
         around = [place - ahead] * (step > 0) + [place - width] * (row % 6 > 0)
         neighbors = [indices[it] for it in around if pixels[it][3] >= 128]
@@ -232,7 +237,7 @@ class PaletteTest(unittest.TestCase):
                         "icysixel_palette_indices", pixels, 4 * len(pixels), width, colors,
                         len(colors), bytes([kind, number]), *passed.values(), found, len(pixels),
                     )
-                    model = cheapest if kind == OFF else mapped
+                    model = {OFF: cheapest, ORDERED: ordered, DIFFUSION: mapped}[kind]
                     wanted = pixels if kind == OFF else dithered
                     self.assertEqual(list(found.raw), model(width, wanted, colors, **options))
             self.assertEqual(mapped(width, pixels, colors), nearest_of(colors, pixels))
@@ -310,7 +315,7 @@ class PaletteTest(unittest.TestCase):
         data, count = bytes(itertools.chain(*pixels)), len(pixels)
         models = [
             (OFF, 0, nearest_of(colors, pixels)),
-            (ORDERED, 16, mapped(count, pixels, colors, amplitude=16)),
+            (ORDERED, 16, ordered(count, pixels, colors, 16)),
             (DIFFUSION, 6, mapped(count, pixels, colors, strength=6)),
         ]
         for (kind, amount, indices), form in itertools.product(models, (PLAIN, COMPACT)):

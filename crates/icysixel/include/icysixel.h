@@ -235,7 +235,8 @@ enum icysixel_background {
 };
 
 /* A tolerance by the palette: its mean squared error, at least 12, or 0 if there is no error. It is
- * three times that without dithering. In a palette of grays it is that of the brightness. */
+ * three times that without dithering, and twice that with the pattern. In a palette of grays it is
+ * that of the brightness. */
 #define ICYSIXEL_AUTO UINT32_MAX
 
 /* Palettes of encoded images. Indexed pixels have the given palette in each mode. */
@@ -518,12 +519,12 @@ void icysixel_set_clip(icysixel *handle, size_t width, size_t height);
  * - In a given palette pixels have the indices of icysixel_palette_indices. Indexed pixels have
  *   their own, without dithering or tolerance.
  *
- * With dithering and a tolerance a pixel keeps the entry of an opaque neighbor, unless the nearest
+ * With diffusion and a tolerance a pixel keeps the entry of an opaque neighbor, unless the nearest
  * entry is nearer by the tolerance or more. Neighbors are the pixel above in the same band of six
- * rows, and the pixel before: on the left in even rows, and on the right in odd ones. Without
- * dithering an entry costs twice its squared distance, and the tolerance for each column beside the
- * pixel, in its band, that lacks the entry. A pixel has the cheapest one of its own and of its
- * neighbors. So runs are longer, and the output is shorter.
+ * rows, and the pixel before: on the left in even rows, and on the right in odd ones. Otherwise an
+ * entry costs twice its squared distance, to the moved color in ordered dithering, and the
+ * tolerance for each column beside the pixel, in its band, that lacks the entry. A pixel has the
+ * cheapest one of its own and of its neighbors. So runs are longer, and the output is shorter.
  *
  * The errors, in this order, are:
  *

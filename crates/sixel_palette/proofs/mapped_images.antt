@@ -4,6 +4,7 @@ pub mod DiffusionVisit
 pub mod DitheredIndices
 pub mod GraySource
 pub mod KeptEntries
+pub mod MovedPixels
 pub mod PaletteError
 pub mod SameVisits
 pub mod Serpentine

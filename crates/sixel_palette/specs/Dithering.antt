@@ -1,14 +1,16 @@
--- Palette indices of an image's pixels in a given palette. An opaque pixel has the entry that is
--- nearest to its target, a color that the kind of dithering determines, or it keeps the entry of a
--- neighbor that is hardly farther. Error diffusion is that of R. W. Floyd and L. Steinberg, "An
--- adaptive algorithm for spatial greyscale", Proceedings of the Society for Information Display 17
--- (1976), 75-77, in serpentine order and in whole sixteenths. The pattern of ordered dithering is
--- that of Ø. Kolås, "a dither" (2013).
+-- Palette indices of an image's pixels in a given palette. Undithered pixels have chosen entries, and
+-- so have those of ordered dithering, whose colors are moved first. By error diffusion, an opaque
+-- pixel has the entry that is nearest to its target, its color with the errors that it receives, or
+-- it keeps the entry of a neighbor that is hardly farther. This diffusion is that of R. W. Floyd and
+-- L. Steinberg, "An adaptive algorithm for spatial greyscale", Proceedings of the Society for
+-- Information Display 17 (1976), 75-77, in serpentine order and in whole sixteenths. The pattern of
+-- ordered dithering is that of Ø. Kolås, "a dither" (2013).
 use Rattle.std.specs.Prelude.{◌≡◌, ℕ, zero, suc, ◌+◌, ◌-◌, ◌*◌, ◌/◌, ◌%◌, ◌<◌, ◌≤◌, ◌==◌, nat_le}
-use Rattle.std.specs.Prelude.{nat_lt, min, max, if◌then◌else◌, List, [], ◌∷◌, length, slice_index}
-use Rattle.std.specs.Prelude.{slice_index_or, Option, Some, None}
+use Rattle.std.specs.Prelude.{nat_lt, min, max, if◌then◌else◌, List, [], ◌∷◌, ◌++◌, length}
+use Rattle.std.specs.Prelude.{slice_index, slice_index_or, Option, Some, None}
 use Rattle.std.specs.Option.{option_or}
 use Rattle.sixel_base.specs.CallFault.{CallFault, color_count_fault, size_call_fault}
+use Rattle.sixel_base.specs.Picture.{joined}
 use Rattle.sixel_base.specs.declared.error.SixelError.{SixelError}
 use Rattle.sixel_base.specs.declared.error.SixelError.TheVariants.{InvalidDimensions}
 use Rattle.sixel_base.specs.declared.error.SixelError.TheVariants.{BufferSizeMismatch}
@@ -45,14 +47,13 @@ indices_fault bytes width colors =
 
 -- ---- the order of visits
 
--- an image that is mapped to a palette: `strength` eighths of each error are passed on, the pattern
--- moves a channel by the amplitude, and an entry may be kept that is farther by the tolerance
+-- an image that is mapped to a palette: `strength` eighths of each error are passed on, and an entry
+-- may be farther than the nearest one by the tolerance
 pub record Mapped : Type 0 where
   pub width : ℕ
   pub pixels : List ℕ
   pub colors : List (List ℕ)
   pub strength : ℕ
-  pub amplitude : ℕ
   pub tolerance : ℕ
 
 -- the column of a step of a row: even rows go from the left, odd rows from the right
@@ -111,11 +112,6 @@ pub record HasTarget (m : Mapped) (target : List ℕ) (indices : List ℕ) (n : 
   pub hidden : slice_index m.pixels (4 * serpentine m.width n + 3) < 128
       → slice_index indices (serpentine m.width n) ≡ 0
 
--- so it is for each visit
-pub record AreMapped (m : Mapped) (target : ℕ → List ℕ) (indices : List ℕ) : Type 0 where
-  pub one_each : length indices ≡ length m.pixels / 4
-  pub each : (n : ℕ) → n < length m.pixels / 4 → HasTarget m (target n) indices n
-
 -- ---- ordered dithering
 
 -- a number from 0 to 255 for each place and channel
@@ -129,16 +125,39 @@ abbrev pub moved_channel : ℕ → ℕ → ℕ → ℕ
 moved_channel amplitude threshold value =
     min 255 (value + (2 * threshold * amplitude + (65536 - 255 * amplitude)) / 512 - 128)
 
--- a pixel's channel, moved
-abbrev pub ordered_channel : Mapped → ℕ → ℕ → ℕ
-ordered_channel m pixel channel =
-    moved_channel m.amplitude (threshold (pixel % m.width) (pixel / m.width) channel)
-    (slice_index m.pixels (4 * pixel + channel))
+-- a channel of a pixel's color, moved
+abbrev pub moved_at : ℕ → ℕ → ℕ → List ℕ → ℕ → ℕ
+moved_at amplitude width pixel c channel =
+    moved_channel amplitude (threshold (pixel % width) (pixel / width) channel)
+    (slice_index c channel)
 
--- a pixel's target in ordered dithering
-abbrev pub ordered_color : Mapped → ℕ → List ℕ
-ordered_color m pixel =
-    ordered_channel m pixel 0 ∷ ordered_channel m pixel 1 ∷ ordered_channel m pixel 2 ∷ []
+-- the color, and the bytes of the pixel
+abbrev pub moved_color : ℕ → ℕ → ℕ → List ℕ → List ℕ
+moved_color amplitude width pixel c =
+    moved_at amplitude width pixel c 0 ∷ moved_at amplitude width pixel c 1
+    ∷ moved_at amplitude width pixel c 2 ∷ []
+
+abbrev pub moved_pixel : ℕ → ℕ → List ℕ → ℕ → List ℕ
+moved_pixel amplitude width pixels pixel =
+    moved_color amplitude width pixel (color_at pixels pixel)
+    ++ (slice_index pixels (4 * pixel + 3) ∷ [])
+
+-- the pixels of an image whose colors are moved
+abbrev pub moved_pixels : ℕ → ℕ → List ℕ → List ℕ
+moved_pixels amplitude width pixels = joined (moved_pixel amplitude width pixels) (length pixels / 4)
+
+-- the same mapping of other pixels
+abbrev pub with_pixels : Mapped → List ℕ → Mapped
+with_pixels m pixels = record {
+  width = m.width;
+  pixels = pixels;
+  colors = m.colors;
+  strength = m.strength;
+  tolerance = m.tolerance;
+}
+
+abbrev pub moved_image : Mapped → ℕ → Mapped
+moved_image m amplitude = with_pixels m (moved_pixels amplitude m.width m.pixels)
 
 -- ---- error diffusion
 
@@ -240,6 +259,16 @@ errors_of m indices zero = []
 errors_of m indices (suc n) =
     visit_error m indices (errors_of m indices n) n ∷ errors_of m indices n
 
+-- the pixels of the first n visits have the indices for their targets
+abbrev pub AreVisited : Mapped → List ℕ → ℕ → Type 0
+AreVisited m indices n =
+    (k : ℕ) → k < n → HasTarget m (target_of_visit m (errors_of m indices k) k) indices k
+
+-- so have all pixels
+pub record AreDiffused (m : Mapped) (indices : List ℕ) : Type 0 where
+  pub one_each : length indices ≡ length m.pixels / 4
+  pub each : AreVisited m indices (length m.pixels / 4)
+
 -- ---- all kinds
 
 -- a strength in eighths
@@ -261,10 +290,11 @@ abbrev pub index_error : List (List ℕ) → List ℕ → List ℕ → ℕ
 index_error colors pixels indices =
     sum_to (pixel_index_error colors pixels indices) (length pixels / 4)
 
--- the automatic tolerance for a mean error, which is greater without dithering
+-- the automatic tolerance for a mean error, which is greater where entries are chosen
 abbrev pub automatic_tolerance : Dither → ℕ → ℕ
 automatic_tolerance Off mean = 3 * max 12 mean
-automatic_tolerance dither mean = max 12 mean
+automatic_tolerance (Ordered amplitude) mean = 2 * max 12 mean
+automatic_tolerance (Diffusion strength) mean = max 12 mean
 
 -- the tolerance for a palette
 abbrev pub tolerance_of : Dither → Tolerance → List (List ℕ) → List ℕ → ℕ
@@ -298,15 +328,8 @@ refined_mapping mapping colors pixels = record {
 
 -- how many eighths of an error a kind of dithering passes on
 abbrev pub strength_of : Dither → ℕ
-strength_of Off = 0
-strength_of (Ordered amplitude) = 0
 strength_of (Diffusion strength) = eighths strength
-
--- how far apart it moves a channel
-abbrev pub pattern_of : Dither → List (List ℕ) → List ℕ → ℕ
-pattern_of Off colors pixels = 0
-pattern_of (Ordered amplitude) colors pixels = amplitude_of amplitude colors pixels
-pattern_of (Diffusion strength) colors pixels = 0
+strength_of dither = 0
 
 -- an image that is mapped
 abbrev pub mapped_of : Mapping → ℕ → List ℕ → List (List ℕ) → Mapped
@@ -315,16 +338,10 @@ mapped_of mapping width pixels colors = record {
   pixels = pixels;
   colors = colors;
   strength = strength_of mapping.dither;
-  amplitude = pattern_of mapping.dither colors pixels;
   tolerance = tolerance_of mapping.dither mapping.tolerance colors pixels;
 }
 
--- the target of each visit
-abbrev pub target_of : Dither → Mapped → List ℕ → ℕ → List ℕ
-target_of (Diffusion strength) m indices n = target_of_visit m (errors_of m indices n) n
-target_of dither m indices n = ordered_color m (serpentine m.width n)
-
--- indices without dithering, and those of nearest entries
+-- indices that are chosen, and those of nearest entries
 abbrev pub undithered_of : Mapped → List ℕ → List ℕ → Undithered
 undithered_of m nearest indices = record {
   width = m.width;
@@ -335,12 +352,17 @@ undithered_of m nearest indices = record {
   chosen = indices;
 }
 
--- each pixel has the index for its target, or without dithering the one that is chosen
-abbrev pub HaveIndices : Dither → Mapped → List ℕ → Type 0
-HaveIndices Off m indices =
+abbrev pub HaveChoice : Mapped → List ℕ → Type 0
+HaveChoice m indices =
     (nearest : List ℕ) × AreIndices m.pixels m.colors nearest
     × AreChosen (undithered_of m nearest indices)
-HaveIndices dither m indices = AreMapped m (target_of dither m indices) indices
+
+-- each pixel has the index that is chosen for its color or its moved color, or that for its target
+abbrev pub HaveIndices : Dither → Mapped → List ℕ → Type 0
+HaveIndices Off m indices = HaveChoice m indices
+HaveIndices (Ordered amplitude) m indices =
+    HaveChoice (moved_image m (amplitude_of amplitude m.colors m.pixels)) indices
+HaveIndices (Diffusion strength) m indices = AreDiffused m indices
 
 -- so it is in a palette
 abbrev pub HaveTargets : Mapping → ℕ → List ℕ → List (List ℕ) → List ℕ → Type 0

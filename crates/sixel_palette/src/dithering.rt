@@ -19,7 +19,7 @@ ghost use Rattle.sixel_palette.specs.Dithering.{target_of_visit, tolerance_of, v
 ghost use Rattle.sixel_palette.specs.Dithering.{whole_rows};
 ghost use Rattle.sixel_palette.specs.Gray.{is_gray, maps_grays, source_pixels};
 ghost use Rattle.sixel_palette.specs.GrayDiffusion.{AreGrays, level_gap};
-ghost use Rattle.sixel_palette.specs.inside.Mapped.{IsMappable, IsPlain};
+ghost use Rattle.sixel_palette.specs.inside.Mapped.{IsMappable, IsWhole};
 ghost use Rattle.sixel_palette.specs.declared.palette.refined.RefinedPalette.{RefinedPalette};
 ghost use Rattle.sixel_palette.specs.inside.PaletteError.{HasNearest};
 
@@ -55,19 +55,19 @@ use std::alloc::{AllocError, Global};
 /// its target, the first of equals, apart from the tolerance. A distance is the sum of the squared
 /// differences of the channels.
 ///
-/// With dithering, a pixel keeps the entry of an opaque neighbor if the distance of that entry to
+/// By diffusion, a pixel keeps the entry of an opaque neighbor if the distance of that entry to
 /// the target is below the distance of the nearest entry plus the tolerance. One neighbor is the
 /// pixel before it in its row: even rows go from the left, odd rows from the right. The other one
 /// is the pixel above it in the same band of six rows. Of two entries the nearer one is kept, that
 /// of the pixel before it on ties.
 ///
-/// Without dithering, a pixel has the cheapest of up to four entries, the first of equals: the
-/// nearest one, those of the opaque pixels before and above it, and the nearest one of the opaque
-/// pixel after it. An entry costs twice its distance, and the tolerance for each of the two columns
-/// beside the pixel, in its band of six rows, that lacks the entry. The columns cost nothing if the
-/// pixel above has it. Bands, columns of a band and pixels of a column are visited in order. The
-/// column after counts with nearest entries. So the summed squared error is at most the least one
-/// plus the tolerance for each opaque pixel.
+/// Otherwise, a pixel has the cheapest of up to four entries, the first of equals: the nearest one,
+/// those of the opaque pixels before and above it, and the nearest one of the opaque pixel after
+/// it. An entry costs twice its distance, and the tolerance for each of the two columns beside the
+/// pixel, in its band of six rows, that lacks the entry. The columns cost nothing if the pixel
+/// above has it. Bands, columns of a band and pixels of a column are visited in order. The column
+/// after counts with nearest entries. So without dithering the summed squared error is at most the
+/// least one plus the tolerance for each opaque pixel.
 ///
 /// In a palette of grays, dithering maps the brightness of the pixels, because no gray repays the
 /// difference of a hue. What pixels pass on is gray then. Without dithering the colors are mapped,
@@ -130,8 +130,7 @@ pub fn dithered_indices(
     image: &MappedImage<'_>,
     mapping: Mapping,
 ) -> std::result::Result<Vec<u8>, AllocError>
-    requires image { IsMappable image.now }
-    requires plain { IsPlain image.now }
+    requires { IsMappable image.now }
     ensures { IfOk result (λ indices.
         AreDithered mapping image.now.width image.now.pixels.now image.now.colors.now
         indices.items) }
@@ -202,11 +201,8 @@ fn indices_from(
     nearest: Nearest<'_>,
     mapping: Mapping,
 ) -> std::result::Result<Vec<u8>, AllocError>
-    requires width { 0 < image.now.width }
-    requires rows { length image.now.pixels.now
-        ≡ whole_rows (length image.now.pixels.now) image.now.width }
-    requires few { length image.now.colors.now ≤ 256 }
-    requires plain { IsPlain image.now }
+    requires whole { IsWhole image.now }
+    requires strength { image.now.strength ≤ 8 }
     requires nearest { HasNearest image.now nearest }
     ensures { IfOk result (λ indices.
         AreDithered mapping image.now.width image.now.pixels.now image.now.colors.now
@@ -228,8 +224,7 @@ fn searched_indices(
     image: &MappedImage<'_>,
     mapping: Mapping,
 ) -> std::result::Result<Vec<u8>, AllocError>
-    requires image { IsMappable image.now }
-    requires plain { IsPlain image.now }
+    requires { IsMappable image.now }
     ensures { IfOk result (λ indices.
         HaveTargets mapping image.now.width image.now.pixels.now image.now.colors.now
         indices.items) }
@@ -250,11 +245,10 @@ fn searched_indices(
             Tolerance::Squared(tolerance),
         ) => {
             let image = MappedImage {
-                amplitude,
                 tolerance,
                 ..*image
             };
-            ordered_indices(alloc, &image)
+            ordered_indices(alloc, &image, amplitude)
         }
         _ => {
             let nearest = nearest_indices(alloc, image.pixels, image.colors)?;
@@ -271,7 +265,6 @@ fn mapped_indices(
     mapping: Mapping,
 ) -> std::result::Result<Vec<u8>, AllocError>
     requires image { IsMappable image.now }
-    requires plain { IsPlain image.now }
     requires nearest { HasNearest image.now nearest }
     ensures { IfOk result (λ indices.
         HaveTargets mapping image.now.width image.now.pixels.now image.now.colors.now
@@ -290,7 +283,7 @@ fn mapped_indices(
         }
         Dither::Ordered { amplitude } => {
             let amplitude = amplitude_of(&image, &nearest, amplitude);
-            ordered_indices(alloc, &MappedImage { amplitude, ..image })
+            ordered_indices(alloc, &image, amplitude)
         }
         // Each pixel's color is an entry, so there is nothing to pass on.
         Dither::Diffusion { .. } if tolerance == 0 && mapping.tolerance == Tolerance::Auto => {

@@ -20,12 +20,12 @@ pub struct Mapping {
 
 /// By how much an entry may be farther from a color than the nearest one.
 ///
-/// With dithering, a pixel keeps a neighbor's entry if its squared distance is below that of the
-/// nearest entry plus the tolerance. Without dithering, the tolerance is the price of an entry that
-/// both columns beside the pixel lack. So runs are longer, and the output takes fewer bytes.
+/// By diffusion, a pixel keeps a neighbor's entry if its squared distance is below that of the
+/// nearest entry plus the tolerance. Otherwise, the tolerance is the price of an entry that both
+/// columns beside the pixel lack. So runs are longer, and the output takes fewer bytes.
 #[derive(Debug, Clone, Copy, PartialEq, Eq)]
 pub enum Tolerance {
-    /// The mean squared error of the palette, or three times that without dithering.
+    /// The mean squared error of the palette, by a pattern twice and without dithering three times.
     ///
     /// The mean is over the opaque pixels, and taken as at least 12. The tolerance is 0 if each of
     /// their colors is an entry. In a palette of grays it is that of their brightness.

@@ -1,6 +1,6 @@
 -- Images that show the same have the same indices at their opaque pixels, so one drawing.
 use Rattle.std.proofs.Common.{◌≡◌, ℕ, zero, suc, ◌+◌, ◌*◌, ◌<◌, ◌≤◌, List, length, refl}
-use Rattle.std.proofs.Common.{ap, sym, subst, arith, inl, inr}
+use Rattle.std.proofs.Common.{ap, sym, subst, arith, inl, inr, ◌∙◌}
 use Rattle.std.specs.Prelude.{◌/◌, ◌%◌, None, Option, slice_index}
 use Rattle.std.proofs.lemmas.Nat.{div-add-mod', mod_below}
 use Rattle.std.proofs.lemmas.Bool.{cases_lt}
@@ -14,10 +14,11 @@ use Rattle.sixel_palette.specs.declared.dither.Dither.{Dither}
 use Rattle.sixel_palette.specs.declared.dither.Dither.TheVariants.{Diffusion, Off, Ordered}
 use Rattle.sixel_palette.specs.declared.mapping.Mapping.{Mapping}
 use Rattle.sixel_palette.specs.declared.mapping.Tolerance.{Tolerance}
-use Rattle.sixel_palette.specs.Dithering.{AreDithered, AreMapped, HasTarget, HaveIndices}
-use Rattle.sixel_palette.specs.Dithering.{HaveTargets, IsIndex, undithered_of}
-use Rattle.sixel_palette.specs.Dithering.{Mapped, amplitude_of, mapped_of, pattern_of}
-use Rattle.sixel_palette.specs.Dithering.{refined_mapping, serpentine, target_of, tolerance_of}
+use Rattle.sixel_palette.specs.Dithering.{AreDiffused, AreDithered, AreVisited, HasTarget}
+use Rattle.sixel_palette.specs.Dithering.{HaveChoice, HaveIndices, HaveTargets, IsIndex, Mapped}
+use Rattle.sixel_palette.specs.Dithering.{amplitude_of, errors_of, mapped_of, moved_image}
+use Rattle.sixel_palette.specs.Dithering.{moved_pixels, refined_mapping, serpentine}
+use Rattle.sixel_palette.specs.Dithering.{target_of_visit, tolerance_of, undithered_of, with_pixels}
 use Rattle.sixel_encoder.specs.Encoding.{shown_image}
 use Rattle.sixel_palette.specs.Gray.{source_pixels}
 use Rattle.sixel_encoder.specs.IndexedDrawing.{entries_of, indexed_drawing}
@@ -28,29 +29,27 @@ use Rattle.sixel_palette.proofs.mapped_images.GraySource.{entry-source, measured
 use Rattle.sixel_palette.proofs.mapped_images.GraySource.{source-alike}
 use Rattle.sixel_encoder.proofs.drawings.IndexedDrawing.{get_or-entries}
 use Rattle.sixel_palette.proofs.mapped_images.KeptEntries.{IsIndex-same}
+use Rattle.sixel_palette.proofs.mapped_images.MovedPixels.{moved-alike, moved-entry}
 use Rattle.sixel_palette.proofs.mapped_images.PaletteError.{number-dark, number-light, sum_to-same}
 use Rattle.sixel_encoder.proofs.drawings.SameDrawing.{drawing-fields}
 use Rattle.sixel_palette.proofs.mapped_images.UnditheredAlike.{AreChosen-alike, chosen-alike}
 use Rattle.sixel_palette.proofs.mapped_images.UnditheredAlike.{indices-alike}
-use Rattle.sixel_palette.proofs.mapped_images.SameVisits.{AreAlike, AreSameOpaque, channel-alike}
+use Rattle.sixel_palette.proofs.mapped_images.SameVisits.{AreAlike, AreSameOpaque}
 use Rattle.sixel_palette.proofs.mapped_images.SameVisits.{entry-before, errors-alike}
 use Rattle.sixel_palette.proofs.mapped_images.SameVisits.{neighbor-alike}
-use Rattle.sixel_palette.proofs.mapped_images.SameVisits.{target-alike, with_pixels}
+use Rattle.sixel_palette.proofs.mapped_images.SameVisits.{target-alike}
 use Rattle.std.proofs.lemmas.Bool.Decides.{nat_tests}
 use Rattle.sixel_encoder.proofs.drawings.SameDrawing.{AreAlike-images}
 
 -- ---- all kinds
 
 -- the targets of an opaque pixel's visit are the same
-target_of-alike : (dither : Dither) (m : Mapped) (q a b : List ℕ) (n : ℕ) → AreAlike m.pixels q
+target-same : (m : Mapped) (q a b : List ℕ) (n : ℕ) → AreAlike m.pixels q
     → AreRowsOf m.pixels m.width → n < length m.pixels / 4 → AreSameOpaque m a b n
     → IsOpaque m.pixels (serpentine m.width n)
-    → target_of dither m a n ≡ target_of dither (with_pixels m q) b n
-target_of-alike Off m q a b n alike rows l same light =
-    grind (arith, nat_tests, visit-inside, channel-alike)
-target_of-alike (Ordered amplitude) m q a b n alike rows l same light =
-    grind (arith, nat_tests, visit-inside, channel-alike)
-target_of-alike (Diffusion strength) m q a b n alike rows l same light =
+    → target_of_visit m (errors_of m a n) n
+    ≡ target_of_visit (with_pixels m q) (errors_of (with_pixels m q) b n) n
+target-same m q a b n alike rows l same light =
     grind (arith, nat_tests, target-alike, visit-inside, with_pixels, errors-alike)
 
 -- an index does not depend on the pixels
@@ -59,32 +58,31 @@ IsIndex-other : (m : Mapped) (q c : List ℕ) (neighbor : Option ℕ) (index : �
 IsIndex-other m q c neighbor index is = grind (arith, nat_tests)
 
 -- the indices of a visit's pixel are the same, if both have their targets
-index-alike : (dither : Dither) (m : Mapped) (q a b : List ℕ) (n : ℕ) → AreAlike m.pixels q
+index-alike : (m : Mapped) (q a b : List ℕ) (n : ℕ) → AreAlike m.pixels q
     → AreRowsOf m.pixels m.width → n < length m.pixels / 4 → AreSameOpaque m a b n
-    → HasTarget m (target_of dither m a n) a n
-    → HasTarget (with_pixels m q) (target_of dither (with_pixels m q) b n) b n
+    → HasTarget m (target_of_visit m (errors_of m a n) n) a n
+    → HasTarget (with_pixels m q)
+    (target_of_visit (with_pixels m q) (errors_of (with_pixels m q) b n) n) b n
     → IsOpaque m.pixels (serpentine m.width n)
     → slice_index a (serpentine m.width n) ≡ slice_index b (serpentine m.width n)
-index-alike dither m q a b n alike rows l same first second light =
+index-alike m q a b n alike rows l same first second light =
     let there = alike.opaque (serpentine m.width n) (visit-inside m n rows l) light in
-    let own = target_of dither m a n in
-    let target = target_of-alike dither m q a b n alike rows l same light in
+    let own = target_of_visit m (errors_of m a n) n in
+    let target = target-same m q a b n alike rows l same light in
     let near = neighbor-alike m q own a b n alike rows l same in
     let is = IsIndex-other m q _ _ _ (first.opaque light) in
     IsIndex-same (with_pixels m q) _ _ _ _ (rw target at (rw near at is)) (second.opaque there.0)
 
 -- so are those of all visits
-same-opaque : (dither : Dither) (m : Mapped) (q a b : List ℕ) (n : ℕ) → AreAlike m.pixels q
-    → AreRowsOf m.pixels m.width → n ≤ length m.pixels / 4
-    → ((k : ℕ) → k < n → HasTarget m (target_of dither m a k) a k)
-    → ((k : ℕ) → k < n → HasTarget (with_pixels m q) (target_of dither (with_pixels m q) b k) b k)
-    → AreSameOpaque m a b n
-same-opaque dither m q a b zero alike rows most first second = λ k l. absurd (omega arith)
-same-opaque dither m q a b (suc n) alike rows most first second = λ k l light.
+same-opaque : (m : Mapped) (q a b : List ℕ) (n : ℕ) → AreAlike m.pixels q
+    → AreRowsOf m.pixels m.width → n ≤ length m.pixels / 4 → AreVisited m a n
+    → AreVisited (with_pixels m q) b n → AreSameOpaque m a b n
+same-opaque m q a b zero alike rows most first second = λ k l. absurd (omega arith)
+same-opaque m q a b (suc n) alike rows most first second = λ k l light.
     let before =
-    same-opaque dither m q a b n alike rows (omega arith) (λ j lj. first j (omega arith))
+    same-opaque m q a b n alike rows (omega arith) (λ j lj. first j (omega arith))
     (λ j lj. second j (omega arith)) in
-    let last = index-alike dither m q a b n alike rows (omega arith) before in
+    let last = index-alike m q a b n alike rows (omega arith) before in
     elim (cases_lt k n) [
       | inl earlier ↦ before k earlier light
       | inr most ↦
@@ -110,84 +108,93 @@ amplitude-alike : (amplitude : Amplitude) (colors : List (List ℕ)) (p q : List
     → amplitude_of amplitude colors p ≡ amplitude_of amplitude colors q
 amplitude-alike amplitude colors p q alike = grind (arith, nat_tests, pixels-same)
 
-pattern-alike : (dither : Dither) (colors : List (List ℕ)) (p q : List ℕ) → AreAlike p q
-    → pattern_of dither colors p ≡ pattern_of dither colors q
-pattern-alike dither colors p q alike = grind (arith, nat_tests, amplitude-alike)
-
 -- so is the mapping to a refined palette
 pub refined-alike : (mapping : Mapping) (colors : List (List ℕ)) (p q : List ℕ) → AreAlike p q
     → refined_mapping mapping colors p ≡ refined_mapping mapping colors q
 refined-alike mapping colors p q alike = grind (arith, nat_tests, pixels-same)
 
--- indices that are mapped are mapped for the other pixels
-other-mapped : (dither : Dither) (m : Mapped) (q a : List ℕ) → AreAlike m.pixels q
-    → AreRowsOf m.pixels m.width → AreMapped m (target_of dither m a) a
-    → AreMapped (with_pixels m q) (target_of dither (with_pixels m q) a) a
-other-mapped dither m q a alike rows are = record {
+-- indices of error diffusion are those of the other pixels
+other-diffused : (m : Mapped) (q a : List ℕ) → AreAlike m.pixels q → AreRowsOf m.pixels m.width
+    → AreDiffused m a → AreDiffused (with_pixels m q) a
+other-diffused m q a alike rows are = record {
   one_each = omega (arith, are.one_each, alike.count);
   each = λ n l.
       let here : n < length m.pixels / 4 = omega (arith, l, alike.count) in
       let at = serpentine m.width n in
       let inside = visit-inside m n rows here in
       let same : AreSameOpaque m a a n = λ k lk light. refl in
-      let own = target_of dither m a n in
+      let own = target_of_visit m (errors_of m a n) n in
       record {
         opaque = λ light.
             elim (cases_lt (slice_index m.pixels (4 * at + 3)) 128) [
               | inl dark ↦ absurd (omega (arith, alike.dark at inside dark, light))
               | inr lit ↦
-                  let target = target_of-alike dither m q a a n alike rows here same lit in
+                  let target = target-same m q a a n alike rows here same lit in
                   let near = neighbor-alike m q own a a n alike rows here same in
                   let is = IsIndex-other _ q _ _ _ ((are.each n here).opaque lit) in
                   rw target at (rw near at is)
             ];
         hidden = λ dark.
-            let shade = cases_lt (slice_index m.pixels (4 * at + 3)) 128 in
-            grind (arith, nat_tests, are.each n here);
+            elim (cases_lt (slice_index m.pixels (4 * at + 3)) 128) [
+              | inl shade ↦ (are.each n here).hidden shade
+              | inr lit ↦ absurd (omega (arith, (alike.opaque at inside lit).0, dark))
+            ];
       };
 }
 
--- so are those of all kinds
-HaveIndices-alike : (dither : Dither) (m : Mapped) (q a : List ℕ) → AreAlike m.pixels q
-    → AreRowsOf m.pixels m.width → HaveIndices dither m a → HaveIndices dither (with_pixels m q) a
-HaveIndices-alike Off m q a alike rows have =
+-- so are those that are chosen
+other-choice : (m : Mapped) (q a : List ℕ) → AreAlike m.pixels q → HaveChoice m a
+    → HaveChoice (with_pixels m q) a
+other-choice m q a alike have =
     let near = indices-alike m.pixels q m.colors have.0 alike have.1 in
     (have.0, near, AreChosen-alike (undithered_of m have.0 a) q alike have.1 near have.2)
+
+HaveIndices-alike : (dither : Dither) (m : Mapped) (q a : List ℕ) → AreAlike m.pixels q
+    → AreRowsOf m.pixels m.width → HaveIndices dither m a → HaveIndices dither (with_pixels m q) a
+HaveIndices-alike Off m q a alike rows have = other-choice m q a alike have
 HaveIndices-alike (Ordered amplitude) m q a alike rows have =
-    other-mapped (Ordered amplitude) m q a alike rows have
-HaveIndices-alike (Diffusion strength) m q a alike rows have =
-    other-mapped (Diffusion strength) m q a alike rows have
+    let moved = amplitude_of amplitude m.colors m.pixels in
+    rw (amplitude-alike amplitude m.colors m.pixels q alike) at
+    (other-choice (moved_image m moved) (moved_pixels moved m.width q) a
+    (moved-alike moved m.width m.pixels q alike) have)
+HaveIndices-alike (Diffusion strength) m q a alike rows have = other-diffused m q a alike rows have
 
 -- and the entries
-mapped-entry : (dither : Dither) (m : Mapped) (q a b : List ℕ) (pixel : ℕ) → AreAlike m.pixels q
-    → AreRowsOf m.pixels m.width → AreMapped m (target_of dither m a) a
-    → AreMapped (with_pixels m q) (target_of dither (with_pixels m q) b) b
-    → pixel < length m.pixels / 4 → entry_of m.pixels a pixel ≡ entry_of q b pixel
-mapped-entry dither m q a b pixel alike rows first second l =
-    let count = length m.pixels / 4 in
-    entry-before m q a b count pixel alike rows.some l (same-opaque dither m q a b count
-    alike rows (omega arith) first.each (λ k lk. second.each k (omega (arith, alike.count, lk))))
-    (visit-inside m pixel rows l)
+choice-entry : (m : Mapped) (q a b : List ℕ) (pixel : ℕ) → AreAlike m.pixels q → 0 < m.width
+    → HaveChoice m a → HaveChoice (with_pixels m q) b
+    → entry_of m.pixels a pixel ≡ entry_of q b pixel
+choice-entry m q a b pixel alike some first second =
+    let place = div-add-mod' pixel m.width in
+    rw place at
+    (chosen-alike (undithered_of m first.0 a) q second.0 b alike first.1 second.1 first.2 second.2
+    (suc (6 * (pixel % m.width) + pixel / m.width % 6)) (pixel % m.width) (pixel / m.width)
+    (omega arith) (mod_below pixel m.width some))
 
 have-alike : (dither : Dither) (m : Mapped) (q a b : List ℕ) (pixel : ℕ) → AreAlike m.pixels q
     → AreRowsOf m.pixels m.width → HaveIndices dither m a → HaveIndices dither (with_pixels m q) b
     → pixel < length m.pixels / 4 → entry_of m.pixels a pixel ≡ entry_of q b pixel
 have-alike Off m q a b pixel alike rows first second l =
-    let place = div-add-mod' pixel m.width in
-    rw place at
-    (chosen-alike (undithered_of m first.0 a) q second.0 b alike first.1 second.1 first.2 second.2
-    (suc (6 * (pixel % m.width) + pixel / m.width % 6)) (pixel % m.width) (pixel / m.width)
-    (omega arith) (mod_below pixel m.width rows.some))
+    choice-entry m q a b pixel alike rows.some first second
 have-alike (Ordered amplitude) m q a b pixel alike rows first second l =
-    mapped-entry (Ordered amplitude) m q a b pixel alike rows first second l
+    let moved = amplitude_of amplitude m.colors m.pixels in
+    let other = moved_pixels moved m.width q in
+    let also : HaveChoice (with_pixels m other) b =
+    rw (amplitude-alike amplitude m.colors m.pixels q alike) second in
+    moved-entry moved m.width m.pixels a pixel l
+    ∙ (choice-entry (moved_image m moved) other a b pixel
+    (moved-alike moved m.width m.pixels q alike) rows.some first also
+    ∙ sym (moved-entry moved m.width q b pixel (omega (arith, l, alike.count))))
 have-alike (Diffusion strength) m q a b pixel alike rows first second l =
-    mapped-entry (Diffusion strength) m q a b pixel alike rows first second l
+    let count = length m.pixels / 4 in
+    entry-before m q a b count pixel alike rows.some l (same-opaque m q a b count alike rows
+    (omega arith) first.each (λ k lk. second.each k (omega (arith, alike.count, lk))))
+    (visit-inside m pixel rows l)
 
 module _ (mapping : Mapping) (width : ℕ) (colors : List (List ℕ)) where
   -- so the images are mapped alike
   mapped-alike : (p q : List ℕ) → AreAlike p q
       → with_pixels (mapped_of mapping width p colors) q ≡ mapped_of mapping width q colors
-  mapped-alike p q alike = grind (arith, tolerance-alike, pattern-alike)
+  mapped-alike p q alike = grind (arith, tolerance-alike)
 
   -- so indices of the one are indices of the other
   HaveTargets-alike : (p q a : List ℕ) → AreAlike p q → AreRowsOf p width

@@ -5,26 +5,21 @@ use Rattle.std.proofs.lemmas.Bool.Decides.{nat_tests}
 use Rattle.sixel_palette.specs.Palette.{AreIndices, IsOpaque}
 use Rattle.sixel_palette.specs.declared.dither.Dither.{Dither}
 use Rattle.sixel_palette.specs.declared.dither.Dither.TheVariants.{Diffusion, Off, Ordered}
-use Rattle.sixel_palette.specs.Dithering.{AreMapped, HaveIndices, Mapped, target_of}
-use Rattle.sixel_palette.specs.Dithering.{undithered_of}
-use Rattle.sixel_palette.proofs.mapped_images.DitheredIndices.{AreMapped-none, AreRowsOf}
-use Rattle.sixel_palette.proofs.mapped_images.DitheredIndices.{HasTarget-pixel}
+use Rattle.sixel_palette.specs.Dithering.{HaveChoice, HaveIndices, Mapped, amplitude_of}
+use Rattle.sixel_palette.specs.Dithering.{moved_image, serpentine, undithered_of}
+use Rattle.sixel_palette.proofs.mapped_images.DitheredIndices.{AreDiffused-none, AreRowsOf}
+use Rattle.sixel_palette.proofs.mapped_images.DitheredIndices.{visit-inside}
+use Rattle.sixel_palette.proofs.mapped_images.MovedPixels.{moved-alpha, moved-length}
 use Rattle.sixel_palette.proofs.mapped_images.Serpentine.{serpentine-serpentine}
 use Rattle.sixel_palette.proofs.mapped_images.UnditheredLaws.{AreChosen-none, chosen-below}
 
 pub have-count : (dither : Dither) (m : Mapped) (indices : List ℕ) → HaveIndices dither m indices
     → length indices ≡ length m.pixels / 4
 have-count Off m indices have = have.2.one_each
-have-count (Ordered amplitude) m indices have = have.one_each
+have-count (Ordered amplitude) m indices have =
+    let moved = moved-length (amplitude_of amplitude m.colors m.pixels) m.width m.pixels in
+    omega (arith, have.2.one_each, moved)
 have-count (Diffusion strength) m indices have = have.one_each
-
-mapped-entry : (m : Mapped) (target : ℕ → List ℕ) (indices : List ℕ) (pixel : ℕ)
-    → AreRowsOf m.pixels m.width → AreMapped m target indices → pixel < length m.pixels / 4
-    → IsOpaque m.pixels pixel → slice_index indices pixel < length m.colors
-mapped-entry m target indices pixel rows are inside light =
-    let has = HasTarget-pixel m target indices pixel rows are inside in
-    let back = serpentine-serpentine m.width pixel rows.some in
-    grind (arith, nat_tests)
 
 pub have-entry : (dither : Dither) (m : Mapped) (indices : List ℕ) (pixel : ℕ)
     → AreRowsOf m.pixels m.width → HaveIndices dither m indices → pixel < length m.pixels / 4
@@ -32,16 +27,28 @@ pub have-entry : (dither : Dither) (m : Mapped) (indices : List ℕ) (pixel : �
 have-entry Off m indices pixel rows have inside light =
     chosen-below (undithered_of m have.0 indices) have.2 have.1 rows.some pixel inside light
 have-entry (Ordered amplitude) m indices pixel rows have inside light =
-    mapped-entry m (target_of (Ordered amplitude) m indices) indices pixel rows have inside light
+    let moved = amplitude_of amplitude m.colors m.pixels in
+    chosen-below (undithered_of (moved_image m moved) have.0 indices) have.2 have.1 rows.some pixel
+    (omega (arith, moved-length moved m.width m.pixels, inside))
+    (omega (arith, moved-alpha moved m.width m.pixels pixel inside, light))
 have-entry (Diffusion strength) m indices pixel rows have inside light =
-    mapped-entry m (target_of (Diffusion strength) m indices) indices pixel rows have inside light
+    let back = serpentine-serpentine m.width pixel rows.some in
+    let has = have.each (serpentine m.width pixel) (visit-inside m pixel rows inside) in
+    rw back at (has.opaque (rw back light)).entry
 
 -- without an entry no pixel is opaque
+choice-none : (m : Mapped) (indices : List ℕ) → 0 < m.width → length m.colors ≡ 0
+    → AreIndices m.pixels m.colors indices → HaveChoice m indices
+choice-none m indices some none are =
+    (indices, are, AreChosen-none (undithered_of m indices indices) some none are refl)
+
 pub have-none : (dither : Dither) (m : Mapped) (indices : List ℕ) → AreRowsOf m.pixels m.width
     → length m.colors ≡ 0 → AreIndices m.pixels m.colors indices → HaveIndices dither m indices
-have-none Off m indices rows none are =
-    (indices, are, AreChosen-none (undithered_of m indices indices) rows.some none are refl)
+have-none Off m indices rows none are = choice-none m indices rows.some none are
 have-none (Ordered amplitude) m indices rows none are =
-    AreMapped-none m (target_of (Ordered amplitude) m indices) indices rows none are
-have-none (Diffusion strength) m indices rows none are =
-    AreMapped-none m (target_of (Diffusion strength) m indices) indices rows none are
+    let moved = amplitude_of amplitude m.colors m.pixels in
+    let length = moved-length moved m.width m.pixels in
+    let alpha = moved-alpha moved m.width m.pixels in
+    choice-none (moved_image m moved) indices rows.some none
+    (grind (arith, nat_tests, length, alpha))
+have-none (Diffusion strength) m indices rows none are = AreDiffused-none m indices rows none are

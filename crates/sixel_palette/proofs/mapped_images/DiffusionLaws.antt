@@ -7,13 +7,12 @@ use Rattle.std.proofs.lemmas.List.{get_or_default, get_or_past}
 use Rattle.std.proofs.lemmas.List.Elements.{All-cons, All-nil}
 use Rattle.sixel_palette.specs.Palette.{AreIndices, IsNearest, IsOpaque, color_at, distance}
 use Rattle.sixel_palette.proofs.colors.Distance.{below_three, distance_self, same_from_distance}
-use Rattle.sixel_palette.specs.Dithering.{AreMapped, Mapped, error_above, error_back, error_before}
+use Rattle.sixel_palette.specs.Dithering.{AreDiffused, Mapped, error_above, error_back, error_before}
 use Rattle.sixel_palette.specs.Dithering.{error_behind, error_beyond, errors_of, no_error}
 use Rattle.sixel_palette.specs.Dithering.{opaque_error, passed_on, received, serpentine, sixteenths}
 use Rattle.sixel_palette.specs.Dithering.{target_of_visit, visit_error}
-use Rattle.sixel_palette.proofs.mapped_images.DitheredIndices.{AreIndices-mapped, AreMapped-exact}
-use Rattle.sixel_palette.proofs.mapped_images.DitheredIndices.{AreRows}
-use Rattle.sixel_palette.proofs.mapped_images.DitheredIndices.{visit-inside}
+use Rattle.sixel_palette.proofs.mapped_images.DitheredIndices.{AreDiffused-exact, AreRows}
+use Rattle.sixel_palette.proofs.mapped_images.DitheredIndices.{AreIndices-targets, visit-inside}
 use Rattle.std.proofs.lemmas.Bool.Decides.{nat_tests}
 use Rattle.sixel_palette.proofs.nearest_entries.Nearest.{nearest-le}
 use Rattle.std.proofs.lemmas.Grind.{common_steps}
@@ -129,12 +128,9 @@ AreHeld m =
 
 -- without a tolerance its pixels have the indices of their nearest entries
 pub AreIndices-exact : (m : Mapped) (indices : List ℕ) → AreRows m → AreColors m → AreHeld m
-    → m.tolerance ≡ 0
-    → AreMapped m (λ n. target_of_visit m (errors_of m indices n) n) indices
-    → AreIndices m.pixels m.colors indices
+    → m.tolerance ≡ 0 → AreDiffused m indices → AreIndices m.pixels m.colors indices
 AreIndices-exact m indices rows exact held none are =
-    AreIndices-mapped m (λ n. target_of_visit m (errors_of m indices n) n) indices rows none are
-    (λ n l light.
+    AreIndices-targets m _ indices rows none are.one_each are.each (λ n l light.
     target-none m (errors_of m indices n) n
     (errors-own m indices n exact
     (λ k lk before lit.
@@ -148,12 +144,10 @@ AreIndices-exact m indices rows exact held none are =
     exact.bytes)
 
 -- and the other way round
-pub AreMapped-diffused : (m : Mapped) (indices : List ℕ) → AreRows m → AreColors m → AreHeld m
-    → m.tolerance ≡ 0 → AreIndices m.pixels m.colors indices
-    → AreMapped m (λ n. target_of_visit m (errors_of m indices n) n) indices
-AreMapped-diffused m indices rows exact held none are =
-    AreMapped-exact m (λ n. target_of_visit m (errors_of m indices n) n) indices rows none are
-    (λ n l light.
+pub AreDiffused-held : (m : Mapped) (indices : List ℕ) → AreRows m → AreColors m → AreHeld m
+    → m.tolerance ≡ 0 → AreIndices m.pixels m.colors indices → AreDiffused m indices
+AreDiffused-held m indices rows exact held none are =
+    AreDiffused-exact m indices rows none are (λ n l light.
     target-none m (errors_of m indices n) n
     (grind (arith, nat_tests, errors-own, visit-inside, nearest-own))
     exact.bytes)

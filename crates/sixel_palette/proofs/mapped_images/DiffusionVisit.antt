@@ -13,10 +13,10 @@ use Rattle.sixel_palette.specs.declared.dithering.diffusion.Neighbors.{Neighbors
 use Rattle.sixel_palette.specs.Dithering.{IsIndex, Mapped, column_of_step, error_above}
 use Rattle.sixel_palette.specs.Dithering.{error_before, error_behind, error_beyond, neighbor_of}
 use Rattle.sixel_palette.specs.Dithering.{no_error, opaque_error, serpentine, target_of_visit}
-use Rattle.sixel_palette.specs.Dithering.{visit_error, error_back, errors_of}
+use Rattle.sixel_palette.specs.Dithering.{AreVisited, visit_error, error_back, errors_of}
 use Rattle.sixel_palette.specs.inside.Diffusion.{AreReceived, AreSixteenths, AreErrors, IsBeyond}
 use Rattle.sixel_palette.specs.inside.Diffusion.{IsLine, IsVisit, channels, color_error}
-use Rattle.sixel_palette.specs.inside.Diffusion.{received_of, rounded_color, AreVisited}
+use Rattle.sixel_palette.specs.inside.Diffusion.{received_of, rounded_color}
 use Rattle.sixel_palette.specs.inside.Diffusion.{no_error_lanes}
 use Rattle.sixel_palette.specs.inside.Mapped.{IsIndexAt, IsMappable, IsPlace, mapped_value}
 use Rattle.sixel_palette.proofs.mapped_images.DitheredIndices.{HasTarget-set, IsIndexAt-dark}

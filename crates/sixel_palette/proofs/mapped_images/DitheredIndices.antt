@@ -1,14 +1,11 @@
 -- Palette indices that are stored one after the other, and those of whole rows.
-use Rattle.std.proofs.Common.{◌≡◌, ℕ, ◌+◌, ◌*◌, ◌<◌, ◌≤◌, List, length, set, sym, arith, inl}
-use Rattle.std.proofs.Common.{inr}
-use Rattle.std.specs.Prelude.{◌/◌, ◌%◌, slice_index}
-use Rattle.std.proofs.lemmas.Bool.{cases_lt}
+use Rattle.std.proofs.Common.{◌≡◌, ℕ, ◌+◌, ◌*◌, ◌<◌, List, length, set, sym, arith}
+use Rattle.std.specs.Prelude.{◌/◌, slice_index}
 use Rattle.std.proofs.lemmas.Bool.Decides.{nat_tests}
 use Rattle.std.proofs.lemmas.List.{get_or_past, get_or-set_other, get_or-set_same}
-use Rattle.std.proofs.lemmas.Nat.{div-add-mod'}
 use Rattle.sixel_palette.specs.Palette.{AreIndices, IsOpaque, color_at}
-use Rattle.sixel_palette.specs.Dithering.{AreMapped, HasTarget, IsIndex, Mapped, neighbor_of}
-use Rattle.sixel_palette.specs.Dithering.{serpentine, whole_rows}
+use Rattle.sixel_palette.specs.Dithering.{AreDiffused, HasTarget, IsIndex, Mapped, errors_of}
+use Rattle.sixel_palette.specs.Dithering.{neighbor_of, serpentine, target_of_visit}
 use Rattle.sixel_palette.specs.declared.dithering.mapped.MappedImage.{MappedImage}
 use Rattle.sixel_palette.specs.inside.Mapped.{AreEntries, IsIndexAt, IsMappable}
 use Rattle.sixel_palette.specs.inside.Mapped.{mapped_value}
@@ -46,21 +43,6 @@ pub IsIndexAt-light : (m : Mapped) (target indices : List ℕ) (n index : ℕ)
     → IsIndexAt m target indices n index
 IsIndexAt-light m target indices n index light is = grind (arith, nat_tests)
 
--- so the visits before it and its own have theirs
-pub HasTarget-more : (m : Mapped) (target : ℕ → List ℕ) (indices : List ℕ) (n index : ℕ)
-    → 0 < m.width → serpentine m.width n < length indices
-    → ((k : ℕ) → k < n → HasTarget m (target k) indices k)
-    → IsIndexAt m (target n) indices n index → (k : ℕ) → k < n + 1
-    → HasTarget m (target k) (set indices (serpentine m.width n) index) k
-HasTarget-more m target indices n index some inside before here k l =
-    let new = set indices (serpentine m.width n) index in
-    elim (cases_lt k n) [
-      | inl earlier ↦
-          HasTarget-same m (target k) indices new k some
-          (λ j lj. grind (arith, get_or-set_other, serpentine-apart)) (before k earlier)
-      | inr last ↦ grind (arith, nat_tests, new, HasTarget-set)
-    ]
-
 -- each index is that of an entry, if the stored one is
 pub AreEntries-set : (colors : List (List ℕ)) (indices : List ℕ) (pixel index : ℕ)
     → pixel < length indices → AreEntries colors indices → index < length colors
@@ -89,71 +71,53 @@ pub visit-inside : (m : Mapped) (n : ℕ) → AreRowsOf m.pixels m.width → n <
     → serpentine m.width n < length m.pixels / 4
 visit-inside m n rows l = grind (arith, nat_tests)
 
--- the visit of a pixel has its index
-pub HasTarget-pixel : (m : Mapped) (target : ℕ → List ℕ) (indices : List ℕ) (pixel : ℕ)
-    → AreRowsOf m.pixels m.width → AreMapped m target indices → pixel < length m.pixels / 4
-    → HasTarget m (target (serpentine m.width pixel)) indices (serpentine m.width pixel)
-HasTarget-pixel m target indices pixel rows are l =
-    are.each (serpentine m.width pixel) (visit-inside m pixel rows l)
-
 pub AreEntries-indices : (m : Mapped) (indices : List ℕ) → AreRows m
     → AreIndices m.pixels m.colors indices → AreEntries m.colors indices
 AreEntries-indices m indices rows are = grind (arith, nat_tests, get_or_past)
 
 -- without a tolerance the nearest entries of the colors have the colors as targets
-pub AreMapped-exact : (m : Mapped) (target : ℕ → List ℕ) (indices : List ℕ) → AreRows m
-    → m.tolerance ≡ 0 → AreIndices m.pixels m.colors indices
+pub AreDiffused-exact : (m : Mapped) (indices : List ℕ) → AreRows m → m.tolerance ≡ 0
+    → AreIndices m.pixels m.colors indices
     → ((n : ℕ) → n < length m.pixels / 4 → IsOpaque m.pixels (serpentine m.width n)
-    → target n ≡ color_at m.pixels (serpentine m.width n))
-    → AreMapped m target indices
-AreMapped-exact m target indices rows none are same = record {
+    → target_of_visit m (errors_of m indices n) n ≡ color_at m.pixels (serpentine m.width n))
+    → AreDiffused m indices
+AreDiffused-exact m indices rows none are same = record {
   one_each = are.one_each;
   each = λ n l.
       let pixel = serpentine m.width n in
+      let target = target_of_visit m (errors_of m indices n) n in
       let inside = visit-inside m n rows.rows l in
       record {
         opaque = λ light.
-            IsIndex-exact m (target n) (neighbor_of m (target n) indices n)
-            (slice_index indices pixel) none
-            (neighbor-inside m (target n) indices n (AreEntries-indices m indices rows are))
+            IsIndex-exact m target (neighbor_of m target indices n) (slice_index indices pixel) none
+            (neighbor-inside m target indices n (AreEntries-indices m indices rows are))
             (rw (same n l light) (are.opaque pixel inside light));
         hidden = λ dark. are.hidden pixel inside dark;
       };
 }
 
--- and the other way round
-pub AreIndices-mapped : (m : Mapped) (target : ℕ → List ℕ) (indices : List ℕ) → AreRows m
-    → m.tolerance ≡ 0 → AreMapped m target indices
+-- and the other way round, for any targets
+pub AreIndices-targets : (m : Mapped) (target : ℕ → List ℕ) (indices : List ℕ) → AreRows m
+    → m.tolerance ≡ 0 → length indices ≡ length m.pixels / 4
+    → ((n : ℕ) → n < length m.pixels / 4 → HasTarget m (target n) indices n)
     → ((n : ℕ) → n < length m.pixels / 4 → IsOpaque m.pixels (serpentine m.width n)
     → target n ≡ color_at m.pixels (serpentine m.width n))
     → AreIndices m.pixels m.colors indices
-AreIndices-mapped m target indices rows none are same = record {
-  one_each = are.one_each;
+AreIndices-targets m target indices rows none size each same = record {
+  one_each = size;
   opaque = λ pixel l light.
       let back = serpentine-serpentine m.width pixel rows.rows.some in
-      let has = HasTarget-pixel m target indices pixel rows.rows are l in
-      let own = same (serpentine m.width pixel) (visit-inside m pixel rows.rows l) in
+      let inside = visit-inside m pixel rows.rows l in
+      let has = each (serpentine m.width pixel) inside in
+      let own = same (serpentine m.width pixel) inside in
       grind (arith, nat_tests, nearest-le);
   hidden = λ pixel l dark.
       let back = serpentine-serpentine m.width pixel rows.rows.some in
-      let has = HasTarget-pixel m target indices pixel rows.rows are l in
+      let has = each (serpentine m.width pixel) (visit-inside m pixel rows.rows l) in
       grind (arith, nat_tests);
 }
 
 -- without an entry no pixel is opaque, so there is nothing to map
-pub AreMapped-none : (m : Mapped) (target : ℕ → List ℕ) (indices : List ℕ)
-    → AreRowsOf m.pixels m.width → length m.colors ≡ 0 → AreIndices m.pixels m.colors indices
-    → AreMapped m target indices
-AreMapped-none m target indices rows none are = grind (arith, nat_tests, visit-inside)
-
--- ---- whole rows
-
--- the row of a visit lies in them
-pub row-within : (bytes width n : ℕ) → 0 < width → bytes ≡ whole_rows bytes width
-    → n < bytes / 4 → n / width * width + width ≤ bytes / 4
-row-within bytes width n some rows l = grind (arith, nat_tests)
-
--- the visit of its step is the visit
-pub step-visit : (width n row step : ℕ) → row ≡ n / width → step ≡ n % width
-    → row * width + step ≡ n
-step-visit width n row step first second = rw (first, second) (div-add-mod' n width)
+pub AreDiffused-none : (m : Mapped) (indices : List ℕ) → AreRowsOf m.pixels m.width
+    → length m.colors ≡ 0 → AreIndices m.pixels m.colors indices → AreDiffused m indices
+AreDiffused-none m indices rows none are = grind (arith, nat_tests, visit-inside)

@@ -22,7 +22,8 @@ use Rattle.std.proofs.lemmas.Bool.Decides.{nat_tests}
 use Rattle.std.specs.Int.{abs_diff}
 use Rattle.sixel_palette.specs.GrayDiffusion.{AreGrays}
 use Rattle.sixel_palette.proofs.mapped_images.DiffusionLaws.{errors-all, neighbors-all}
-use Rattle.sixel_base.proofs.PictureBytes.{get_or-joined, length-joined_below}
+use Rattle.sixel_base.proofs.PictureBytes.{length-joined_below}
+use Rattle.sixel_palette.proofs.mapped_images.MovedPixels.{pixel-byte}
 
 -- ---- grays
 
@@ -35,9 +36,7 @@ are_gray-more colors n = grind (arith, nat_tests)
 gray-byte : (p : List ℕ) (pixel i : ℕ) → pixel < length p / 4 → i < 4
     → slice_index (gray_pixels p) (4 * pixel + i) ≡ get_or (gray_pixel p pixel) i 0
 gray-byte p pixel i l li =
-    let place : 4 * pixel + i ≡ pixel * 4 + i = omega arith in
-    ap (slice_index (gray_pixels p)) place
-    ∙ get_or-joined (gray_pixel p) 4 (length p / 4) pixel i (λ j lj. refl) l li
+    pixel-byte (gray_pixel p) (length p / 4) pixel i (λ j lj. refl) l li
 
 pub gray-length : (p : List ℕ) → length (gray_pixels p) ≡ length p / 4 * 4
 gray-length p = length-joined_below (gray_pixel p) 4 (length p / 4) (λ k l. refl)

@@ -7,7 +7,7 @@ use Rattle.std.proofs.lemmas.Bool.Decides.{nat_tests}
 use Rattle.sixel_palette.specs.Palette.{IsOpaque, color_at, entry_of}
 use Rattle.sixel_palette.specs.Dithering.{Mapped, entry_above, entry_before, errors_of}
 use Rattle.sixel_palette.specs.Dithering.{nearer_entry, neighbor_of, opaque_error, serpentine}
-use Rattle.sixel_palette.specs.Dithering.{sixteenths, target_of_visit, visit_error}
+use Rattle.sixel_palette.specs.Dithering.{sixteenths, target_of_visit, visit_error, with_pixels}
 use Rattle.sixel_palette.proofs.mapped_images.DiffusionVisit.{visit_error-opaque}
 use Rattle.sixel_palette.proofs.mapped_images.DiffusionVisit.{visit_error-transparent}
 use Rattle.sixel_palette.proofs.mapped_images.DitheredIndices.{AreRowsOf, visit-inside}
@@ -30,17 +30,6 @@ pub channel-alike : (p q : List ℕ) (pixel k : ℕ) → color_at q pixel ≡ co
 channel-alike p q pixel k same l = grind (arith, nat_tests)
 
 -- ---- earlier visits
-
--- the same mapping of other pixels
-abbrev pub with_pixels : Mapped → List ℕ → Mapped
-with_pixels m q = record {
-  width = m.width;
-  pixels = q;
-  colors = m.colors;
-  strength = m.strength;
-  amplitude = m.amplitude;
-  tolerance = m.tolerance;
-}
 
 -- the opaque pixels of the first n visits have the same indices
 abbrev pub AreSameOpaque : Mapped → List ℕ → List ℕ → ℕ → Type 0

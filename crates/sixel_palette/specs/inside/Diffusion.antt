@@ -9,16 +9,11 @@ use Rattle.sixel_palette.specs.declared.dithering.diffusion.Entries.{Entries}
 use Rattle.sixel_palette.specs.declared.dithering.diffusion.Neighbors.{Neighbors}
 use Rattle.sixel_palette.specs.declared.dithering.sixteen_entries.SixteenEntries.{SixteenEntries}
 use Rattle.sixel_palette.specs.Dithering.{Mapped, HasTarget, before_share, below_share}
-use Rattle.sixel_palette.specs.Dithering.{column_of_step, error_back, errors_of, next_share}
+use Rattle.sixel_palette.specs.Dithering.{column_of_step, error_back, next_share}
 use Rattle.sixel_palette.specs.Dithering.{passed_on, received, rest_share}
 use Rattle.sixel_palette.specs.Dithering.{rounded_sixteenths, serpentine, target_of_visit}
 use Rattle.sixel_palette.specs.Dithering.{visit_error, with_received}
 use Rattle.sixel_palette.specs.inside.SixteenEntries.{AreSixteen}
-
--- the pixels of the first n visits have their indices
-abbrev pub AreVisited : Mapped → List ℕ → ℕ → Type 0
-AreVisited m indices n =
-    (k : ℕ) → k < n → HasTarget m (target_of_visit m (errors_of m indices k) k) indices k
 
 -- there are four lanes, and each is that of the function
 pub record AreLanes (lanes : List ℕ) (f : ℕ → ℕ) : Type 0 where

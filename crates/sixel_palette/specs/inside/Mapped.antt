@@ -16,7 +16,6 @@ mapped_value image = record {
   pixels = image.pixels.now;
   colors = image.colors.now;
   strength = image.strength;
-  amplitude = image.amplitude;
   tolerance = image.tolerance;
 }
 
@@ -31,11 +30,6 @@ pub record IsMappable (image : MappedImage) : Type 0 where
   pub whole : IsWhole image
   pub some : 0 < length image.colors.now
   pub strength : image.strength ≤ 8
-
--- nothing is passed on or moved
-pub record IsPlain (image : MappedImage) : Type 0 where
-  pub strength : image.strength ≡ 0
-  pub amplitude : image.amplitude ≡ 0
 
 -- the place of a step of a row
 pub record IsPlace (m : Mapped) (place : Place) : Type 0 where

@@ -5,11 +5,10 @@
 
 ghost use Rattle.std.specs.Prelude.{◌≡◌, ℕ, ◌<◌, ◌≤◌, ◌+◌, ◌-◌, ◌*◌, ◌/◌, IfOk, List, OnOk, length};
 ghost use Rattle.std.specs.Prelude.{[], Some, slice_index, slice_index_or, slice_set};
-ghost use Rattle.sixel_palette.specs.Dithering.{AreMapped, entry_before, errors_of};
-ghost use Rattle.sixel_palette.specs.Dithering.{target_of_visit};
+ghost use Rattle.sixel_palette.specs.Dithering.{AreDiffused, AreVisited, entry_before, errors_of};
 ghost use Rattle.sixel_palette.specs.inside.Diffusion.{AreErrors, AreLanes, AreParts};
 ghost use Rattle.sixel_palette.specs.inside.Diffusion.{ArePrepared, AreReceived, HaveErrors};
-ghost use Rattle.sixel_palette.specs.inside.Diffusion.{AreSixteenths, AreVisited, IsBeyond, IsLine};
+ghost use Rattle.sixel_palette.specs.inside.Diffusion.{AreSixteenths, IsBeyond, IsLine};
 ghost use Rattle.sixel_palette.specs.inside.Diffusion.{IsVisit, channels, color_error};
 ghost use Rattle.sixel_palette.specs.inside.Diffusion.{no_error_lanes, received_of};
 ghost use Rattle.sixel_palette.specs.inside.Diffusion.{IsPart, rounded_color};
@@ -26,10 +25,7 @@ use std::simd::prelude::*;
 /// Returns the palette index of each pixel, whose target has the errors that it receives.
 pub fn diffused_indices(alloc: Global, image: &MappedImage<'_>) -> Result<Vec<u8>, AllocError>
     requires { IsMappable image.now }
-    ensures { IfOk result (λ indices. AreMapped (mapped_value image.now)
-        (λ n. target_of_visit (mapped_value image.now)
-        (errors_of (mapped_value image.now) indices.items n) n)
-        indices.items) }
+    ensures { IfOk result (λ indices. AreDiffused (mapped_value image.now) indices.items) }
 {
     if image.pixels.is_empty() {
         return Ok(Vec::new(alloc));
@@ -98,9 +94,7 @@ impl MappedImage<'_> {
         requires line { IsLine (mapped_value self.now)
             (errors_of (mapped_value self.now) indices.old 0) 0 0 line.old }
         requires prepared { ArePrepared self.now entries.old }
-        ensures { OnOk result (AreMapped (mapped_value self.now)
-            (λ n. target_of_visit (mapped_value self.now)
-            (errors_of (mapped_value self.now) indices.new n) n) indices.new) }
+        ensures { OnOk result (AreDiffused (mapped_value self.now) indices.new) }
     {
         for row in 0..self.pixels.len() / 4 / self.width {
             self.diffuse_row(indices, line, entries, row)?;

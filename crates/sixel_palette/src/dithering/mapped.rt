@@ -7,7 +7,7 @@ ghost use Rattle.sixel_palette.specs.inside.PaletteKeys.{IsSearchOf};
 ghost use Rattle.sixel_palette.specs.Dithering.{IsIndex, column_of_step, entry_above};
 ghost use Rattle.sixel_palette.specs.Dithering.{entry_before, neighbor_of};
 ghost use Rattle.sixel_palette.specs.inside.Mapped.{AreEntries, IsInside, IsKept, IsMappable};
-ghost use Rattle.sixel_palette.specs.inside.Mapped.{IsPlace, IsPlain, kept_value, mapped_value};
+ghost use Rattle.sixel_palette.specs.inside.Mapped.{IsPlace, kept_value, mapped_value};
 
 use crate::palette::colors::is_opaque;
 use crate::palette::distance::distance;
@@ -23,9 +23,7 @@ pub struct MappedImage<'a> {
     pub colors: &'a [[u8; 3]],
     /// How many eighths of an error are passed on.
     pub strength: u8,
-    /// How far apart the pattern moves a channel at most.
-    pub amplitude: u8,
-    /// By how much a kept entry may be farther than the nearest one.
+    /// By how much an entry may be farther than the nearest one.
     pub tolerance: u32,
 }
 
@@ -76,36 +74,19 @@ impl<'a> MappedImage<'a> {
         ensures pixels { result.pixels.now ≡ pixels.now }
         ensures width { result.width ≡ width }
         ensures colors { result.colors.now ≡ colors.now }
-        ensures plain { IsPlain result }
+        ensures strength { result.strength ≡ 0 }
     {
         Self {
             pixels,
             width,
             colors,
             strength: 0,
-            amplitude: 0,
             tolerance: 0,
         }
     }
 }
 
 impl MappedImage<'_> {
-    /// Returns the place of a step of a row.
-    #[inline(always)]
-    pub fn place(&self, row: usize, step: usize) -> Place
-        requires row { row * self.now.width + self.now.width ≤ length self.now.pixels.now / 4 }
-        requires step { step < self.now.width }
-        ensures place { IsPlace (mapped_value self.now) result }
-        ensures row { result.row ≡ row }
-        ensures step { result.step ≡ step }
-    {
-        Place {
-            row,
-            step,
-            pixel: row * self.width + column_of_step(self.width, row, step),
-        }
-    }
-
     /// Returns the color of a pixel.
     #[inline(always)]
     pub fn color(&self, pixel: usize) -> [u8; 3]
@@ -159,22 +140,6 @@ impl MappedImage<'_> {
         }
     }
 
-    /// Returns the entry that a pixel may keep: of its neighbors' entries the nearer one.
-    #[inline(always)]
-    pub fn kept(&self, indices: &[u8], place: Place, target: [u8; 3]) -> Kept
-        requires image { IsMappable self.now }
-        requires place { IsPlace (mapped_value self.now) place }
-        requires size { length indices.now ≡ length self.now.pixels.now / 4 }
-        requires entries { AreEntries self.now.colors.now indices.now }
-        ensures { IsKept (mapped_value self.now) target
-            (neighbor_of (mapped_value self.now) target indices.now
-            (place.row * self.now.width + place.step)) result }
-    {
-        let before = self.entry_before(indices, place);
-        let (before, above) = self.neighbors(indices, place, before, target);
-        before.or_nearer(above)
-    }
-
     /// Returns the entries of the pixels before and above. Without a tolerance there are none.
     #[inline(always)]
     pub fn neighbors(
@@ -220,24 +185,6 @@ impl MappedImage<'_> {
                 index,
             },
         }
-    }
-
-    /// Returns the entry of the pixel before a step.
-    #[inline(always)]
-    pub fn entry_before(&self, indices: &[u8], place: Place) -> Option<u8>
-        requires image { IsMappable self.now }
-        requires place { IsPlace (mapped_value self.now) place }
-        requires size { length indices.now ≡ length self.now.pixels.now / 4 }
-        ensures value { result ≡ entry_before (mapped_value self.now) indices.now
-            (place.row * self.now.width + place.step) }
-        ensures inside { (index : ℕ) → AreEntries self.now.colors.now indices.now
-            → result ≡ Some index → index < length self.now.colors.now }
-    {
-        if place.step == 0 {
-            return None;
-        }
-        let column = column_of_step(self.width, place.row, place.step - 1);
-        self.entry_at(indices, place.row * self.width + column)
     }
 
     /// Returns the entry of the pixel above, in the same band.

@@ -1,85 +1,64 @@
 //! Ordered dithering by the pattern of Ø. Kolås, "a dither" (2013).
 
-ghost use Rattle.std.specs.Prelude.{◌≡◌, ℕ, ◌<◌, ◌≤◌, ◌+◌, ◌*◌, ◌/◌, ◌%◌, IfOk, OnOk, length};
-ghost use Rattle.sixel_palette.specs.inside.PaletteKeys.{IsSearchOf};
-ghost use Rattle.sixel_palette.specs.Dithering.{AreMapped, moved_channel, ordered_color};
-ghost use Rattle.sixel_palette.specs.Dithering.{serpentine, threshold};
-ghost use Rattle.sixel_palette.specs.inside.Mapped.{AreEntries, IsIndexAt, IsMappable, IsPlace};
-ghost use Rattle.sixel_palette.specs.inside.Mapped.{mapped_value};
+ghost use Rattle.std.specs.Prelude.{◌≡◌, ◌*◌, ◌/◌, ◌<◌, IfOk, length};
+ghost use Rattle.sixel_palette.specs.Dithering.{HaveChoice, moved_channel, moved_image};
+ghost use Rattle.sixel_palette.specs.Dithering.{moved_pixels, threshold};
+ghost use Rattle.sixel_palette.specs.inside.Mapped.{IsMappable, mapped_value};
 
-use crate::dithering::mapped::{MappedImage, Place};
-use crate::palette::colors::is_opaque;
-use crate::palette::nearest::Search;
+use crate::dithering::mapped::MappedImage;
+use crate::dithering::undithered::chosen_indices;
+use crate::palette::nearest_indices::nearest_indices;
 use std::alloc::{AllocError, Global};
 
-/// Returns the palette index of each pixel, whose target is its moved color.
-pub fn ordered_indices(alloc: Global, image: &MappedImage<'_>) -> Result<Vec<u8>, AllocError>
-    requires image { IsMappable image.now }
-    ensures { IfOk result (λ indices. AreMapped (mapped_value image.now)
-        (λ n. ordered_color (mapped_value image.now) (serpentine image.now.width n))
-        indices.items) }
+/// Returns the chosen index of each pixel, whose color is moved by the pattern.
+pub fn ordered_indices(
+    alloc: Global,
+    image: &MappedImage<'_>,
+    amplitude: u8,
+) -> Result<Vec<u8>, AllocError>
+    requires { IsMappable image.now }
+    ensures { IfOk result (λ indices.
+        HaveChoice (moved_image (mapped_value image.now) amplitude) indices.items) }
 {
-    let mut indices = vec![in alloc; 0; image.pixels.len() / 4]?;
-    let mut search = Search::new(alloc, image.colors)?;
-    for visit in 0..image.pixels.len() / 4 {
-        let place = image.place(visit / image.width, visit % image.width);
-        let index = image.palette_index(&indices, &mut search, place)?;
-        indices[place.pixel] = index;
-    }
-    Ok(indices)
+    let moved = moved_pixels(alloc, image.pixels, image.width, amplitude)?;
+    let image = MappedImage {
+        pixels: &moved,
+        ..*image
+    };
+    let nearest = nearest_indices(alloc, image.pixels, image.colors)?;
+    chosen_indices(alloc, &image, nearest)
 }
 
-impl MappedImage<'_> {
-    /// Returns the palette index of a place, 0 if its pixel is transparent.
-    #[inline(always)]
-    fn palette_index(
-        &self,
-        indices: &[u8],
-        search: &mut Search,
-        place: Place,
-    ) -> Result<u8, AllocError>
-        requires image { IsMappable self.now }
-        requires place { IsPlace (mapped_value self.now) place }
-        requires size { length indices.now ≡ length self.now.pixels.now / 4 }
-        requires entries { AreEntries self.now.colors.now indices.now }
-        requires search { IsSearchOf self.now.colors.now search.old }
-        ensures index { IfOk result (IsIndexAt (mapped_value self.now)
-            (ordered_color (mapped_value self.now) place.pixel) indices.now
-            (place.row * self.now.width + place.step)) }
-        ensures search { OnOk result (IsSearchOf self.now.colors.now search.new) }
-    {
-        if !is_opaque(self.pixels, place.pixel) {
-            return Ok(0);
-        }
-        let target = self.moved_color(place.pixel);
-        let kept = self.kept(indices, place, target);
-        let index = self.index_of(search, kept, target)?;
-        Ok(index)
-    }
+/// Returns the pixels of an image, whose colors are moved by the pattern.
+fn moved_pixels(
+    alloc: Global,
+    pixels: &[u8],
+    width: usize,
+    amplitude: u8,
+) -> Result<Vec<u8>, AllocError>
+    requires { 0 < width }
+    ensures { IfOk result (λ moved. moved.items ≡ moved_pixels amplitude width pixels.now) }
+{
+    let mut moved = vec![in alloc; 0; 4 * (pixels.len() / 4)]?;
+    fill(pixels, width, amplitude, &mut moved);
+    Ok(moved)
+}
 
-    /// Returns the color of a pixel, moved by the pattern.
-    #[inline(always)]
-    fn moved_color(&self, pixel: usize) -> [u8; 3]
-        requires width { 0 < self.now.width }
-        requires pixel { pixel < length self.now.pixels.now / 4 }
-        ensures { result ≡ ordered_color (mapped_value self.now) pixel }
-    {
-        let column = pixel % self.width;
-        let row = pixel / self.width;
+/// Writes the pixels of an image, whose colors are moved by the pattern.
+#[tactic(auto, unfolding(sixel_base::specs::Picture::joined))]
+fn fill(pixels: &[u8], width: usize, amplitude: u8, moved: &mut [u8])
+    requires width { 0 < width }
+    requires size { length moved.old ≡ 4 * (length pixels.now / 4) }
+    ensures { moved.new ≡ moved_pixels amplitude width pixels.now }
+{
+    for pixel in 0..pixels.len() / 4 {
+        let column = pixel % width;
+        let row = pixel / width;
         let at = 4 * pixel;
-        [
-            moved_channel(self.amplitude, threshold(column, row, 0), self.pixels[at]),
-            moved_channel(
-                self.amplitude,
-                threshold(column, row, 1),
-                self.pixels[at + 1],
-            ),
-            moved_channel(
-                self.amplitude,
-                threshold(column, row, 2),
-                self.pixels[at + 2],
-            ),
-        ]
+        let red = moved_channel(amplitude, threshold(column, row, 0), pixels[at]);
+        let green = moved_channel(amplitude, threshold(column, row, 1), pixels[at + 1]);
+        let blue = moved_channel(amplitude, threshold(column, row, 2), pixels[at + 2]);
+        moved[at..at + 4].copy_from_slice(&[red, green, blue, pixels[at + 3]]);
     }
 }
 

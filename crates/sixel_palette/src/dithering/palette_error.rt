@@ -45,10 +45,10 @@ pub fn tolerance_of(
                 return Ok(0);
             }
             let mean = error.mean().max(12);
-            if mapping.dither == Dither::Off {
-                3 * mean
-            } else {
-                mean
+            match mapping.dither {
+                Dither::Off => 3 * mean,
+                Dither::Ordered { .. } => 2 * mean,
+                Dither::Diffusion { .. } => mean,
             }
         }
     };

@@ -1,11 +1,11 @@
-//! Entries of undithered pixels, which are chosen for a small error and few bytes.
+//! Entries of pixels without diffusion, which are chosen for a small error and few bytes.
 
 ghost use Rattle.std.specs.Prelude.{◌≡◌, ℕ, ◌+◌, ◌*◌, ◌/◌, ◌<◌, ◌≤◌, IfOk, Some, length};
 ghost use Rattle.std.specs.Prelude.{slice_index};
 ghost use Rattle.sixel_palette.specs.Palette.{AreIndices, IsOpaque, entry_distance, entry_of};
 ghost use Rattle.sixel_palette.specs.Palette.{color_at};
-ghost use Rattle.sixel_palette.specs.Dithering.{undithered_of};
-ghost use Rattle.sixel_palette.specs.Undithered.{AreChosen, cheaper, cheapest, entry_above};
+ghost use Rattle.sixel_palette.specs.Dithering.{HaveChoice};
+ghost use Rattle.sixel_palette.specs.Undithered.{cheaper, cheapest, entry_above};
 ghost use Rattle.sixel_palette.specs.Undithered.{entry_after, entry_before, is_entry, lacking};
 ghost use Rattle.sixel_palette.specs.Undithered.{lacking_after, lacking_before, lacking_below};
 ghost use Rattle.sixel_palette.specs.Undithered.{pixel_of, top_of};
@@ -17,7 +17,7 @@ use crate::palette::colors::is_opaque;
 use crate::palette::distance::distance;
 use std::alloc::{AllocError, Global};
 
-/// A pixel of an undithered image, and the palette indices that its entry is chosen by.
+/// A pixel of an image, and the palette indices that its entry is chosen by.
 #[derive(Clone, Copy)]
 struct Choice<'a> {
     image: &'a MappedImage<'a>,
@@ -43,8 +43,7 @@ pub fn chosen_indices(
 ) -> Result<Vec<u8>, AllocError>
     requires image { IsMappable image.now }
     requires nearest { AreIndices image.now.pixels.now image.now.colors.now nearest.items }
-    ensures { IfOk result (λ chosen.
-        AreChosen (undithered_of (mapped_value image.now) nearest.items chosen.items)) }
+    ensures { IfOk result (λ chosen. HaveChoice (mapped_value image.now) chosen.items) }
 {
     if image.tolerance == 0 {
         return Ok(nearest);

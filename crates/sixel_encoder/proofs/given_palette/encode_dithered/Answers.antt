@@ -15,8 +15,8 @@ told : (c : After-deref)
     c.args.colors.now c.in_ok-indices.indices.items
 told c = grind (arith, nat_tests)
 
-pub dithered_indices-requires-clause-image : goal.dithered_indices-requires-clause-image
-dithered_indices-requires-clause-image c =
+pub dithered_indices-requires : goal.dithered_indices-requires
+dithered_indices-requires c =
     let image = source_value c.args.source.now in
     let sound = within-sound image c.requires.sound in
     let rows = rows-image image c.requires.sound in

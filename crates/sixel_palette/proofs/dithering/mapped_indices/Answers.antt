@@ -2,12 +2,21 @@ use Rattle.std.proofs.Common.{◌≡◌, arith, subst, sym, ◌∙◌}
 use Rattle.sixel_palette.specs.declared.dither.Dither.{Dither}
 use Rattle.sixel_palette.specs.declared.mapping.Tolerance.TheVariants.{Auto}
 use Rattle.sixel_palette.specs.Dithering.{HaveIndices, mapped_of}
-use Rattle.sixel_palette.proofs.mapped_images.DiffusionLaws.{AreMapped-diffused}
+use Rattle.sixel_palette.proofs.mapped_images.DiffusionLaws.{AreDiffused-held}
 use Rattle.sixel_palette.proofs.mapped_images.DitheredIndices.{AreRows}
 use Rattle.sixel_palette.proofs.mapped_images.PaletteError.{error-none, held-none}
 use Rattle.std.proofs.lemmas.Bool.Decides.{nat_tests}
 use Rattle.std.proofs.lemmas.Result.{IfOk-weaker}
 use Rattle.sixel_palette.proofs.dithering.mapped_indices.Goals as goal
+
+pub returns-in_ok-nearest-in-Off : goal.returns-in_ok-nearest-in-Off
+returns-in_ok-nearest-in-Off c =
+    let image = c.args.image.now in
+    let m = mapped_of c.args.mapping image.width image.pixels.now image.colors.now in
+    IfOk-weaker c.chosen_indices.result _ _ (λ indices have.
+    subst (λ (d : Dither). HaveIndices d m indices.items) (sym c.in-Off.is)
+    (rw c.in_ok-tolerance.ensures at have))
+    c.chosen_indices.ensures
 
 pub returns-in-Ordered : goal.returns-in-Ordered
 returns-in-Ordered c = grind (arith, nat_tests)
@@ -24,7 +33,7 @@ returns-in-Diffusion c =
     let rows : AreRows m = grind (arith, nat_tests) in
     IfOk-weaker c.indices-in-Diffusion.result _ _ (λ indices are.
     subst (λ (d : Dither). HaveIndices d m indices.items)
-    (sym c.in-Diffusion.is) (AreMapped-diffused m indices.items rows
+    (sym c.in-Diffusion.is) (AreDiffused-held m indices.items rows
     (record { three = three; bytes = c.channel_bytes.ensures.bytes })
     (held-none colors pixels three (error-none colors pixels c.in-Diffusion.strength (grind (
       arith,

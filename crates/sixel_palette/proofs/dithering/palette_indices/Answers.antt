@@ -6,8 +6,8 @@ use Rattle.sixel_palette.proofs.colors.Colors.{IsColor}
 use Rattle.sixel_palette.specs.Palette.{IsOpaque, color_at}
 use Rattle.sixel_palette.specs.declared.dither.Dither.{Dither}
 use Rattle.sixel_palette.specs.declared.dither.Dither.TheVariants.{Off}
-use Rattle.sixel_palette.specs.Dithering.{AreMapped, HaveIndices, Mapped, mapped_of, target_of}
-use Rattle.sixel_palette.specs.Dithering.{tolerance_of, undithered_of}
+use Rattle.sixel_palette.specs.Dithering.{HaveIndices, Mapped, mapped_of, tolerance_of}
+use Rattle.sixel_palette.specs.Dithering.{undithered_of}
 use Rattle.sixel_palette.specs.Gray.{source_pixels}
 use Rattle.sixel_palette.proofs.mapped_images.DiffusionLaws.{AreHeld, AreIndices-exact}
 use Rattle.sixel_palette.proofs.mapped_images.DitheredIndices.{AreRows}
@@ -69,7 +69,7 @@ returns-clause-exact c = λ strength is none held.
     (AreIndices-exact m indices
     (grind (arith, nat_tests, c.args.width, AreRowsOf-source))
     (grind (arith, nat_tests, c.type_inv.pixels, bytes-source))
-    kept exact (subst (λ (d : Dither). AreMapped m (target_of d m indices) indices) is (grind (
+    kept exact (subst (λ (d : Dither). HaveIndices d m indices) is (grind (
       arith,
       nat_tests,
     ))))

@@ -1,6 +1,6 @@
 use Rattle.std.proofs.Common.{◌≡◌, ◌++◌, ℕ, List, sym, subst, length, take, drop, arith}
 use Rattle.std.proofs.lemmas.List.{take_at, get_or-replicate, get_or_past, length-replicate}
-use Rattle.sixel_palette.specs.Dithering.{AreMapped, errors_of, target_of_visit}
+use Rattle.sixel_palette.specs.Dithering.{AreDiffused}
 use Rattle.sixel_palette.specs.inside.Mapped.{mapped_value}
 use Rattle.sixel_palette.proofs.mapped_images.DiffusionVisit.{IsLine-none}
 use Rattle.std.proofs.lemmas.Bool.Decides.{nat_tests}
@@ -27,6 +27,6 @@ pub returns : goal.returns
 returns c =
     let m = mapped_value c.args.image.now in
     let done = c.in_ok-diffuse_rows.ensures in
-    subst (λ (xs : List ℕ). AreMapped m (λ n. target_of_visit m (errors_of m xs n) n) xs)
+    subst (AreDiffused m)
     (sym (replaced c.diffuse_rows.new.indices c.in_ok-indices.indices.items
     c.in_ok-indices.indices.len (omega (arith, done.one_each)))) done

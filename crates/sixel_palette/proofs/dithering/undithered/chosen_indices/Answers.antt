@@ -18,11 +18,14 @@ use Rattle.sixel_palette.proofs.dithering.undithered.chosen_indices.Goals as goa
 pub returns-then-image-eq0 : goal.returns-then-image-eq0
 returns-then-image-eq0 c =
     let m = mapped_value c.args.image.now in
-    let nearest = c.args.nearest.items in
-    AreChosen-free (undithered_of m nearest nearest)
-    (AreEntries-indices m nearest (AreRows-image c.args.image.now c.requires.image)
-    c.requires.nearest)
-    (omega (arith, c.if-image-eq0.true)) c.requires.nearest refl
+    let nearest = c.args.nearest.items in (
+      nearest,
+      c.requires.nearest,
+      AreChosen-free (undithered_of m nearest nearest)
+          (AreEntries-indices m nearest (AreRows-image c.args.image.now c.requires.image)
+          c.requires.nearest)
+          (omega (arith, c.if-image-eq0.true)) c.requires.nearest refl,
+    )
 
 pub loop-band-init : goal.loop-band-init
 loop-band-init c = record {
@@ -82,6 +85,9 @@ loop-band-preserved c =
 pub returns : goal.returns
 returns c =
     let u = undithered_of (mapped_value c.args.image.now) c.args.nearest.items
-    c.loop-band.chosen.items in
-    AreChosen-visited u (grind (arith, nat_tests, c.requires.image.whole.rows)) c.loop-band.band
-    (grind (arith, nat_tests)) c.loop-band.invariant
+    c.loop-band.chosen.items in (
+      c.args.nearest.items,
+      c.requires.nearest,
+      AreChosen-visited u (grind (arith, nat_tests, c.requires.image.whole.rows)) c.loop-band.band
+          (grind (arith, nat_tests)) c.loop-band.invariant,
+    )

@@ -1,7 +1,7 @@
 use Rattle.std.proofs.Common.{◌≡◌, ◌*◌, length}
 use Rattle.std.specs.Prelude.{◌/◌}
-use Rattle.sixel_palette.specs.Dithering.{errors_of}
-use Rattle.sixel_palette.specs.inside.Diffusion.{ArePrepared, AreVisited, IsLine}
+use Rattle.sixel_palette.specs.Dithering.{AreVisited, errors_of}
+use Rattle.sixel_palette.specs.inside.Diffusion.{ArePrepared, IsLine}
 use Rattle.sixel_palette.specs.inside.Mapped.{AreEntries, mapped_value}
 use Rattle.sixel_palette.proofs.dithering.mapped.MappedImage.diffuse_rows.Given as goal
 

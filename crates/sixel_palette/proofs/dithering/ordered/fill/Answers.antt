@@ -1,0 +1,29 @@
+use Rattle.std.proofs.Common.{◌≡◌, ◌+◌, ◌*◌, ◌≤◌, ap, arith, suc, ◌∙◌, refl, length}
+use Rattle.std.proofs.lemmas.Bool.Decides.{nat_tests}
+use Rattle.std.proofs.lemmas.Slice.{take-put_mid}
+use Rattle.sixel_base.specs.Picture.{joined}
+use Rattle.sixel_palette.specs.Dithering.{moved_pixel}
+use Rattle.sixel_palette.proofs.dithering.ordered.fill.Goals as goal
+
+pub loop-pixel-preserved : goal.loop-pixel-preserved
+unfolding joined
+loop-pixel-preserved c =
+    let n = c.loop-pixel.pixel in
+    let f = moved_pixel c.args.amplitude c.args.width c.args.pixels.now in
+    let own : c.copy_from_slice.new.self ≡ f n =
+    rw (
+      c.copy_from_slice.ensures.after,
+      c.moved_channel-red.ensures,
+      c.moved_channel-green.ensures,
+      c.moved_channel-blue.ensures,
+      c.threshold.ensures.value,
+      c.threshold-in-loop-pixel.ensures.value,
+      c.threshold-in-loop-pixel-2.ensures.value,
+    ) refl in
+    let four : length c.copy_from_slice.new.self ≡ 4 = ap length own in
+    let inside : 4 * n + 4 ≤ length c.loop-pixel.moved = omega (arith, c.loop-pixel.invariant.1, c.loop-pixel-test.true) in
+    let next : n + 1 ≡ suc n = omega arith in (
+      take-put_mid (4 * n) _ c.loop-pixel.moved c.copy_from_slice.new.self (4 * (n + 1)) (omega (arith, four)) (omega (arith, inside))
+          ∙ (rw (c.loop-pixel.invariant.0, own, next) refl),
+      grind (arith, nat_tests, four, inside),
+    )
