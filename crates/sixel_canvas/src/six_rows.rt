@@ -2,10 +2,11 @@
 ghost use Rattle.std.specs.Prelude.{◌≡◌, ℕ, ◌+◌, ◌-◌, ◌*◌, ◌≤◌, ◌<◌, List, [], length};
 ghost use Rattle.std.specs.Prelude.{true, false, nat_lt, slice_index_or, IfOk, if◌then◌else◌};
 ghost use Rattle.sixel_base.specs.Picture.{covers, is_set};
-ghost use Rattle.sixel_canvas.specs.inside.Band.{covers_four, filled, stored};
+ghost use Rattle.sixel_canvas.specs.inside.Band.{AreDrawn, AreSixRows, covers_four, filled};
+ghost use Rattle.sixel_canvas.specs.inside.Band.{stored};
 ghost use Rattle.sixel_canvas.specs.inside.Drawn.{covers_eight};
 
-use crate::pixel_row::{fill, fill_by_copy, mix};
+use crate::pixel_row::{fill, fill_by_copy, number};
 use std::alloc::{AllocError, Global};
 use std::simd::prelude::*;
 
@@ -24,12 +25,8 @@ pub fn draw_rows(
 )
     requires ordered { from ≤ to }
     requires within { to ≤ cap }
-    requires few { cap ≤ 1000008 }
-    requires fits { length pixels.old ≡ 6 * cap }
-    ensures len { length pixels.new ≡ length pixels.old }
-    ensures drawn { (d : List ℕ) (column k : ℕ) → column < cap → k < 6
-        → stored pixels.new cap d column k
-        ≡ (if covers from to 0 bits column k then color else stored pixels.old cap d column k) }
+    requires rows { AreSixRows pixels.old cap }
+    ensures { AreDrawn pixels.old pixels.new cap (covers from to 0 bits) color }
 {
     if to - from == 1 {
         draw_one(pixels, cap, from, bits, color);
@@ -49,12 +46,8 @@ pub fn draw_rows(
 #[inline(always)]
 fn draw_one(pixels: &mut [[u8; 4]], cap: usize, at: usize, bits: u8, color: [u8; 4])
     requires within { at < cap }
-    requires few { cap ≤ 1000008 }
-    requires fits { length pixels.old ≡ 6 * cap }
-    ensures len { length pixels.new ≡ length pixels.old }
-    ensures drawn { (d : List ℕ) (column k : ℕ) → column < cap → k < 6
-        → stored pixels.new cap d column k
-        ≡ (if covers at (at + 1) 0 bits column k then color else stored pixels.old cap d column k) }
+    requires rows { AreSixRows pixels.old cap }
+    ensures { AreDrawn pixels.old pixels.new cap (covers at (at + 1) 0 bits) color }
 {
     let first = first_row(bits);
     if first < 6 {
@@ -101,12 +94,8 @@ fn place_or(bits: u8, bit: usize, cap: usize, at: usize, other: usize) -> usize
 fn draw_narrow(pixels: &mut [[u8; 4]], cap: usize, from: usize, to: usize, bits: u8, color: [u8; 4])
     requires ordered { from ≤ to }
     requires within { to + 8 ≤ cap }
-    requires few { cap ≤ 1000008 }
-    requires fits { length pixels.old ≡ 6 * cap }
-    ensures len { length pixels.new ≡ length pixels.old }
-    ensures drawn { (d : List ℕ) (column k : ℕ) → column < cap → k < 6
-        → stored pixels.new cap d column k
-        ≡ (if covers from to 0 bits column k then color else stored pixels.old cap d column k) }
+    requires rows { AreSixRows pixels.old cap }
+    ensures { AreDrawn pixels.old pixels.new cap (covers from to 0 bits) color }
 {
     'drawn: for i in 0..(to - from).div_ceil(8) {
         let start = from + 8 * i;
@@ -120,12 +109,8 @@ fn draw_eight(pixels: &mut [[u8; 4]], cap: usize, from: usize, to: usize, bits: 
     requires ordered { from ≤ to }
     requires narrow { to ≤ from + 8 }
     requires within { from + 8 ≤ cap }
-    requires few { cap ≤ 1000008 }
-    requires fits { length pixels.old ≡ 6 * cap }
-    ensures len { length pixels.new ≡ length pixels.old }
-    ensures drawn { (d : List ℕ) (column k : ℕ) → column < cap → k < 6
-        → stored pixels.new cap d column k
-        ≡ (if covers from to 0 bits column k then color else stored pixels.old cap d column k) }
+    requires rows { AreSixRows pixels.old cap }
+    ensures { AreDrawn pixels.old pixels.new cap (covers from to 0 bits) color }
 {
     mix_rows(pixels, cap, from, repeated(bits, to - from), color);
 }
@@ -154,12 +139,8 @@ pub fn fill_rows(
 )
     requires ordered { from ≤ to }
     requires within { to ≤ cap }
-    requires few { cap ≤ 1000008 }
-    requires fits { length pixels.old ≡ 6 * cap }
-    ensures len { length pixels.new ≡ length pixels.old }
-    ensures drawn { (d : List ℕ) (column k : ℕ) → column < cap → k < 6
-        → stored pixels.new cap d column k
-        ≡ (if covers from to 0 bits column k then color else stored pixels.old cap d column k) }
+    requires rows { AreSixRows pixels.old cap }
+    ensures { AreDrawn pixels.old pixels.new cap (covers from to 0 bits) color }
 {
     let source = first_row(bits).min(5) * cap + from;
     'drawn: for bit in 0..6 {
@@ -197,13 +178,8 @@ fn fill_row(pixels: &mut [[u8; 4]], source: usize, from: usize, to: usize, color
 #[inline(always)]
 pub fn mix_rows(pixels: &mut [[u8; 4]], cap: usize, from: usize, sixels: [u8; 8], color: [u8; 4])
     requires within { from + 8 ≤ cap }
-    requires few { cap ≤ 1000008 }
-    requires fits { length pixels.old ≡ 6 * cap }
-    ensures len { length pixels.new ≡ length pixels.old }
-    ensures drawn { (d : List ℕ) (column k : ℕ) → column < cap → k < 6
-        → stored pixels.new cap d column k
-        ≡ (if covers_eight from sixels 0 column k then color
-        else stored pixels.old cap d column k) }
+    requires rows { AreSixRows pixels.old cap }
+    ensures { AreDrawn pixels.old pixels.new cap (covers_eight from sixels 0) color }
 {
     let lanes = u8x8::from_array(sixels);
     let last = lanes.extract::<4, 4>().to_array();
@@ -214,18 +190,34 @@ pub fn mix_rows(pixels: &mut [[u8; 4]], cap: usize, from: usize, sixels: [u8; 8]
 }
 
 /// Draws four sixels of one column each, from `from` on, in six rows.
+///
+/// Four lanes become a shift and a blend. LLVM makes two instructions more of eight, and a branch
+/// of a choice between arrays.
 #[inline(always)]
 fn mix_four(pixels: &mut [[u8; 4]], cap: usize, from: usize, sixels: [u8; 4], color: [u8; 4])
     requires within { from + 4 ≤ cap }
-    requires few { cap ≤ 1000008 }
-    requires fits { length pixels.old ≡ 6 * cap }
-    ensures len { length pixels.new ≡ length pixels.old }
-    ensures drawn { (d : List ℕ) (column k : ℕ) → column < cap → k < 6
-        → stored pixels.new cap d column k
-        ≡ (if covers_four from sixels column k then color else stored pixels.old cap d column k) }
+    requires rows { AreSixRows pixels.old cap }
+    ensures { AreDrawn pixels.old pixels.new cap (covers_four from sixels) color }
 {
+    let lanes = u8x4::from_array(sixels).cast::<u32>();
+    let colors = u32x4::splat(number(color));
     'mixed: for bit in 0..6 {
-        mix(pixels, bit * cap + from, sixels, bit, color);
+        let at = bit * cap + from;
+        let old = u32x4::from_array([
+            number(pixels[at]),
+            number(pixels[at + 1]),
+            number(pixels[at + 2]),
+            number(pixels[at + 3]),
+        ]);
+        let tests = (lanes >> u32x4::splat(bit as u32)) & u32x4::splat(1);
+        let row = tests
+            .simd_eq(u32x4::splat(1))
+            .select(colors, old)
+            .to_array();
+        pixels[at] = row[0].to_le_bytes();
+        pixels[at + 1] = row[1].to_le_bytes();
+        pixels[at + 2] = row[2].to_le_bytes();
+        pixels[at + 3] = row[3].to_le_bytes();
     }
 }
 

@@ -1,6 +1,6 @@
 -- What a band shows: six rows of cap columns each, one after another in one buffer of pixels, and
 -- background from extent on. The layout is this library's own.
-use Rattle.std.specs.Prelude.{◌≡◌, ℕ, ◌+◌, ◌-◌, ◌*◌, ◌≤◌, List, length, slice_index_or}
+use Rattle.std.specs.Prelude.{◌≡◌, ℕ, ◌+◌, ◌-◌, ◌*◌, ◌<◌, ◌≤◌, List, length, slice_index_or}
 use Rattle.std.specs.Prelude.{Bool, ◌&&◌, nat_le, nat_lt, if◌then◌else◌}
 use Rattle.sixel_base.specs.Picture.{is_set, is_struck}
 
@@ -23,6 +23,19 @@ covers_four from sixels column k =
 -- the pixel at a column of row k, in rows of cap columns
 abbrev pub stored : List (List ℕ) → ℕ → List ℕ → ℕ → ℕ → List ℕ
 stored pixels cap background column k = slice_index_or pixels (k * cap + column) background
+
+-- There are six rows of cap columns each, which a band may have.
+pub record AreSixRows (pixels : List (List ℕ)) (cap : ℕ) : Type 0 where
+  pub few : cap ≤ 1000008
+  pub fits : length pixels ≡ 6 * cap
+
+-- Of such rows the covered pixels have this color now, and the others stay.
+pub record AreDrawn (old new : List (List ℕ)) (cap : ℕ) (covered : ℕ → ℕ → Bool) (color : List ℕ)
+    : Type 0 where
+  pub len : length new ≡ length old
+  pub drawn : (background : List ℕ) (column k : ℕ) → column < cap → k < 6
+      → stored new cap background column k
+      ≡ (if covered column k then color else stored old cap background column k)
 
 -- the color of columns that nothing was drawn on, the six rows, how many columns each has, and from
 -- which column on they are background

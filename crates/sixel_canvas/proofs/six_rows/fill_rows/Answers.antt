@@ -20,4 +20,4 @@ fill_row-requires-clause-colored c = λ above i low high.
     let set : is_set c.args.bits first ≡ true = grind (arith) in
     row_colored c.args.pixels.now c.drawn.pixels c.args.cap c.args.from c.args.to c.args.bits
     c.drawn.bit first c.args.color i c.requires.within lower six set
-    (λ column inside. c.drawn.invariant.1 [] column first inside six) low (omega (arith, high))
+    (λ column inside. c.drawn.invariant.drawn [] column first inside six) low (omega (arith, high))

@@ -1,13 +1,9 @@
-use Rattle.std.proofs.Common.{◌≡◌, ℕ, ◌<◌, List, length}
-use Rattle.std.specs.Prelude.{nat_lt, ◌&&◌, if◌then◌else◌}
+use Rattle.std.specs.Prelude.{nat_lt, ◌&&◌}
 use Rattle.sixel_base.specs.Picture.{covers}
-use Rattle.sixel_canvas.specs.inside.Band.{stored}
+use Rattle.sixel_canvas.specs.inside.Band.{AreDrawn}
 use Rattle.sixel_canvas.proofs.six_rows.fill_rows.Given as goal
 
 abbrev pub invariant-drawn : goal.invariant-drawn
 invariant-drawn l =
-    (length l.pixels ≡ length l.fn.pixels)
-    × ((d : List ℕ) (column k : ℕ) → column < l.cap → k < 6
-    → stored l.pixels l.cap d column k
-    ≡ (if nat_lt k l.bit && covers l.from l.to 0 l.bits column k then l.color
-    else stored l.fn.pixels l.cap d column k))
+    AreDrawn l.fn.pixels l.pixels l.cap
+    (λ column k. nat_lt k l.bit && covers l.from l.to 0 l.bits column k) l.color
