@@ -1,5 +1,5 @@
 -- What a band with tags shows once the tags of a tile were painted, row by row.
-use Rattle.std.proofs.Common.{◌≡◌, ℕ, ◌+◌, ◌≤◌, true}
+use Rattle.std.proofs.Common.{◌≡◌, ℕ, ◌+◌}
 use Rattle.std.proofs.Common.{false, arith}
 use Rattle.std.specs.Prelude.{if◌then◌else◌}
 use Rattle.sixel_base.specs.Picture.{covers}
@@ -15,6 +15,3 @@ pub untagged : (old new : BandState) (tile : ℕ) → new.background ≡ no_tag 
     ≡ (if covers tile (tile + 1) 0 63 column k then no_tag else cell old column k)) →
     (k : ℕ) → is_tag (cell new tile k) ≡ false
 untagged old new tile clear drawn k = grind (arith, nat_tests, all_set)
-
-pub run_from : (from to bits column k : ℕ) → covers from to 0 bits column k ≡ true → from ≤ column
-run_from from to bits column k hit = grind (arith, nat_tests)

@@ -20,4 +20,3 @@ pub mod Spans
 pub mod StruckRows
 pub mod TaggedRows
 pub mod Totals
-mod RelaidRows

@@ -67,16 +67,7 @@ pub least_held : (old : BandCanvasState) (named right columns moved : ℕ) (runs
     + (if nat_lt (2 * least_width named runs) right
     then (rows_above runs old.top - old.released) * right else 0)) ≤ moved
 least_held old named right columns moved runs are stored within held =
-    let rows = rows_above runs old.top - old.released in
-    let fewer : rows ≤ old.rows.rows = omega (arith, stored) in
-    grind (
-      arith,
-      nat_tests,
-      are.laid.wide,
-      are.many,
-      mul-le-mul_right columns fewer,
-      mul-le-mul_left rows within,
-    )
+    grind (arith, nat_tests, mul-le-mul_right, mul-le-mul_left)
 
 -- sixels of one column each right of what was drawn count nothing
 pub least_moved-kept : (named released from top : ℕ) (sixels : List ℕ) (runs : List Run)
@@ -85,9 +76,7 @@ pub least_moved-kept : (named released from top : ℕ) (sixels : List ℕ) (runs
     ≡ least_moved named released runs
 least_moved-kept named released from top [] runs near some = refl
 least_moved-kept named released from top (sixel ∷ sixels) runs near some =
-    let rest = least_moved-kept named released (from + 1) top sixels
-    (run from (from + 1) top sixel ∷ runs) (omega arith) (omega arith) in
-    grind (arith, nat_tests)
+    grind (arith, nat_tests, least_moved-kept named released (from + 1) top sixels)
 
 -- some sixels of one column each, of which only the first can count
 pub least_sixels : (named released from top : ℕ) (sixels : List ℕ) (runs : List Run) (moved : ℕ)
@@ -98,9 +87,7 @@ pub least_sixels : (named released from top : ℕ) (sixels : List ℕ) (runs : L
     → counted 0 (least_moved named released (with_sixels from sixels top runs)) ≤ moved
 least_sixels named released from top [] runs moved some least = absurd (omega (arith, some))
 least_sixels named released from top (sixel ∷ sixels) runs moved some least =
-    rw (least_moved-kept named released (from + 1) top sixels (run from (from + 1) top sixel ∷ runs)
-    (omega arith) (omega arith))
-    (grind (arith, nat_tests))
+    grind (arith, nat_tests, least_moved-kept)
 
 -- the band moves down: its own rows are above it then, if something was drawn on them
 pub rows_above-down : (top : ℕ) (runs : List Run)

@@ -24,13 +24,7 @@ pub removed : (bytes : List ℕ) (width rows free n : ℕ) → n ≤ rows →
     (4 * ((free + n) * width) ≤ length bytes)
     × (length (drop (4 * ((free + n) * width)) bytes) ≡ 4 * ((rows - n) * width))
 removed bytes width rows free n few above len =
-    let all : length bytes ≡ 4 * ((free + rows) * width) =
-    omega (arith, above, len, length-drop (4 * (free * width)) bytes) in
-    let more = mul-le-mul_right width few in
-    let left = products n rows width few in (
-      omega (arith, all, more),
-      omega (arith, all, left, length-drop (4 * ((free + n) * width)) bytes),
-    )
+    grind (arith, nat_tests, length-drop, mul-le-mul_right, products)
 
 -- the pixels of the rows without the first `count` of them
 pub final_removed : (bytes new background : List ℕ) (width rows n count column row : ℕ)

@@ -1,6 +1,6 @@
 -- What a canvas of rows has cost, against the runs that were drawn on it.
 use Rattle.std.proofs.Common.{◌≡◌, ℕ, zero, suc, ◌+◌, ◌*◌, ◌/◌, ◌%◌, ◌<◌, ◌≤◌, List, []}
-use Rattle.std.proofs.Common.{◌∷◌, All, length, get_or, max, sym, ap, ◌∙◌, inl, inr}
+use Rattle.std.proofs.Common.{◌∷◌, All, length, get_or, max, sym, ap, ◌∙◌}
 use Rattle.std.proofs.Common.{arith}
 use Rattle.std.specs.List.{sum_by}
 use Rattle.std.proofs.lemmas.List.Elements.{All-head, All-nil, All-tail}
@@ -9,13 +9,12 @@ use Rattle.std.proofs.lemmas.Bool.{cases_lt}
 use Rattle.sixel_base.specs.Picture.{total}
 use Rattle.sixel_canvas.specs.inside.Drawn.{Run}
 use Rattle.sixel_canvas.specs.inside.RowBand.{IsRowBand, least, line_in}
-use Rattle.sixel_canvas.specs.inside.RowCanvas.{RowCanvasState, AreFewTags, HasCost, IsDrawnBy}
+use Rattle.sixel_canvas.specs.inside.RowCanvas.{RowCanvasState, HasCost, IsDrawnBy}
 use Rattle.sixel_canvas.specs.inside.RowCanvas.{IsRowCanvas, row_canvas_work, row_edge, row_len}
 use Rattle.std.proofs.lemmas.List.{get_or_past}
 use Rattle.sixel_canvas.specs.inside.TaggedRow.{TaggedRowState, IsTaggedRow, empty_tagged_row}
 use Rattle.sixel_canvas.proofs.Totals.{total-add, total-front, total-past, total-same, total-zero}
 use Rattle.std.proofs.lemmas.Bool.Decides.{nat_tests}
-use Rattle.std.proofs.lemmas.Grind.{common_steps}
 
 -- ---- sums over the rows
 
@@ -102,11 +101,7 @@ drawn_cost canvas runs n is none =
 -- the least of some numbers is at most each
 pub least-each : (f : ℕ → ℕ) (n k : ℕ) → k < n → least f n ≤ f k
 least-each f zero k inside = absurd (omega (arith, inside))
-least-each f (suc n) k inside =
-    elim (cases_lt k n) [
-      | inl before ↦ omega (arith, least-each f n k before)
-      | inr last ↦ grind (arith)
-    ]
+least-each f (suc n) k inside = grind (arith, nat_tests, cases_lt, least-each f n k)
 
 -- it grows with them
 pub least-grown : (f g : ℕ → ℕ) (n : ℕ) → ((k : ℕ) → k < n → f k ≤ g k) → least f n ≤ least g n
@@ -121,10 +116,6 @@ empty_line background = grind (arith, nat_tests)
 -- a band without rows is sound
 pub empty_band : IsRowBand []
 empty_band = record { whole = λ some. absurd (omega (arith, some)); rows = All-nil IsTaggedRow }
-
--- how many tags rows have, and for how many there is memory
-pub few_tags : (canvas : RowCanvasState) → All IsRowBand canvas.bands → AreFewTags canvas
-few_tags canvas sound = grind (arith, common_steps, nat_tests)
 
 -- what the rows of a band have written, and what wide runs have painted on them, fit a number
 pub rows_write : (rows : List TaggedRowState) → IsRowBand rows

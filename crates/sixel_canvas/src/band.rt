@@ -76,13 +76,6 @@ impl Band {
         self.extent
     }
 
-    /// Returns the color of columns that nothing was drawn on.
-    pub fn background(&self) -> [u8; 4]
-        ensures { result ≡ self.now.background }
-    {
-        self.background
-    }
-
     /// Returns a copy of the band with memory for `cap` columns.
     #[inline(never)]
     pub fn wider(&self, cap: usize) -> Result<Band, AllocError>

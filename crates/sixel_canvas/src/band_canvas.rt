@@ -5,8 +5,7 @@ ghost use Rattle.sixel_canvas.specs.Layout.{AreCopied, AreRowsIn};
 ghost use Rattle.sixel_canvas.specs.inside.Band.{cell};
 ghost use Rattle.sixel_canvas.specs.inside.BandCanvas.{above_band, band_canvas_held};
 ghost use Rattle.sixel_canvas.specs.inside.BandCanvas.{band_canvas_shown};
-ghost use Rattle.sixel_canvas.specs.inside.BandCanvas.{AreMoved, AreStored, IsLaidOut};
-ghost use Rattle.sixel_canvas.specs.inside.BandCanvas.{IsPaid};
+ghost use Rattle.sixel_canvas.specs.inside.BandCanvas.{AreMoved, AreStored, HasColumns, IsPaid};
 ghost use Rattle.sixel_canvas.specs.inside.Drawn.{Run};
 ghost use Rattle.sixel_canvas.specs.inside.RowsState.{final, stored_area};
 ghost use Rattle.sixel_canvas.specs.inside.Paints.{counted};
@@ -227,22 +226,7 @@ impl BandCanvas {
         requires some { 0 < columns }
         requires within { columns ≤ 1000000 }
         requires above_bottom { self.old.top + 6 ≤ 1000000 }
-        ensures held { OnOk result (columns ≤ self.new.held) }
-        ensures shown { OnOk result ((column row : ℕ) → band_canvas_shown self.new column row
-            ≡ band_canvas_shown self.old column row) }
-        ensures top { OnOk result (self.new.top ≡ self.old.top) }
-        ensures released { OnOk result (self.new.released ≡ self.old.released) }
-        ensures capacity { OnOk result (capacity self.new.band
-            ≤ max (capacity self.old.band) (2 * columns + 16)) }
-        ensures extent { OnOk result (self.new.band.pixels.extent ≡ self.old.band.pixels.extent) }
-        ensures tagged { OnOk result (self.new.band.tags.extent ≡ self.old.band.tags.extent) }
-        ensures painted { OnOk result (self.new.band.painted ≡ self.old.band.painted) }
-        ensures rows { OnOk result (self.new.rows.rows ≡ self.old.rows.rows) }
-        ensures moved { OnOk result (counted self.old.rows.moved
-            (if nat_lt self.old.rows.width columns then self.old.rows.rows * columns else 0)
-            ≤ self.new.rows.moved) }
-        ensures laid { OnOk result ((width : ℕ) → columns ≤ width → IsLaidOut self.old width
-            → IsLaidOut self.new width) }
+        ensures { OnOk result (HasColumns self.old self.new columns) }
     {
         if columns <= self.held {
             return Ok(());
@@ -257,22 +241,7 @@ impl BandCanvas {
         requires some { 0 < columns }
         requires within { columns ≤ 1000000 }
         requires above_bottom { self.old.top + 6 ≤ 1000000 }
-        ensures held { OnOk result (columns ≤ self.new.held) }
-        ensures shown { OnOk result ((column row : ℕ) → band_canvas_shown self.new column row
-            ≡ band_canvas_shown self.old column row) }
-        ensures top { OnOk result (self.new.top ≡ self.old.top) }
-        ensures released { OnOk result (self.new.released ≡ self.old.released) }
-        ensures capacity { OnOk result (capacity self.new.band
-            ≤ max (capacity self.old.band) (2 * columns + 16)) }
-        ensures extent { OnOk result (self.new.band.pixels.extent ≡ self.old.band.pixels.extent) }
-        ensures tagged { OnOk result (self.new.band.tags.extent ≡ self.old.band.tags.extent) }
-        ensures painted { OnOk result (self.new.band.painted ≡ self.old.band.painted) }
-        ensures rows { OnOk result (self.new.rows.rows ≡ self.old.rows.rows) }
-        ensures moved { OnOk result (counted self.old.rows.moved
-            (if nat_lt self.old.rows.width columns then self.old.rows.rows * columns else 0)
-            ≤ self.new.rows.moved) }
-        ensures laid { OnOk result ((width : ℕ) → columns ≤ width → IsLaidOut self.old width
-            → IsLaidOut self.new width) }
+        ensures { OnOk result (HasColumns self.old self.new columns) }
     {
         let least = columns
             .max(self.held)

@@ -6,7 +6,7 @@ ghost use Rattle.sixel_base.specs.Picture.{covers};
 ghost use Rattle.sixel_canvas.specs.inside.Band.{cell};
 ghost use Rattle.sixel_canvas.specs.inside.Drawn.{covers_eight};
 ghost use Rattle.sixel_canvas.specs.inside.Paints.{counted};
-ghost use Rattle.sixel_canvas.specs.inside.TaggedBand.{capacity, doubled, least_cost};
+ghost use Rattle.sixel_canvas.specs.inside.TaggedBand.{HasSameRoom, capacity, doubled, least_cost};
 ghost use Rattle.sixel_canvas.specs.inside.TaggedBand.{most_painted, tagged_cell};
 ghost use Rattle.sixel_canvas.specs.inside.Tags.{is_tag};
 
@@ -78,13 +78,6 @@ impl TaggedBand {
         self.pixels.extent()
     }
 
-    /// Returns the color of columns that nothing was drawn on.
-    pub fn background(&self) -> [u8; 4]
-        ensures { result ≡ self.now.pixels.background }
-    {
-        self.pixels.background()
-    }
-
     /// Returns how many columns and tags were painted so far.
     ///
     /// A tag that is painted counts as the 128 columns of its tile.
@@ -127,9 +120,7 @@ impl TaggedBand {
         requires visible { is_tag color ≡ true }
         ensures drawn { (column k : ℕ) → tagged_cell self.new column k
             ≡ (if covers from to 0 bits column k then color else tagged_cell self.old column k) }
-        ensures background { self.new.pixels.background ≡ self.old.pixels.background }
-        ensures cap { self.new.pixels.cap ≡ self.old.pixels.cap }
-        ensures tags_cap { self.new.tags.cap ≡ self.old.tags.cap }
+        ensures room { HasSameRoom self.old self.new }
         ensures extent { self.new.pixels.extent ≡ max self.old.pixels.extent to }
         ensures tags_extent { 128 * self.new.tags.extent ≤ max (128 * self.old.tags.extent) to }
         ensures least { counted self.old.painted (least_cost (to - from)) ≤ self.new.painted }
@@ -177,9 +168,7 @@ impl TaggedBand {
         requires visible { is_tag color ≡ true }
         ensures drawn { (column k : ℕ) → tagged_cell self.new column k
             ≡ (if covers from to 0 bits column k then color else tagged_cell self.old column k) }
-        ensures background { self.new.pixels.background ≡ self.old.pixels.background }
-        ensures cap { self.new.pixels.cap ≡ self.old.pixels.cap }
-        ensures tags_cap { self.new.tags.cap ≡ self.old.tags.cap }
+        ensures room { HasSameRoom self.old self.new }
         ensures extent { self.new.pixels.extent ≡ max self.old.pixels.extent to }
         ensures tags_extent { 128 * self.new.tags.extent ≤ max (128 * self.old.tags.extent) to }
         ensures least { counted self.old.painted (least_cost (to - from)) ≤ self.new.painted }
@@ -203,9 +192,7 @@ impl TaggedBand {
         requires held { to ≤ self.old.pixels.cap }
         ensures drawn { (column k : ℕ) → tagged_cell self.new column k
             ≡ (if covers from to 0 bits column k then color else tagged_cell self.old column k) }
-        ensures background { self.new.pixels.background ≡ self.old.pixels.background }
-        ensures cap { self.new.pixels.cap ≡ self.old.pixels.cap }
-        ensures tags_cap { self.new.tags.cap ≡ self.old.tags.cap }
+        ensures room { HasSameRoom self.old self.new }
         ensures extent { self.new.pixels.extent ≡ max self.old.pixels.extent to }
         ensures tags_extent { self.new.tags.extent ≡ self.old.tags.extent }
         ensures least { counted self.old.painted (to - from) ≤ self.new.painted }
@@ -229,9 +216,7 @@ impl TaggedBand {
         ensures drawn { (column k : ℕ) → tagged_cell self.new column k
             ≡ (if covers_eight from sixels 0 column k then color
             else tagged_cell self.old column k) }
-        ensures background { self.new.pixels.background ≡ self.old.pixels.background }
-        ensures cap { self.new.pixels.cap ≡ self.old.pixels.cap }
-        ensures tags_cap { self.new.tags.cap ≡ self.old.tags.cap }
+        ensures room { HasSameRoom self.old self.new }
         ensures extent { self.new.pixels.extent ≡ max self.old.pixels.extent to }
         ensures tags_extent { self.new.tags.extent ≡ self.old.tags.extent }
         ensures least { counted self.old.painted 8 ≤ self.new.painted }
@@ -256,9 +241,7 @@ impl TaggedBand {
     pub fn clear(&mut self)
         ensures shown { (column k : ℕ) → tagged_cell self.new column k
             ≡ self.old.pixels.background }
-        ensures background { self.new.pixels.background ≡ self.old.pixels.background }
-        ensures cap { self.new.pixels.cap ≡ self.old.pixels.cap }
-        ensures tags_cap { self.new.tags.cap ≡ self.old.tags.cap }
+        ensures room { HasSameRoom self.old self.new }
         ensures extent { self.new.pixels.extent ≡ 0 }
         ensures tags_extent { self.new.tags.extent ≡ 0 }
         ensures painted { self.new.painted ≡ self.old.painted }

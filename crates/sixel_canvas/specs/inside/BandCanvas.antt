@@ -6,7 +6,7 @@ use Rattle.std.specs.Prelude.{length, max}
 use Rattle.sixel_canvas.specs.inside.Drawn.{Run, band_edge, drawn_columns, least_moved, lowest_top}
 use Rattle.sixel_canvas.specs.inside.Drawn.{right_edge, rows_above, runs_cost, runs_paint}
 use Rattle.sixel_canvas.specs.inside.Paints.{counted}
-use Rattle.sixel_canvas.specs.inside.TaggedBand.{TaggedState, tagged_cell}
+use Rattle.sixel_canvas.specs.inside.TaggedBand.{TaggedState, capacity, tagged_cell}
 use Rattle.sixel_canvas.specs.inside.RowsState.{RowsState, final, stored_area}
 use Rattle.sixel_canvas.specs.inside.ReleasedRows.{released_pixel}
 
@@ -90,6 +90,23 @@ pub record IsLaidOut (canvas : BandCanvasState) (width : ℕ) : Type 0 where
   pub expected : canvas.expected ≤ width
   pub wide : canvas.rows.width ≤ 2 * width
   pub moved : canvas.rows.moved ≤ 2 * stored_area canvas.rows + 4 * (canvas.released * width)
+
+-- These columns can be drawn and appended without an allocation. Else the canvas is the same, but
+-- its rows may have become wider.
+pub record HasColumns (old new : BandCanvasState) (columns : ℕ) : Type 0 where
+  pub held : columns ≤ new.held
+  pub shown : (column row : ℕ)
+      → band_canvas_shown new column row ≡ band_canvas_shown old column row
+  pub top : new.top ≡ old.top
+  pub released : new.released ≡ old.released
+  pub within : capacity new.band ≤ max (capacity old.band) (2 * columns + 16)
+  pub extent : new.band.pixels.extent ≡ old.band.pixels.extent
+  pub tagged : new.band.tags.extent ≡ old.band.tags.extent
+  pub painted : new.band.painted ≡ old.band.painted
+  pub rows : new.rows.rows ≡ old.rows.rows
+  pub moved : counted old.rows.moved
+      (if nat_lt old.rows.width columns then old.rows.rows * columns else 0) ≤ new.rows.moved
+  pub laid : (width : ℕ) → columns ≤ width → IsLaidOut old width → IsLaidOut new width
 
 -- how wide the picture of these runs is at least, where raster attributes name this width
 abbrev pub least_width : ℕ → List Run → ℕ

@@ -37,6 +37,12 @@ pub record IsTaggedBand (band : TaggedState) : Type 0 where
   pub few_tags : band.tags.cap ≤ (band.pixels.cap + 127) / 128
   pub whole : 128 * band.tags.extent ≤ band.pixels.extent
 
+-- The background and the memory are the same.
+pub record HasSameRoom (old new : TaggedState) : Type 0 where
+  pub background : new.pixels.background ≡ old.pixels.background
+  pub cap : new.pixels.cap ≡ old.pixels.cap
+  pub tags_cap : new.tags.cap ≡ old.tags.cap
+
 -- what a run over `columns` paints at most beside the columns past all that was drawn on: one tag
 -- per tile, two ends, and what is painted of tagged tiles that it covers in part
 abbrev pub most_painted : ℕ → ℕ

@@ -4,7 +4,7 @@ ghost use Rattle.std.specs.Prelude.{max, min, true, false, nat_le, nat_lt, ◌&&
 ghost use Rattle.sixel_base.specs.Picture.{covers};
 ghost use Rattle.sixel_canvas.specs.inside.Band.{cell, IsBand};
 ghost use Rattle.sixel_canvas.specs.inside.Paints.{counted};
-ghost use Rattle.sixel_canvas.specs.inside.TaggedBand.{tagged_cell};
+ghost use Rattle.sixel_canvas.specs.inside.TaggedBand.{HasSameRoom, tagged_cell};
 ghost use Rattle.sixel_canvas.specs.inside.Tags.{is_tag, no_tag, under};
 
 use crate::band::Band;
@@ -37,9 +37,7 @@ impl TaggedBand {
             ≡ tagged_cell self.old column k }
         ensures untagged { (column k : ℕ) → from ≤ column → column < to
             → is_tag (cell self.new.tags (column / 128) k) ≡ false }
-        ensures background { self.new.pixels.background ≡ self.old.pixels.background }
-        ensures cap { self.new.pixels.cap ≡ self.old.pixels.cap }
-        ensures tags_cap { self.new.tags.cap ≡ self.old.tags.cap }
+        ensures room { HasSameRoom self.old self.new }
         ensures extent { self.new.pixels.extent ≡ self.old.pixels.extent }
         ensures tags_extent { self.new.tags.extent ≡ self.old.tags.extent }
         ensures painted { self.new.painted ≡ counted self.old.painted
@@ -66,9 +64,7 @@ impl TaggedBand {
             → is_tag (cell self.new.tags tile k) ≡ false }
         ensures others { (tile k : ℕ) → last ≤ tile
             → cell self.new.tags tile k ≡ cell self.old.tags tile k }
-        ensures background { self.new.pixels.background ≡ self.old.pixels.background }
-        ensures cap { self.new.pixels.cap ≡ self.old.pixels.cap }
-        ensures tags_cap { self.new.tags.cap ≡ self.old.tags.cap }
+        ensures room { HasSameRoom self.old self.new }
         ensures extent { self.new.pixels.extent ≡ self.old.pixels.extent }
         ensures tags_extent { self.new.tags.extent ≡ self.old.tags.extent }
         ensures painted { self.new.painted ≡ self.old.painted }
@@ -86,9 +82,7 @@ impl TaggedBand {
         ensures untagged { (k : ℕ) → is_tag (cell self.new.tags tile k) ≡ false }
         ensures others { (other k : ℕ) → (other ≡ tile → ⊥)
             → cell self.new.tags other k ≡ cell self.old.tags other k }
-        ensures background { self.new.pixels.background ≡ self.old.pixels.background }
-        ensures cap { self.new.pixels.cap ≡ self.old.pixels.cap }
-        ensures tags_cap { self.new.tags.cap ≡ self.old.tags.cap }
+        ensures room { HasSameRoom self.old self.new }
         ensures extent { self.new.pixels.extent ≡ self.old.pixels.extent }
         ensures tags_extent { self.new.tags.extent ≡ self.old.tags.extent }
         ensures painted { self.new.painted ≡ self.old.painted }
@@ -104,9 +98,7 @@ impl TaggedBand {
             ≡ tagged_cell self.old column k }
         ensures same { (column k : ℕ) → tagged_cell self.new column k
             ≡ tagged_cell self.old column k }
-        ensures background { self.new.pixels.background ≡ self.old.pixels.background }
-        ensures cap { self.new.pixels.cap ≡ self.old.pixels.cap }
-        ensures tags_cap { self.new.tags.cap ≡ self.old.tags.cap }
+        ensures room { HasSameRoom self.old self.new }
         ensures extent { self.new.pixels.extent ≡ self.old.pixels.extent }
         ensures tags_extent { self.new.tags.extent ≡ 0 }
         ensures painted { self.new.painted

@@ -1,6 +1,6 @@
 use Rattle.std.proofs.Common.{◌≡◌, ℕ, ◌≤◌, ◌<◌, false}
 use Rattle.sixel_canvas.specs.inside.Band.{cell}
-use Rattle.sixel_canvas.specs.inside.TaggedBand.{tagged_cell}
+use Rattle.sixel_canvas.specs.inside.TaggedBand.{HasSameRoom, tagged_cell}
 use Rattle.sixel_canvas.specs.inside.Tags.{is_tag}
 use Rattle.sixel_canvas.proofs.tagged_band.TaggedBand.untag_tiles.Given as goal
 
@@ -10,9 +10,7 @@ invariant-each l =
     ×
     ((tile k : ℕ) → l.first ≤ tile → tile < l.tile → is_tag (cell l.self.tags tile k) ≡ false)
     × ((tile k : ℕ) → l.last ≤ tile → cell l.self.tags tile k ≡ cell l.fn.self.tags tile k)
-    × (l.self.pixels.background ≡ l.fn.self.pixels.background)
-    × (l.self.pixels.cap ≡ l.fn.self.pixels.cap)
+    × HasSameRoom l.fn.self l.self
     × (l.self.pixels.extent ≡ l.fn.self.pixels.extent)
     × (l.self.tags.extent ≡ l.fn.self.tags.extent)
     × (l.self.painted ≡ l.fn.self.painted)
-    × (l.self.tags.cap ≡ l.fn.self.tags.cap)
