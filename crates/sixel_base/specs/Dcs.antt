@@ -146,9 +146,6 @@ stage_painted_area limit Heading = 0
 stage_painted_area limit (Failing fault) = 0
 stage_painted_area limit (Reading settings payload) = payload_painted_area limit payload
 
-abbrev pub dcs_painted_area : Limit → List ℕ → ℕ
-dcs_painted_area limit bytes = stage_painted_area limit (stage bytes)
-
 -- whether its header is read and its payload has begun
 abbrev pub stage_in_payload : Stage → Bool
 stage_in_payload Heading = false
@@ -163,9 +160,6 @@ abbrev pub stage_size : Limit → Stage → Option (ℕ × ℕ)
 stage_size limit Heading = None
 stage_size limit (Failing fault) = None
 stage_size limit (Reading settings payload) = Some (payload_size limit payload)
-
-abbrev pub dcs_size : Limit → List ℕ → Option (ℕ × ℕ)
-dcs_size limit bytes = stage_size limit (stage bytes)
 
 -- how a DCS sequence has ended, once a terminator of its payload was read
 abbrev pub ended_by : Option ℕ → List ℕ → Option SixelDcsFeedStatus

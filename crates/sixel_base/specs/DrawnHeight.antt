@@ -3,7 +3,7 @@
 -- library's own; where sixels are drawn, by DEC's manual, is in Place.
 use Rattle.std.specs.Prelude.{ℕ, zero, suc, ◌+◌, max, min, nat_lt, Bool, if◌then◌else◌, List, []}
 use Rattle.std.specs.Prelude.{◌∷◌}
-use Rattle.sixel_base.specs.Dcs.{Stage, Heading, Failing, Reading, stage}
+use Rattle.sixel_base.specs.Dcs.{Stage, Heading, Failing, Reading}
 use Rattle.sixel_base.specs.History.{Sixel, History}
 use Rattle.sixel_base.specs.Picture.{is_set}
 use Rattle.sixel_base.specs.Limits.{Limit}
@@ -39,9 +39,6 @@ abbrev pub stage_drawn_height : Limit → Stage → ℕ
 stage_drawn_height limit Heading = 0
 stage_drawn_height limit (Failing fault) = 0
 stage_drawn_height limit (Reading settings payload) = payload_drawn_height limit payload
-
-abbrev pub dcs_drawn_height : Limit → List ℕ → ℕ
-dcs_drawn_height limit bytes = stage_drawn_height limit (stage bytes)
 
 -- the drawn height of an image: at most its height, because crop can end an image above the last
 -- set pixel of its picture
