@@ -2,9 +2,9 @@
 //!
 //! Each class tests for printable bytes first, because nearly all bytes of a payload are printable.
 
-ghost use Rattle.std.specs.Prelude.{◌≡◌, ◌⊎◌, ◌≤◌, IsTrue, false, length, take, drop};
+ghost use Rattle.std.specs.Prelude.{◌≡◌, ◌⊎◌, ◌≤◌, IsTrue, false, length, drop};
 ghost use Rattle.sixel_base.specs.Bytes.{is_ignored as ignored, is_terminator as terminator};
-ghost use Rattle.sixel_base.specs.Bytes.{is_parameter as parameter, is_sixel as sixel};
+ghost use Rattle.sixel_base.specs.Bytes.{is_parameter as parameter};
 ghost use Rattle.sixel_base.specs.inside.Parameters.{IsDigit};
 
 /// Whether the byte is an ignored control: C0 or DEL, but no terminator.
@@ -29,14 +29,6 @@ pub fn is_parameter(byte: u8) -> bool
     matches!(byte, b'0'..=b'9' | b';')
 }
 
-/// Whether the byte is a sixel, six pixels.
-#[inline(always)]
-pub fn is_sixel(byte: u8) -> bool
-    ensures { result ≡ sixel byte }
-{
-    matches!(byte, 0x3f..=0x7e)
-}
-
 /// Whether the byte opens a command that mostly has one number: `!` or `#`.
 #[inline(always)]
 pub fn is_numbered(byte: u8) -> bool
@@ -44,15 +36,6 @@ pub fn is_numbered(byte: u8) -> bool
     ensures others { result ≡ false → (byte ≡ 33 → ⊥) × (byte ≡ 35 → ⊥) }
 {
     matches!(byte, b'!' | b'#')
-}
-
-/// Returns the first `len` bytes.
-#[inline(always)]
-pub fn front(bytes: &[u8], len: usize) -> &[u8]
-    requires { len ≤ length bytes.now }
-    ensures { result.now ≡ take len bytes.now }
-{
-    &bytes[..len]
 }
 
 /// Returns the bytes from an index on.

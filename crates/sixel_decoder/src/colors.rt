@@ -36,7 +36,6 @@ pub fn opaque(color: [u8; 3]) -> [u8; 4]
 /// Stores the color that five parameters define in the register.
 ///
 /// Fewer parameters, and other color systems than HLS and RGB, define none.
-#[tactic(auto, using(std::proofs::lemmas::Bool::Decides::nat_tests))]
 pub fn define(registers: &mut Registers, register: u8, parameters: &Parameters)
     ensures { (text : List ℕ) → Keeps parameters.now text
         → registers.new ≡ (if is_definition text

@@ -34,7 +34,6 @@ impl Header {
     /// Reads a byte, and returns the settings at the `q`.
     ///
     /// A terminator is rejected as malformed data, and any other byte as a bad header.
-    #[tactic(auto, using(std::proofs::lemmas::Bool::Decides::nat_tests))]
     pub fn push(&mut self, byte: u8) -> Result<Option<DcsSettings>>
         ensures { (text : List ℕ) → Keeps self.old.parameters text
             → StepsTo result self.new.parameters text byte }

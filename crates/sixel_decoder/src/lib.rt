@@ -1,7 +1,7 @@
 //! SIXEL decoding: the readers of payloads and DCS sequences, and their painter.
 //!
 //! The decoder's registers from one image to the next are stored by `icy_sixel`.
-#![tactic(auto)]
+#![tactic(auto, using(std::proofs::lemmas::Bool::Decides::nat_tests))]
 
 mod bytes;
 mod colors;

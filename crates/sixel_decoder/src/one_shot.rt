@@ -23,7 +23,6 @@ use sixel_canvas::band_canvas::BandCanvas;
 use std::alloc::Global;
 
 /// Decodes the first DCS sequence in the bytes, or all of them as a payload.
-#[tactic(auto, using(std::proofs::lemmas::Bool::Decides::nat_tests))]
 pub fn decode_found(alloc: Global, decoder: DecoderState, bytes: &[u8]) -> Result<DecodedPayload>
     ensures decoded { IsDecoded picture_value decoder (found bytes.now) result }
     ensures registers { IfOk result (λ picture.

@@ -79,7 +79,6 @@ impl<C: Canvas + Drop> Painter<C> {
     ghost use Rattle.sixel_decoder.specs.inside.Painter.{IsDrawnInside, IsExtended, FitsColumn};
 
     /// Creates a painter that has drawn nothing.
-    #[tactic(auto, using(std::proofs::lemmas::Bool::Decides::nat_tests))]
     pub fn new(alloc: Global, decoder: DecoderState, settings: DcsSettings) -> Painter<C>
         ensures shows { Shows (origin_of decoder settings) result [] }
         ensures work { C.work result.canvas ≡ no_work }
@@ -156,7 +155,6 @@ impl<C: Canvas + Drop> Painter<C> {
     }
 
     /// Extends the image to at least this width and height, unless it is too large then.
-    #[tactic(auto, using(std::proofs::lemmas::Bool::Decides::nat_tests))]
     #[inline(always)]
     fn extend(&mut self, wide: usize, high: usize) -> Result<()>
         ensures extended { MatchResult result (λ _. IsExtended self.old self.new wide high)
@@ -298,7 +296,6 @@ impl<C: Canvas + Drop> Painter<C> {
     /// Takes the rows that are left off the canvas, and returns them with the registers.
     ///
     /// The number is how many commands were ignored.
-    #[tactic(auto, using(std::proofs::lemmas::Bool::Decides::nat_tests))]
     pub fn take_image(&mut self, ignored: u64) -> Result<DecodedPayload>
         ensures ends { (o : Origin) (h : History) → Shows o self.old h
             → Ends result o h ignored }

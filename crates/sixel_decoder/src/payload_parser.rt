@@ -18,7 +18,7 @@ ghost use Rattle.sixel_decoder.specs.declared.payload_parser.OpenCommand.TheVari
 ghost use Rattle.sixel_decoder.specs.declared.payload_parser.OpenCommand.TheVariants.{InRepeat};
 ghost use Rattle.sixel_decoder.specs.declared.payload_parser.OpenCommand.TheVariants.{InColor};
 
-use crate::bytes::{is_ignored, is_numbered, is_parameter, is_sixel, is_terminator, tail};
+use crate::bytes::{is_ignored, is_numbered, is_parameter, is_terminator, tail};
 use crate::decoded_payload::DecodedPayload;
 use crate::lenience::tolerate;
 use crate::painter::Painter;
@@ -87,7 +87,6 @@ impl<C: Canvas + Drop> PayloadParser<C> {
     /// Reads a chunk up to its first terminator, which closes the open command.
     ///
     /// Sixels of eight bytes or more are drawn eight at once.
-    #[tactic(auto, using(std::proofs::lemmas::Bool::Decides::nat_tests))]
     #[inline(always)]
     pub fn feed(&mut self, chunk: &[u8]) -> Result<SixelFeedResult>
         ensures feeds { (o : Origin) (h : History) → Stands o self.old h
@@ -131,7 +130,6 @@ impl<C: Canvas + Drop> PayloadParser<C> {
     ///
     /// It is a digit of the open command, opens one, or is a sixel in a column for which the canvas
     /// has memory. An open color command that defines no register is closed first.
-    #[tactic(auto, using(std::proofs::lemmas::Bool::Decides::nat_tests))]
     #[inline(always)]
     pub fn try_byte(&mut self, byte: u8) -> bool
         ensures printable { IsTrue result → IsPrintable byte }
@@ -141,7 +139,7 @@ impl<C: Canvas + Drop> PayloadParser<C> {
         ensures released { C.released self.new.painter.canvas
             ≡ C.released self.old.painter.canvas }
     {
-        if is_sixel(byte) {
+        if matches!(byte, b'?'..=b'~') {
             return self.try_sixel(byte);
         }
         if byte.is_ascii_digit() && self.takes(byte) {
@@ -222,7 +220,7 @@ impl<C: Canvas + Drop> PayloadParser<C> {
         let mut index = from;
         'bytes: while index < chunk.len() {
             let byte = chunk[index];
-            if is_sixel(byte) {
+            if matches!(byte, b'?'..=b'~') {
                 self.close()?;
                 let drawn = self
                     .painter

@@ -17,7 +17,6 @@ use sixel_base::{Result, SixelError};
 /// Returns the pixel aspect ratio after raster attributes.
 ///
 /// It is `now` if they have one field.
-#[tactic(auto, using(std::proofs::lemmas::Bool::Decides::nat_tests))]
 pub fn shape(
     parameters: &Parameters,
     now: PixelAspectRatio,

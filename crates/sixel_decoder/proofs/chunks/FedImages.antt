@@ -1,5 +1,6 @@
 -- What a feed of an image does beside its count and its status, by the form of the image: once the
 -- end has come it takes no byte, and its error is that of all bytes.
+use Rattle.std.proofs.lemmas.Bool.Decides.{nat_tests}
 use Rattle.std.proofs.Common.{◌≡◌, ℕ, ◌+◌, ◌≤◌, true, false, List, ◌++◌, ap, sym, ◌∙◌, arith}
 use Rattle.std.proofs.Common.{subst, refl, append-nil, Option, Some, None, Result, Ok, Err, length}
 use Rattle.std.specs.Prelude.{nat_lt, is_some, MatchResult}
@@ -55,12 +56,8 @@ ended limit (OfPayload settings) bytes more over =
       faults = ap (reported limit) same;
       grows = ap payloads.growths same;
     }
-ended limit OfString bytes more over = record {
-  counted = dcs_count_ended bytes more over;
-  stands = ap statuses.Dcs (status_ended bytes more over);
-  faults = dcs_fault_ended limit bytes more over;
-  grows = dcs_growths_ended bytes more over;
-}
+ended limit OfString bytes more over =
+    grind (arith, nat_tests, dcs_count_ended, status_ended, dcs_fault_ended, dcs_growths_ended)
 
 -- a chunk adds at most its bytes
 fits : (form : Form) (bytes chunk : List ℕ)
@@ -85,16 +82,9 @@ over_by : (limit : Limit) (form : Form) (bytes chunk : List ℕ) (result : Resul
     → fault limit form bytes ≡ None → Reads limit form bytes (bytes ++ chunk) result
     → is_over form bytes ≡ true
     → result ≡ Ok (record { consumed = 0; status = status form bytes })
-over_by limit form bytes chunk (Ok fed) sound is over =
-    let same = ended limit form bytes chunk over in
-    let none : fed.consumed ≡ 0 = omega (arith, is.0, same.counted) in
-    let stands : fed.status ≡ status form bytes = is.1 ∙ same.stands in
-    λ i. Ok (record { consumed = none i; status = stands i })
+over_by limit form bytes chunk (Ok fed) sound is over = grind (arith, nat_tests, ended)
 over_by limit form bytes chunk (Err e) sound is over =
-    let same = ended limit form bytes chunk over in
-    absurd (never_refused e _ (no_growth _ _ same.grows) (subst
-    (λ f. Faults e (nat_lt (growths form bytes) (growths form (bytes ++ chunk))) f)
-    (same.faults ∙ sound) is))
+    grind (arith, nat_tests, ended, never_refused, no_growth)
 
 not_err : (fed : Received) (e : SixelError) → Ok fed ≡ Err e → ⊥
 not_err fed e is = cc
@@ -140,9 +130,7 @@ payload_told : (limit : Limit) (form : Form) (settings : Settings) (e told : Six
     → Faults e (nat_lt n (growths form fed)) (fault limit form fed)
     → Faults told (payload_wants limit bytes) (payload_fault limit bytes)
 payload_told limit form settings e told fed left bytes n is same joined refused =
-    subst (λ w. Faults w (payload_wants limit bytes) (payload_fault limit bytes)) same
-    (payload_refused e limit bytes (frame_refused e limit fed left bytes n joined
-    (rw is at refused)))
+    grind (arith, nat_tests, payload_refused, frame_refused)
 
 -- that of a DCS sequence is that of all bytes
 string_told : (limit : Limit) (form : Form) (e told : SixelError) (fed left : List ℕ) (n : ℕ)

@@ -5,7 +5,7 @@ use Rattle.std.proofs.Common.{length-append}
 use Rattle.std.specs.Prelude.{is_some}
 use Rattle.std.proofs.lemmas.List.Sums.{fold-append}
 use Rattle.sixel_base.specs.declared.error.SixelError.{SixelError}
-use Rattle.sixel_base.specs.Bytes.{is_terminator, front, carrying, before_terminator}
+use Rattle.sixel_base.specs.Bytes.{front, carrying, before_terminator}
 use Rattle.sixel_base.specs.Bytes.{count, first_terminator, is_terminated}
 use Rattle.sixel_base.specs.History.{Sixel, Repeat, Raster, Color, Return, Newline, Skip, History}
 use Rattle.sixel_base.specs.History.{goes_on, history_of}
@@ -31,38 +31,19 @@ pub before_terminator-append : (bytes piece : List ℕ) → first_terminator byt
     → before_terminator (bytes ++ piece) ≡ bytes ++ before_terminator piece
 before_terminator-append [] piece none = refl
 before_terminator-append (byte ∷ bytes) piece none =
-    (elim (is_terminator byte) as
-    (λ t.
-    cond t (Some byte) (first_terminator bytes) ≡ None
-    → cond t [] (byte ∷ before_terminator (bytes ++ piece))
-    ≡ byte ∷ (bytes ++ before_terminator piece)) [
-      | true ↦ λ is. absurd cc
-      | false ↦ λ is. ap (λ w. byte ∷ w) (before_terminator-append bytes piece is)
-    ]) none
+    grind (arith, nat_tests, before_terminator-append bytes piece)
 
 pub before_terminator-whole : (bytes : List ℕ) → first_terminator bytes ≡ None
     → before_terminator bytes ≡ bytes
 before_terminator-whole [] none = refl
 before_terminator-whole (byte ∷ bytes) none =
-    (elim (is_terminator byte) as
-    (λ t.
-    cond t (Some byte) (first_terminator bytes) ≡ None
-    → cond t [] (byte ∷ before_terminator bytes) ≡ byte ∷ bytes) [
-      | true ↦ λ is. absurd cc
-      | false ↦ λ is. ap (λ w. byte ∷ w) (before_terminator-whole bytes is)
-    ]) none
+    grind (arith, nat_tests, before_terminator-whole bytes)
 
 pub first_terminator-append : (bytes piece : List ℕ) → first_terminator bytes ≡ None
     → first_terminator (bytes ++ piece) ≡ first_terminator piece
 first_terminator-append [] piece none = refl
 first_terminator-append (byte ∷ bytes) piece none =
-    (elim (is_terminator byte) as
-    (λ t.
-    cond t (Some byte) (first_terminator bytes) ≡ None
-    → cond t (Some byte) (first_terminator (bytes ++ piece)) ≡ first_terminator piece) [
-      | true ↦ λ is. absurd cc
-      | false ↦ λ is. first_terminator-append bytes piece is
-    ]) none
+    grind (arith, nat_tests, first_terminator-append bytes piece)
 
 pub carrying-append : (xs ys : List ℕ) → carrying (xs ++ ys) ≡ carrying xs ++ carrying ys
 carrying-append [] ys = refl
@@ -84,26 +65,13 @@ pub before_terminator-ended : (bytes piece : List ℕ) (t : ℕ) → first_termi
     → before_terminator (bytes ++ piece) ≡ before_terminator bytes
 before_terminator-ended [] piece t some = absurd cc
 before_terminator-ended (byte ∷ bytes) piece t some =
-    (elim (is_terminator byte) as
-    (λ b.
-    cond b (Some byte) (first_terminator bytes) ≡ Some t
-    → cond b [] (byte ∷ before_terminator (bytes ++ piece))
-    ≡ cond b [] (byte ∷ before_terminator bytes)) [
-      | true ↦ λ is. refl
-      | false ↦ λ is. ap (λ w. byte ∷ w) (before_terminator-ended bytes piece t is)
-    ]) some
+    grind (arith, nat_tests, before_terminator-ended bytes piece t)
 
 pub first_terminator-ended : (bytes piece : List ℕ) (t : ℕ) → first_terminator bytes ≡ Some t
     → first_terminator (bytes ++ piece) ≡ Some t
 first_terminator-ended [] piece t some = absurd cc
 first_terminator-ended (byte ∷ bytes) piece t some =
-    (elim (is_terminator byte) as
-    (λ b.
-    cond b (Some byte) (first_terminator bytes) ≡ Some t
-    → cond b (Some byte) (first_terminator (bytes ++ piece)) ≡ Some t) [
-      | true ↦ λ is. is
-      | false ↦ λ is. first_terminator-ended bytes piece t is
-    ]) some
+    grind (arith, nat_tests, first_terminator-ended bytes piece t)
 
 -- ---- what a parser has read
 

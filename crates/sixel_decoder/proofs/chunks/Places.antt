@@ -8,7 +8,7 @@ use Rattle.std.proofs.lemmas.List.{drop-drop, drop_all}
 use Rattle.std.proofs.lemmas.List.Sums.{fold-append}
 use Rattle.sixel_base.specs.declared.error.SixelError.{SixelError}
 use Rattle.sixel_base.specs.Fault.{Faults}
-use Rattle.sixel_base.specs.Bytes.{is_terminator, is_ignored, is_sixel}
+use Rattle.sixel_base.specs.Bytes.{is_terminator, is_ignored}
 use Rattle.sixel_base.specs.Bytes.{front, count, first_terminator, is_terminated}
 use Rattle.sixel_base.specs.History.{History, read}
 use Rattle.sixel_base.specs.Lenient.{fault}
@@ -23,7 +23,7 @@ use Rattle.sixel_base.specs.declared.status.SixelFeedStatus.TheVariants.{NeedMor
 use Rattle.sixel_decoder.specs.inside.PayloadParser.{Reaches, Stands, StandsAfter, after}
 use Rattle.sixel_decoder.specs.inside.PayloadParser.{settled_after}
 use Rattle.sixel_decoder.specs.inside.Lenient.{HasDrawn}
-use Rattle.sixel_decoder.specs.inside.Runs.{IsPrintable, IsSixelByte}
+use Rattle.sixel_decoder.specs.inside.Runs.{IsPrintable}
 use Rattle.sixel_decoder.proofs.chunks.ParserSteps.{Faults-along, growths-closed}
 use Rattle.sixel_decoder.proofs.chunks.Reads.{whole_fault, fold_fault, growths-read, growths-fold}
 
@@ -74,13 +74,6 @@ reaches_printable o parser parser' h index piece lt is r stands =
     let byte = carried (get_or piece index 0) is in
     let splits = splits_at piece index lt in
     reaches_pushed o parser parser' h index piece _ splits byte.0 byte.1 r stands
-
--- a sixel is printable
-pub sixel_from_test : (byte : ℕ) → is_sixel byte ≡ true → IsSixelByte byte
-sixel_from_test byte test = (grind (arith, nat_tests, test), grind (arith, nat_tests, test))
-
-pub printable_from_sixel : (byte : ℕ) → is_sixel byte ≡ true → IsPrintable byte
-printable_from_sixel byte test = grind (arith, nat_tests)
 
 -- what printable bytes at the front do to the facts of a chunk
 printable_run : (n : ℕ) (bytes : List ℕ) → ((k : ℕ) → k < n → IsPrintable (get_or bytes k 0))

@@ -1,8 +1,7 @@
 -- What a feed answers beside its count and its status: a session that was accepted had no fault, a
 -- feed takes no more bytes than there are, and once the end has come it takes none.
 use Rattle.std.proofs.Common.{◌≡◌, ℕ, ◌+◌, ◌≤◌, Bool, true, false, List, [], ◌∷◌, ◌++◌, refl, ap}
-use Rattle.std.proofs.Common.{sym, ◌∙◌, arith, Option, Some, None, length}
-use Rattle.std.proofs.Common.{length-append, subst}
+use Rattle.std.proofs.Common.{sym, ◌∙◌, arith, Option, Some, None, length, length-append, subst}
 use Rattle.std.specs.Prelude.{◌==◌, nat_lt, is_none, is_some, MatchBool}
 use Rattle.std.proofs.lemmas.List.{length-drop}
 use Rattle.std.proofs.lemmas.Bool.{false≢true}
@@ -25,7 +24,7 @@ use Rattle.sixel_canvas.specs.declared.drawing.Canvas.{Ghosts}
 use Rattle.sixel_decoder.specs.declared.payload_parser.PayloadParser.{PayloadParser}
 use Rattle.sixel_decoder.specs.declared.dcs_parser.DcsState.{DcsState}
 use Rattle.sixel_decoder.specs.declared.dcs_parser.DcsState.TheVariants as states
-use Rattle.sixel_base.specs.Dcs.{Stage, Heading, Failing, Reading, introduced, stage, stage_status}
+use Rattle.sixel_base.specs.Dcs.{Stage, Heading, Failing, Reading, stage}
 use Rattle.sixel_base.specs.Dcs.{stage_count, stage_fault, after_terminator, end_count}
 use Rattle.sixel_base.specs.Dcs.{payload_count, payload_status, dcs_status, dcs_count, dcs_fault}
 use Rattle.sixel_base.specs.Dcs.{dcs_growths, has_ended, IsSameString}
@@ -34,8 +33,7 @@ use Rattle.sixel_base.proofs.ToleratedTokens.{effective-fault}
 use Rattle.sixel_decoder.specs.inside.PayloadParser.{StandsAfter}
 use Rattle.sixel_decoder.specs.inside.DcsParser.{HasFollowed, is_failed}
 use Rattle.sixel_decoder.specs.inside.PayloadReader.{HasRead}
-use Rattle.sixel_decoder.proofs.chunks.Joined.{shown_after}
-use Rattle.sixel_decoder.proofs.chunks.Joined.{before_terminator-whole}
+use Rattle.sixel_decoder.proofs.chunks.Joined.{shown_after, before_terminator-whole}
 use Rattle.sixel_decoder.proofs.dcs_sequences.Chunks.{heading, reading_fits}
 use Rattle.sixel_decoder.proofs.images.Finality.{status_ended, fed_fault_stays}
 use Rattle.sixel_decoder.proofs.images.Finality.{growths_stay, dcs_count_ended, dcs_fault_ended}
@@ -120,25 +118,12 @@ payload_count-fits : (payload : List ℕ) (o : Option ℕ) → first_terminator 
     → payload_count payload ≤ length payload
 payload_count-fits payload None none = omega (arith, count_open payload none, count-fits payload)
 payload_count-fits payload (Some t) some =
-    let after = drop-count payload t some in
-    omega (
-      arith,
-      count_at payload (after_terminator payload) t some refl,
-      end_count-fits t (after_terminator payload),
-      after.1,
-      ap length after.0,
-      length-drop (count payload + 1) payload,
-    )
+    grind (arith, nat_tests, drop-count, count_at, end_count-fits, length-drop)
 
 counted_in : (bytes : List ℕ) (w : Stage) → stage bytes ≡ w → stage_count bytes w ≤ length bytes
 counted_in bytes Heading is = omega arith
 counted_in bytes (Failing f) is = omega arith
-counted_in bytes (Reading s payload) is =
-    omega (
-      arith,
-      payload_count-fits payload (first_terminator payload) refl,
-      reading_fits bytes (introduced bytes) s payload refl is,
-    )
+counted_in bytes (Reading s payload) is = grind (arith, nat_tests, payload_count-fits, reading_fits)
 
 -- no more bytes are a string's own than there are
 pub dcs_count-fits : (bytes : List ℕ) → dcs_count bytes ≤ length bytes
@@ -182,16 +167,7 @@ count_most_by bytes piece Heading false is not =
 count_most_by bytes piece (Failing f) false is not =
     omega (arith, ap (stage_count (bytes ++ piece)) (failing_stays bytes piece f is))
 count_most_by bytes piece (Reading s payload) false is not =
-    let waiting : payload_status payload ≡ NeedMoreData =
-    sym (ap stage_status is) ∙ waits (dcs_status bytes) not in
-    omega (
-      arith,
-      ap (stage_count bytes) is,
-      waiting_count payload (first_terminator payload) refl waiting,
-      reading_fits bytes (introduced bytes) s payload refl is,
-      dcs_count-fits (bytes ++ piece),
-      length-append bytes piece,
-    )
+    grind (arith, nat_tests, waits, waiting_count, reading_fits, dcs_count-fits, length-append)
 
 -- a chunk adds at most its bytes
 pub dcs_count-most : (bytes piece : List ℕ)

@@ -19,11 +19,10 @@ use Rattle.sixel_decoder.specs.declared.dcs_parser.DcsState.{DcsState}
 use Rattle.sixel_decoder.specs.declared.dcs_parser.DcsState.TheVariants as states
 use Rattle.sixel_base.specs.Header.{Begun, Faulty, headed_by, header_rest}
 use Rattle.sixel_decoder.specs.Session.{Session}
-use Rattle.sixel_base.specs.Dcs.{Introduced, Waiting, Absent, Entered, introduced, Stage}
-use Rattle.sixel_base.specs.Dcs.{Heading, Reading, stage_after, stage_by, stage}
-use Rattle.sixel_base.specs.Dcs.{stage_status, stage_count, stage_fault, stage_growths}
-use Rattle.sixel_base.specs.Dcs.{payload_count, dcs_count, dcs_fault, dcs_growths}
-use Rattle.sixel_base.specs.Dcs.{ended_with}
+use Rattle.sixel_base.specs.Dcs.{Introduced, Waiting, Absent, Entered, introduced, Stage, Heading}
+use Rattle.sixel_base.specs.Dcs.{Reading, stage_after, stage_by, stage, stage_status, stage_count}
+use Rattle.sixel_base.specs.Dcs.{stage_fault, stage_growths, payload_count, dcs_count, dcs_fault}
+use Rattle.sixel_base.specs.Dcs.{dcs_growths, ended_with}
 use Rattle.sixel_base.specs.Limits.{Limit}
 use Rattle.sixel_decoder.specs.inside.DcsParser.{IsInPayload, HasFollowed, is_head, is_failed}
 use Rattle.sixel_decoder.specs.inside.DcsParser.{IsStageFault, GoesTo, Follows}
@@ -132,22 +131,7 @@ pub head_follows : {C : Type 0} (state : DcsState C) (decoder : DecoderState)
     → Follows (Ok (record { consumed = length piece; status = NeedMoreData })) state decoder ended
     before piece
 head_follows state decoder ended before piece start from fine head all is =
-    let whole : take start piece ≡ piece =
-    ap (λ n. take n piece) all ∙ take_all (length piece) piece (omega arith) in
-    let now : HasFollowed state decoder ended (before ++ piece) =
-    subst (λ (w : List ℕ). HasFollowed state decoder ended (before ++ w)) whole is in
-    let heads = heading state decoder ended (before ++ piece) head now in (
-      omega (
-        arith,
-        ap (stage_count before) from,
-        ap (stage_count (before ++ piece)) heads.0,
-        length-append before piece,
-      ),
-      sym (ap stage_status heads.0),
-      fine,
-      now,
-      ap (stage_fault decoder.pixel_limit) heads.0,
-    )
+    grind (arith, nat_tests, take_all, heading, length-append)
 
 -- ---- the payload begins within a chunk
 
@@ -208,17 +192,7 @@ pub entered_follows : {C : Type 0} (state : DcsState C) (decoder : DecoderState)
     → Follows (Ok (record { consumed = start + consumed; status = status })) state decoder ended
     before piece
 entered_follows state decoder ended before piece start consumed status within from counted follows =
-    grind (
-      arith,
-      cut_joins,
-      follows.0,
-      length-append,
-      length-take-le,
-      follows.1,
-      follows.2,
-      follows.3,
-      follows.4,
-    )
+    grind (arith, nat_tests, cut_joins, length-append, length-take-le)
 
 grows : (a b n : ℕ) → a ≡ 0 → IsTrue (nat_lt b n) → IsTrue (nat_lt a n)
 grows a b n none may = grind (arith, nat_tests)

@@ -10,8 +10,7 @@ use Rattle.sixel_base.specs.declared.status.SixelDcsFeedStatus.TheVariants.{Need
 use Rattle.sixel_base.specs.declared.status.SixelDcsFeedStatus.TheVariants.{Cancelled, Interrupted}
 use Rattle.sixel_base.specs.Status.{status_of}
 use Rattle.sixel_base.specs.Dcs.{after_terminator, end_status, end_count, escape_status}
-use Rattle.sixel_base.specs.Dcs.{escape_count, payload_status, payload_count}
-use Rattle.sixel_base.specs.Dcs.{ended_with, ended_by}
+use Rattle.sixel_base.specs.Dcs.{escape_count, payload_status, payload_count, ended_with, ended_by}
 use Rattle.sixel_decoder.specs.inside.DcsParser.{GoesTo}
 use Rattle.sixel_decoder.proofs.chunks.Joined.{count-append, first_terminator-append}
 use Rattle.sixel_decoder.proofs.chunks.Joined.{first_terminator-ended, before_terminator-ended}
@@ -88,26 +87,17 @@ pub goes_to_end :
     → more ≡ end_count t rest → status ≡ end_status t rest
     → GoesTo payload (payload ++ piece) (record { consumed = consumed + more; status = status })
 goes_to_end payload piece rest t start consumed more status ended first counted is begins counts
-    stands =
-    let none : first_terminator payload ≡ None =
-    none_by (first_terminator payload) (after_terminator payload) (sym ended) in
-    let here : first_terminator piece ≡ Some t =
-    sym (first_terminator-append payload piece none) ∙ first in
-    let same : consumed ≡ count piece = omega (arith, count-append payload piece none, counted) in
-    let follows = drop-count piece t here in
-    let at : start ≡ count piece + 1 =
-    begins (omega (arith, same, follows.1)) ∙ ap (λ n. n + 1) same in
-    let after : after_terminator (payload ++ piece) ≡ rest =
-    after_terminator-none payload piece none
-    ∙ (sym follows.0 ∙ (ap (λ n. drop n piece) (sym at) ∙ sym is)) in (
-      omega (
-        arith,
-        count_open payload none,
-        count_at (payload ++ piece) rest t first after,
-        counted,
-        counts,
-      ),
-      stands ∙ sym (status_at (payload ++ piece) rest t first after),
+    stands = grind (
+      arith,
+      nat_tests,
+      none_by,
+      first_terminator-append,
+      count-append,
+      drop-count,
+      after_terminator-none,
+      count_open,
+      count_at,
+      status_at,
     )
 
 escape_ends : (t : ℕ) (rest : List ℕ) → (t == 27) ≡ true
@@ -121,26 +111,18 @@ goes_after_escape : (payload piece : List ℕ) (t consumed more : ℕ) (status :
     → count payload + consumed ≡ count (payload ++ piece)
     → more + 1 ≡ escape_count piece → status ≡ escape_status piece
     → GoesTo payload (payload ++ piece) (record { consumed = consumed + more; status = status })
-goes_after_escape payload piece t consumed more status ended first counted counts stands =
-    let was =
-    some_by (first_terminator payload) (after_terminator payload) NeedMoreData (sym ended) in
-    let waits = escape_waits was.0 (after_terminator payload) was.2 in
-    let now = first_terminator-ended payload piece was.0 was.1 in
-    let after : after_terminator (payload ++ piece) ≡ piece =
-    after_terminator-some payload piece was.0 was.1 ∙ ap (λ w. w ++ piece) waits.1 in
-    let then = escape_ends was.0 piece waits.0 in (
-      omega (
-        arith,
-        counted,
-        ap length (before_terminator-ended payload piece was.0 was.1),
-        counts,
-        count_at payload [] was.0 was.1 waits.1,
-        (escape_ends was.0 [] waits.0).0,
-        count_at (payload ++ piece) piece was.0 now after,
-        then.0,
-      ),
-      stands ∙ sym (status_at (payload ++ piece) piece was.0 now after ∙ then.1),
-    )
+goes_after_escape payload piece t consumed more status ended first counted counts stands = grind (
+  arith,
+  nat_tests,
+  some_by,
+  escape_waits,
+  first_terminator-ended,
+  after_terminator-some,
+  escape_ends,
+  before_terminator-ended,
+  count_at,
+  status_at,
+)
 
 -- the string had ended before the chunk
 goes_ended : (payload piece : List ℕ) (consumed more : ℕ) (before status : SixelDcsFeedStatus)

@@ -1,18 +1,16 @@
 -- What finishing a DCS sequence in its payload returns.
-use Rattle.std.proofs.Common.{◌≡◌, ℕ, Bool, true, false, List, ◌++◌, refl, ap, sym, ◌∙◌, Option}
-use Rattle.std.proofs.Common.{Some, None, Result, Ok, Err}
-use Rattle.std.specs.Prelude.{◌&&◌, ◌||◌, is_some, if◌then◌else◌}
+use Rattle.std.proofs.lemmas.Bool.Decides.{nat_tests}
+use Rattle.std.proofs.Common.{arith, ◌≡◌, ℕ, Bool, true, false, List, ◌++◌, refl, ap, sym, ◌∙◌}
+use Rattle.std.proofs.Common.{Option, Some, None, Result, Ok, Err}
+use Rattle.std.specs.Prelude.{◌&&◌, ◌||◌, if◌then◌else◌}
 use Rattle.sixel_base.specs.declared.error.SixelError.{SixelError}
-use Rattle.sixel_base.specs.Bytes.{front, first_terminator}
-use Rattle.sixel_base.specs.History.{history_of}
-use Rattle.sixel_base.specs.Payload.{Image, closed, fed_fault, first_fault, payload_fault}
+use Rattle.sixel_base.specs.Bytes.{first_terminator}
+use Rattle.sixel_base.specs.Payload.{Image, fed_fault, payload_fault}
 use Rattle.sixel_base.specs.Settings.{Settings}
 use Rattle.sixel_base.specs.declared.state.DecoderState.{DecoderState}
 use Rattle.sixel_base.specs.declared.status.SixelDcsFeedStatus.{SixelDcsFeedStatus}
-use Rattle.sixel_base.specs.Dcs.{Stage, stage_status, stage_in_payload, after_terminator}
-use Rattle.sixel_base.specs.Dcs.{payload_status_by, dcs_status, dcs_in_payload, ended_by, has_ended}
-use Rattle.sixel_base.specs.Dcs.{can_finish, has_come}
-use Rattle.sixel_base.specs.Lenient.{fault}
+use Rattle.sixel_base.specs.Dcs.{Stage, stage_in_payload, payload_status_by, dcs_status, ended_by}
+use Rattle.sixel_base.specs.Dcs.{has_ended, can_finish, has_come}
 use Rattle.sixel_base.specs.Limits.{Limit}
 use Rattle.sixel_base.specs.OneShot.{Payload, IsDecodedAs}
 use Rattle.sixel_base.specs.OneShot as one_shot
@@ -36,20 +34,13 @@ pub string_ended :
     (reader : Session) (decoder : DecoderState) (ended : Option SixelDcsFeedStatus) (bytes : List ℕ)
     → IsInPayload reader decoder ended bytes
     → has_ended (dcs_status bytes) ≡ has_come ended
-string_ended reader decoder ended bytes is =
-    ap (λ w. has_ended (stage_status w)) is.reading
-    ∙ has_come-ended (first_terminator reader.bytes) (after_terminator reader.bytes)
-    ∙ ap has_come (sym is.ending)
+string_ended reader decoder ended bytes is = grind (arith, nat_tests, has_come-ended)
 
 pub sound_by : (limit : Limit) (payload rest : List ℕ) (o : Option ℕ) → first_terminator payload ≡ o
     → has_come (ended_by o rest) ≡ true
     → fed_fault limit payload ≡ None → payload_fault limit payload ≡ None
 sound_by limit payload rest None is come sound = absurd cc
-sound_by limit payload rest (Some t) is come sound =
-    ap (λ (w : Option ℕ).
-    fault limit
-    (if is_some w then history_of (front payload) else closed (history_of (front payload))))
-    (sym is) ∙ sound
+sound_by limit payload rest (Some t) is come sound = grind (arith, nat_tests)
 
 -- whether a string in its payload can be finished
 or_lenient : (lenient come : Bool) → (lenient && true) || come ≡ come || lenient
@@ -72,21 +63,7 @@ pub finish_sound : (reader : Session) (decoder : DecoderState)
     (ended : Option SixelDcsFeedStatus) (bytes : List ℕ) → IsInPayload reader decoder ended bytes
     → can_finish decoder.pixel_limit bytes ≡ true
     → payload_fault decoder.pixel_limit reader.bytes ≡ None
-finish_sound reader decoder ended bytes is =
-    let limit : Limit = decoder.pixel_limit in
-    (elim limit.lenient as
-    (λ t. limit.lenient ≡ t
-    → (t && dcs_in_payload bytes) || has_ended (dcs_status bytes) ≡ true
-    → payload_fault limit reader.bytes ≡ None) [
-      | true ↦ λ on finishes.
-          ap (λ (t : Bool). if t then None else first_fault limit
-          (history_of (front reader.bytes))) on
-      | false ↦ λ off over.
-          sound_by limit reader.bytes (after_terminator reader.bytes)
-          (first_terminator reader.bytes) refl
-          (ap has_come (sym is.ending)
-          ∙ (sym (string_ended reader decoder ended bytes is) ∙ over)) is.faultless
-    ]) refl
+finish_sound reader decoder ended bytes is = grind (arith, nat_tests, sound_by, string_ended)
 
 -- ---- the image of a sequence is that of its payload
 
@@ -134,20 +111,7 @@ finished_in image_of registers_of payload image (Ok done) is form accepted finis
       refused = λ settings e of_payload. absurd (not_payload image.form settings form of_payload);
     }
 finished_in image_of registers_of payload image (Err e) is form accepted finishes sound told =
-    let refused : image.is_refused ≡ false = sym is.refused ∙ accepted in
-    record {
-      image = tt;
-      registers = tt;
-      found_image = tt;
-      found_registers = tt;
-      as_decoded = λ more. tt;
-      area = tt;
-      faultless = tt;
-      accepted = tt;
-      ended = tt;
-      error = rw (refused, form, finishes) (rw (accepted, sound) at told.error);
-      refused = λ settings e of_payload. absurd (not_payload image.form settings form of_payload);
-    }
+    grind (arith, nat_tests, not_payload)
 
 pub taken_in : (payload : Session) (image : Reception) (result : Result DecodedPayload SixelError)
     → IsPayloadOf payload image → image.form ≡ OfString → payload.is_refused ≡ false

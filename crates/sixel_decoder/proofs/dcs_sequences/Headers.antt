@@ -1,6 +1,6 @@
 -- The stage of a DCS sequence after further bytes.
 use Rattle.std.proofs.Common.{◌≡◌, ℕ, true, false, cond, List, [], ◌∷◌, ◌++◌, refl, ap, sym, ◌∙◌}
-use Rattle.std.proofs.Common.{subst}
+use Rattle.std.proofs.Common.{subst, arith}
 use Rattle.std.specs.Prelude.{IsSomeAnd}
 use Rattle.std.proofs.lemmas.List.{append-nil}
 use Rattle.sixel_base.specs.declared.error.SixelError.{SixelError}
@@ -12,9 +12,7 @@ use Rattle.sixel_base.specs.Header.{header_text, settings_of, command_fault}
 use Rattle.sixel_decoder.specs.declared.header.Header as headers
 use Rattle.sixel_decoder.specs.inside.DcsParser.{IsInHeader, IsStageFault}
 use Rattle.sixel_decoder.proofs.chunks.Joined.{carrying-append}
-use Rattle.sixel_base.specs.Dcs.{Entered, introduced, Stage, Reading}
-use Rattle.sixel_base.specs.Dcs.{stage_after, stage}
-use Rattle.std.proofs.Common.{arith}
+use Rattle.sixel_base.specs.Dcs.{Entered, introduced, Stage, Reading, stage_after, stage}
 use Rattle.std.proofs.lemmas.Bool.Decides.{nat_tests}
 
 -- ---- a header goes on
@@ -23,27 +21,12 @@ use Rattle.std.proofs.lemmas.Bool.Decides.{nat_tests}
 pub header_rest-open : (rest more : List ℕ) → header_rest rest ≡ []
     → header_rest (rest ++ more) ≡ header_rest more
 header_rest-open [] more going = refl
-header_rest-open (byte ∷ rest) more going =
-    (elim (is_header byte) as
-    (λ t.
-    cond t (header_rest rest) (byte ∷ rest) ≡ []
-    → cond t (header_rest (rest ++ more)) (byte ∷ (rest ++ more)) ≡ header_rest more) [
-      | true ↦ λ is. header_rest-open rest more is
-      | false ↦ λ never. absurd cc
-    ]) going
+header_rest-open (byte ∷ rest) more going = grind (arith, nat_tests, header_rest-open rest more)
 
 header_front-open : (rest more : List ℕ) → header_rest rest ≡ []
     → header_front (rest ++ more) ≡ header_front rest ++ header_front more
 header_front-open [] more going = refl
-header_front-open (byte ∷ rest) more going =
-    (elim (is_header byte) as
-    (λ t.
-    cond t (header_rest rest) (byte ∷ rest) ≡ []
-    → cond t (byte ∷ header_front (rest ++ more)) []
-    ≡ cond t (byte ∷ header_front rest) [] ++ header_front more) [
-      | true ↦ λ is. ap (λ w. byte ∷ w) (header_front-open rest more is)
-      | false ↦ λ never. absurd cc
-    ]) going
+header_front-open (byte ∷ rest) more going = grind (arith, nat_tests, header_front-open rest more)
 
 pub header_text-open : (rest more : List ℕ) → header_rest rest ≡ []
     → header_text (rest ++ more) ≡ header_text rest ++ header_text more
@@ -55,25 +38,13 @@ pub header_rest-ended : (rest more tail : List ℕ) (byte : ℕ) → header_rest
     → header_rest (rest ++ more) ≡ byte ∷ (tail ++ more)
 header_rest-ended [] more tail byte ended = absurd cc
 header_rest-ended (b ∷ rest) more tail byte ended =
-    (elim (is_header b) as
-    (λ t.
-    cond t (header_rest rest) (b ∷ rest) ≡ byte ∷ tail
-    → cond t (header_rest (rest ++ more)) (b ∷ (rest ++ more)) ≡ byte ∷ (tail ++ more)) [
-      | true ↦ λ is. header_rest-ended rest more tail byte is
-      | false ↦ λ is. ap (λ w. w ++ more) is
-    ]) ended
+    grind (arith, nat_tests, header_rest-ended rest more tail byte)
 
 pub header_front-ended : (rest more tail : List ℕ) (byte : ℕ) → header_rest rest ≡ byte ∷ tail
     → header_front (rest ++ more) ≡ header_front rest
 header_front-ended [] more tail byte ended = absurd cc
 header_front-ended (b ∷ rest) more tail byte ended =
-    (elim (is_header b) as
-    (λ t.
-    cond t (header_rest rest) (b ∷ rest) ≡ byte ∷ tail
-    → cond t (b ∷ header_front (rest ++ more)) [] ≡ cond t (b ∷ header_front rest) []) [
-      | true ↦ λ is. ap (λ w. b ∷ w) (header_front-ended rest more tail byte is)
-      | false ↦ λ is. refl
-    ]) ended
+    grind (arith, nat_tests, header_front-ended rest more tail byte)
 
 -- ---- stages
 

@@ -1,7 +1,6 @@
 -- The payload of a DCS sequence is that of decoding its bytes in one call.
-use Rattle.std.proofs.Common.{◌≡◌, ℕ, true, false, cond, List, [], ◌∷◌, refl, ap, ◌∙◌}
-use Rattle.std.proofs.Common.{Some}
-use Rattle.std.specs.Prelude.{◌==◌, ◌&&◌}
+use Rattle.std.proofs.lemmas.Bool.Decides.{nat_tests}
+use Rattle.std.proofs.Common.{arith, ◌≡◌, ℕ, true, List, [], ◌∷◌, refl, ap, ◌∙◌, Some}
 use Rattle.sixel_base.specs.Settings.{Settings}
 use Rattle.sixel_base.specs.Header.{Headed, Open, Begun, Faulty, headed}
 use Rattle.sixel_base.specs.OneShot.{begins_with_p, without_first, after_introducer, found}
@@ -12,33 +11,12 @@ use Rattle.sixel_base.specs.Dcs.{stage_after, stage_by, stage}
 escaped_introducer : (bytes rest : List ℕ) → escaped bytes ≡ Entered rest
     → (begins_with_p bytes ≡ true) × (without_first bytes ≡ rest)
 escaped_introducer [] rest is = absurd cc
-escaped_introducer (byte ∷ bytes) rest is =
-    (elim (byte == 80) as
-    (λ t. cond t (Entered bytes) Absent ≡ Entered rest → (t ≡ true) × (bytes ≡ rest)) [
-      | true ↦ λ e. (refl, cc)
-      | false ↦ λ e. absurd cc
-    ]) is
+escaped_introducer (byte ∷ bytes) rest is = grind (arith, nat_tests)
 
 introduced_introducer : (bytes rest : List ℕ) → introduced bytes ≡ Entered rest
     → after_introducer bytes ≡ Some rest
 introduced_introducer [] rest is = absurd cc
-introduced_introducer (byte ∷ bytes) rest is =
-    (elim (byte == 0x90) as (λ t. cond t (Entered bytes) (cond (byte == 27) (escaped bytes) Absent)
-    ≡ Entered rest
-    → cond t (Some bytes)
-    (cond (byte == 27 && begins_with_p bytes) (Some (without_first bytes)) (after_introducer bytes))
-    ≡ Some rest) [
-      | true ↦ λ e. cc
-      | false ↦ elim (byte == 27) as (λ t. cond t (escaped bytes) Absent ≡ Entered rest
-          → cond (t && begins_with_p bytes) (Some (without_first bytes)) (after_introducer bytes)
-          ≡ Some rest) [
-            | true ↦ λ e.
-                let p = escaped_introducer bytes rest e in
-                ap (λ t. cond t (Some (without_first bytes)) (after_introducer bytes)) p.0
-                ∙ ap Some p.1
-            | false ↦ λ e. absurd cc
-          ]
-    ]) is
+introduced_introducer (byte ∷ bytes) rest is = grind (arith, nat_tests, escaped_introducer)
 
 found_after : (rest : List ℕ) (h : Headed) (s : Settings) (payload : List ℕ)
     → stage_after rest h ≡ Reading s payload → found_by rest h ≡ Payload s payload

@@ -1,13 +1,12 @@
 -- What the runs of a history have cost a canvas of one band, against its sixels and its bands.
-use Rattle.std.proofs.Common.{◌≡◌, ℕ, ◌+◌, ◌*◌, ◌<◌, ◌≤◌, ◌∷◌, [], None, refl}
-use Rattle.std.proofs.Common.{Some, arith}
+use Rattle.std.proofs.Common.{◌≡◌, ℕ, ◌+◌, ◌*◌, ◌<◌, ◌≤◌, ◌∷◌, [], None, refl, Some, arith}
 use Rattle.std.proofs.lemmas.Nat.{mul-le}
 use Rattle.sixel_base.specs.History.{History}
 use Rattle.sixel_base.specs.Limits.{Limit}
 use Rattle.sixel_base.specs.Clip.{clipped_height, clipped_width}
 use Rattle.sixel_base.specs.Payload.{first_fault}
 use Rattle.sixel_base.specs.PaintedArea.{size}
-use Rattle.sixel_base.specs.Place.{down, span}
+use Rattle.sixel_base.specs.Place.{span}
 use Rattle.sixel_canvas.specs.inside.BandCanvas.{AreMoved, BandCanvasState, IsPaid}
 use Rattle.sixel_canvas.specs.inside.Drawn.{drawn_columns, least_moved, lowest_top, right_edge}
 use Rattle.sixel_canvas.specs.inside.Drawn.{band_edge as runs_edge, runs_cost, runs_paint}
@@ -57,15 +56,14 @@ pub band_cost : (limit : Limit) (cap painted extent tagged top : ℕ) (h : Histo
     → first_fault limit h ≡ None → IsPaid cap painted extent tagged top (runs_of limit h)
     → (painted ≤ 2 * band_columns limit h + most_run_paints * sixels h)
     × (6 * cap ≤ band_room limit h) × (least_band_count limit h ≤ painted)
-band_cost limit cap painted extent tagged top h faultless paid =
-    grind (
-      arith,
-      nat_tests,
-      band_columns-history,
-      runs_paint-history,
-      right_edge-history,
-      runs_cost-history,
-    )
+band_cost limit cap painted extent tagged top h faultless paid = grind (
+  arith,
+  nat_tests,
+  band_columns-history,
+  runs_paint-history,
+  right_edge-history,
+  runs_cost-history,
+)
 
 -- the width after raster attributes
 named_width-history : (limit : Limit) (h : History) → named_width limit h ≤ clipped_width limit h
@@ -94,14 +92,13 @@ rows_above-history limit (token ∷ h) top =
 least_moved-history : (limit : Limit) (named released : ℕ) (h : History)
     → least_row_writes limit named released h ≤ least_moved named released (runs_of limit h)
 least_moved-history limit named released [] = omega arith
-least_moved-history limit named released (token ∷ h) =
-    grind (
-      arith,
-      nat_tests,
-      least_moved-history limit named released h,
-      right_edge-history limit h,
-      rows_above-history limit h (down h),
-    )
+least_moved-history limit named released (token ∷ h) = grind (
+  arith,
+  nat_tests,
+  right_edge-history,
+  rows_above-history,
+  least_moved-history limit named released h,
+)
 
 -- What these tokens have made a canvas of one band write as its rows became wider.
 pub band_moved : (limit : Limit) (canvas : BandCanvasState) (h : History)

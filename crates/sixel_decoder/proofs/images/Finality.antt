@@ -20,10 +20,9 @@ use Rattle.sixel_base.specs.OneShot.{Payload, found, found_fault, IsFoundImage, 
 use Rattle.sixel_decoder.proofs.chunks.ParserSteps.{growths-closed}
 use Rattle.sixel_decoder.proofs.chunks.Reads.{whole_fault, fold_fault, growths-fold}
 use Rattle.sixel_decoder.proofs.chunks.Joined.{front-append, first_terminator-ended}
-use Rattle.sixel_decoder.proofs.chunks.Joined.{before_terminator-ended}
+use Rattle.sixel_decoder.proofs.chunks.Joined.{before_terminator-ended, settled_open}
 use Rattle.sixel_decoder.proofs.dcs_sequences.Terminators.{after_terminator-some, end_stays}
-use Rattle.sixel_decoder.proofs.dcs_sequences.Terminators.{stage_reading}
-use Rattle.sixel_decoder.proofs.dcs_sequences.Terminators.{failing_stays}
+use Rattle.sixel_decoder.proofs.dcs_sequences.Terminators.{stage_reading, failing_stays}
 use Rattle.sixel_decoder.proofs.dcs_sequences.Payloads.{found_reading}
 use Rattle.std.proofs.lemmas.Bool.Decides.{nat_tests}
 
@@ -46,10 +45,6 @@ settled_ended bytes more t is = grind (arith, first_terminator-ended, before_ter
 pub history_more : (bytes more : List ℕ) → first_terminator bytes ≡ None
     → history_of (front (bytes ++ more)) ≡ fold read (history_of (front bytes)) (front more)
 history_more bytes more none = grind (arith, nat_tests, front-append, fold-append)
-
-pub settled_open : (bytes : List ℕ) → first_terminator bytes ≡ None
-    → settled bytes ≡ closed (history_of (front bytes))
-settled_open bytes none = grind (arith, nat_tests)
 
 -- what holds of the closed tokens and of all holds of those that are settled
 pub of_settled : (P : History → Type 0) (bytes : List ℕ) → P (history_of (front bytes))
@@ -94,14 +89,7 @@ ends_in_at : (bytes : List ℕ) (s : Settings) (payload : List ℕ) (o : Option 
     → stage bytes ≡ Reading s payload → first_terminator payload ≡ o
     → has_ended (payload_status_by o (after_terminator payload)) ≡ true → EndsIn bytes
 ends_in_at bytes s payload None reading first ended = absurd cc
-ends_in_at bytes s payload (Some t) reading first ended = record {
-  settings = s;
-  payload = payload;
-  terminator = t;
-  reading = reading;
-  first = first;
-  over = λ waits. grind (arith, nat_tests);
-}
+ends_in_at bytes s payload (Some t) reading first ended = grind (arith, nat_tests)
 
 ends_in_by : (bytes : List ℕ) (w : Stage) → stage bytes ≡ w → has_ended (stage_status w) ≡ true
     → EndsIn bytes

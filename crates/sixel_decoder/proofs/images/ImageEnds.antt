@@ -1,8 +1,7 @@
 -- Which bytes belong to an image as more bytes come, and that they are those of its contract where
 -- it has no fault.
-use Rattle.std.proofs.Common.{◌≡◌, ℕ, ◌+◌, ◌≤◌, true, false, List, [], ◌∷◌}
-use Rattle.std.proofs.Common.{◌++◌, refl, ap, sym, ◌∙◌, arith, Some, None, length, drop}
-use Rattle.std.proofs.Common.{length-append, length-drop}
+use Rattle.std.proofs.Common.{◌≡◌, ℕ, ◌+◌, ◌≤◌, true, false, List, [], ◌∷◌, ◌++◌, refl, ap, sym}
+use Rattle.std.proofs.Common.{◌∙◌, arith, Some, None, length, drop, length-append, length-drop}
 use Rattle.std.specs.Prelude.{nat_lt, Option}
 use Rattle.std.proofs.lemmas.Bool.Decides.{nat_tests}
 use Rattle.sixel_base.specs.declared.error.SixelError.{SixelError}
@@ -11,12 +10,11 @@ use Rattle.sixel_base.specs.declared.status.SixelDcsFeedResult.{SixelDcsFeedResu
 use Rattle.sixel_base.specs.declared.status.SixelDcsFeedStatus.{SixelDcsFeedStatus}
 use Rattle.sixel_base.specs.declared.status.SixelDcsFeedStatus.TheVariants.{NeedMoreData}
 use Rattle.sixel_base.specs.Bytes.{count, first_terminator}
-use Rattle.sixel_base.specs.Dcs.{Introduced, Waiting, Absent, Entered, introduced, Stage}
-use Rattle.sixel_base.specs.Dcs.{Heading, Failing, Reading, stage_after, stage_by, stage}
-use Rattle.sixel_base.specs.Dcs.{stage_count, stage_status, stage_fault, after_terminator}
-use Rattle.sixel_base.specs.Dcs.{ended_with, payload_count}
-use Rattle.sixel_base.specs.Dcs.{payload_status, dcs_count, dcs_status}
-use Rattle.sixel_base.specs.Dcs.{dcs_fault, dcs_growths, escape_count, escape_status}
+use Rattle.sixel_base.specs.Dcs.{Introduced, Waiting, Absent, Entered, introduced, Stage, Heading}
+use Rattle.sixel_base.specs.Dcs.{Failing, Reading, stage_after, stage_by, stage, stage_count}
+use Rattle.sixel_base.specs.Dcs.{stage_status, stage_fault, after_terminator, ended_with}
+use Rattle.sixel_base.specs.Dcs.{payload_count, payload_status, dcs_count, dcs_status, dcs_fault}
+use Rattle.sixel_base.specs.Dcs.{dcs_growths, escape_count, escape_status}
 use Rattle.sixel_base.specs.Fault.{Faults}
 use Rattle.sixel_base.specs.Header.{headed_by, header_rest}
 use Rattle.sixel_base.specs.Limits.{Limit}
@@ -85,18 +83,15 @@ pub extends : (bytes chunk : List ℕ) (start : ℕ) (fed : SixelDcsFeedResult)
     → (ended ≡ ended_with (inside (bytes ++ chunk)))
     × Extends OfString bytes (bytes ++ chunk) chunk
     (record { consumed = start + fed.consumed; status = Dcs fed.status })
-extends bytes chunk start fed ended within later first goes is =
-    grind (
-      arith,
-      nat_tests,
-      inside-append,
-      goes.0,
-      length-append,
-      length-drop,
-      inside_fits,
-      payload_count-most,
-      goes.1,
-    )
+extends bytes chunk start fed ended within later first goes is = grind (
+  arith,
+  nat_tests,
+  inside-append,
+  length-append,
+  length-drop,
+  inside_fits,
+  payload_count-most,
+)
 
 -- ---- without a fault they are the bytes of the sequence
 
@@ -170,14 +165,8 @@ heads_end state decoder ended bytes head is =
 pub end_of : {C : Type 0} (state : DcsState C) (decoder : DecoderState)
     (ended : Option SixelDcsFeedStatus) (bytes : List ℕ) → HasFollowed state decoder ended bytes
     → IsEnd (is_begun state) ended bytes
-end_of {C} states.Start decoder ended bytes is = record {
-  begun = ap (λ w. nat_lt 0 (length w)) (sym is.0);
-  ended = heads_end {C = C} states.Start decoder ended bytes refl is;
-}
-end_of {C} states.Escape decoder ended bytes is = record {
-  begun = ap (λ w. nat_lt 0 (length w)) (sym is.0);
-  ended = heads_end {C = C} states.Escape decoder ended bytes refl is;
-}
+end_of {C} states.Start decoder ended bytes is = grind (arith, nat_tests, heads_end)
+end_of {C} states.Escape decoder ended bytes is = grind (arith, nat_tests, heads_end)
 end_of {C} (states.Header header) decoder ended bytes is = record {
   begun = entered_some bytes is.0.rest is.0.entered;
   ended = heads_end {C = C} (states.Header header) decoder ended bytes refl is;

@@ -15,8 +15,8 @@ use Rattle.sixel_base.specs.Settings.{Settings}
 use Rattle.sixel_base.specs.Stroke.{Origin, pixel}
 use Rattle.sixel_decoder.specs.FinalRows.{payload_final_rows, stage_final_rows, dcs_final_rows}
 use Rattle.sixel_decoder.proofs.chunks.Reads.{closed-longer}
-use Rattle.sixel_decoder.proofs.images.Finality.{history_more, settled_open, of_settled}
-use Rattle.sixel_decoder.proofs.images.Finality.{settled_ended}
+use Rattle.sixel_decoder.proofs.chunks.Joined.{settled_open}
+use Rattle.sixel_decoder.proofs.images.Finality.{history_more, of_settled, settled_ended}
 use Rattle.sixel_decoder.proofs.images.Finality.{front_ended}
 use Rattle.sixel_decoder.proofs.dcs_sequences.Terminators.{stage_reading}
 

@@ -20,7 +20,11 @@ impl<C: Canvas + Drop> Painter<C> {
         ensures shows { (o : Origin) (h : History) → Shows o self.old h → Shows o self.new h }
         ensures released { C.released self.new.canvas ≡ C.released self.old.canvas }
     {
-        self.ready = if left < 8 && self.is_single_above_bottom() {
+        self.ready = if left < 8
+            && self.repeat == 1
+            && self.clipped_height >= 6
+            && self.canvas.top() <= self.clipped_height - 6
+        {
             self.clipped_width.min(self.canvas.held())
         } else {
             0

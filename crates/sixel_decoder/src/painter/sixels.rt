@@ -32,7 +32,11 @@ impl<C: Canvas + Drop> Painter<C> {
         ensures released { OnOk result
             (C.released self.new.canvas ≡ C.released self.old.canvas) }
     {
-        if bytes.len() >= 8 && self.is_single_above_bottom() {
+        if bytes.len() >= 8
+            && self.repeat == 1
+            && self.clipped_height >= 6
+            && self.canvas.top() <= self.clipped_height - 6
+        {
             let front = FrontSixels::of(bytes);
             let len = front.len;
             if len > 0 && self.column + len <= self.clipped_width {
@@ -72,14 +76,5 @@ impl<C: Canvas + Drop> Painter<C> {
     {
         self.ready = 0;
         self.repeat = 1;
-    }
-
-    /// Whether the next sixel has one column and does not pass the bottom of the clipped image.
-    #[inline(always)]
-    pub(super) fn is_single_above_bottom(&self) -> bool
-        ensures single { IsTrue result → self.now.repeat ≡ 1 }
-        ensures above_bottom { IsTrue result → C.top self.now.canvas + 6 ≤ self.now.clipped_height }
-    {
-        self.repeat == 1 && self.clipped_height >= 6 && self.canvas.top() <= self.clipped_height - 6
     }
 }

@@ -34,12 +34,6 @@ head-preserved g c = (
   c.in_ok-step.ensures.released ∙ c.head.invariant.3,
 )
 
-pub returns-then-not-is_head-clause-heads : goal.returns-then-not-is_head-clause-heads
-returns-then-not-is_head-clause-heads g c = grind (arith, nat_tests)
-
-pub returns-clause-heads : goal.returns-clause-heads
-returns-clause-heads g c = grind (arith, nat_tests)
-
 pub returns-in_err-step-clause-heads : goal.returns-in_err-step-clause-heads
 returns-in_err-step-clause-heads g c = λ before fine followed.
     let chunk = c.args.chunk.now in

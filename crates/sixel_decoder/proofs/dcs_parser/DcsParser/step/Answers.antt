@@ -11,17 +11,6 @@ use Rattle.sixel_decoder.specs.declared.dcs_parser.DcsState.{DcsState}
 use Rattle.sixel_decoder.proofs.dcs_sequences.Headers.{header_goes_on, header_begins}
 use Rattle.sixel_decoder.proofs.dcs_sequences.Headers.{header_refuses}
 use Rattle.sixel_decoder.proofs.dcs_parser.DcsParser.step.Goals as goal
-use Rattle.std.proofs.Common.{arith}
-use Rattle.std.proofs.lemmas.Bool.Decides.{nat_tests}
-
-pub returns-in-27-clause-steps : goal.returns-in-27-clause-steps
-returns-in-27-clause-steps g c = grind (arith, nat_tests)
-
-pub returns-in-144-clause-steps : goal.returns-in-144-clause-steps
-returns-in-144-clause-steps g c = grind (arith, nat_tests)
-
-pub returns-in-80-clause-steps : goal.returns-in-80-clause-steps
-returns-in-80-clause-steps g c = grind (arith, nat_tests)
 
 pub returns-in-Ok-None-clause-steps : goal.returns-in-Ok-None-clause-steps
 returns-in-Ok-None-clause-steps g c = λ before head is.

@@ -18,7 +18,6 @@ returns-then-self-len-clause-tolerates g c = λ o h state.
     let len : ℕ = c.of-front.result.len in
     let eight : List ℕ = c.of-front.result.bits in
     let front = c.of-front.ensures in
-    let single = c.is_single_above_bottom.ensures in
     let drawn = c.in_ok-draw_eight.ensures in
     let within : len ≤ length bytes = omega (arith, front.few, c.if-bytes-ge8.true) in
     let sixels : List ℕ = take len eight in
@@ -30,9 +29,9 @@ returns-then-self-len-clause-tolerates g c = λ o h state.
     ∙ ap (with_sixels older) (sym front.bits) in
     has_drawn_front o _ _ h len bytes within front.sixels
     (Shows-eight o older (fold read older (take len bytes)) old _ sixels eight whole state.shows
-    (single.single c.if-is_single_above_bottom.true)
+    (omega arith)
     (omega (arith, long, c.if-self-len.true))
-    (single.above_bottom c.if-is_single_above_bottom.true)
+    (omega (arith, c.top.ensures))
     (omega (arith, long, front.few))
     (ap (λ (n : ℕ). take n eight) long)
     (λ k past. front.blank k (omega (arith, past, long)))

@@ -1,17 +1,15 @@
-use Rattle.std.proofs.Common.{◌≡◌, ◌-◌, ◌∷◌, ℕ, true, get_or, subst, sym, ◌∙◌, arith}
+use Rattle.std.proofs.Common.{◌≡◌, ◌-◌, ◌∷◌, ℕ, true, get_or, subst, sym, ◌∙◌, arith, rules}
 use Rattle.std.specs.Prelude.{◌⊎◌}
 use Rattle.std.proofs.lemmas.Result.{err_from_is_err_and}
 use Rattle.sixel_base.specs.Fault.{Faults}
 use Rattle.sixel_base.specs.History.{Sixel}
 use Rattle.sixel_base.specs.Lenient.{fault}
-use Rattle.sixel_base.specs.Bytes.{is_sixel}
-use Rattle.sixel_decoder.specs.inside.Runs.{IsPrintable}
+use Rattle.sixel_decoder.specs.inside.Runs.{IsPrintable, IsSixelByte}
 use Rattle.sixel_decoder.proofs.chunks.Places.{feeds_refused, feeds_refused_end}
 use Rattle.sixel_decoder.proofs.chunks.Places.{feeds_refused_printable, feeds_terminated}
-use Rattle.sixel_decoder.proofs.chunks.Places.{feeds_whole}
-use Rattle.sixel_decoder.proofs.chunks.Places.{first_ahead, printable_from_sixel, reaches_ignored}
+use Rattle.sixel_decoder.proofs.chunks.Places.{feeds_whole, first_ahead, reaches_ignored}
 use Rattle.sixel_decoder.proofs.chunks.Places.{reaches_pushed, reaches_read, reads_before}
-use Rattle.sixel_decoder.proofs.chunks.Places.{reads_whole, sixel_from_test, splits_at}
+use Rattle.sixel_decoder.proofs.chunks.Places.{reads_whole, splits_at}
 use Rattle.sixel_decoder.proofs.chunks.ParserSteps.{refused_close}
 use Rattle.sixel_decoder.proofs.chunks.OpenCommands.{goes_on_numbered}
 use Rattle.sixel_decoder.proofs.drawing.SixelRuns.{Stands-run, goes_on_byte, refused_sixel}
@@ -26,6 +24,10 @@ use Rattle.std.proofs.lemmas.Bool.Decides.{nat_tests}
 numbered_printable : (byte : ℕ) → (byte ≡ 33) ⊎ (byte ≡ 35) → IsPrintable byte
 numbered_printable byte h = grind (arith, nat_tests)
 
+-- and so is a sixel
+sixel_printable : (byte : ℕ) → IsSixelByte byte → IsPrintable byte
+sixel_printable byte h = grind (arith, nat_tests)
+
 -- ---- a sixel
 
 pub draw_sixels-requires-clause-some : goal.draw_sixels-requires-clause-some
@@ -33,25 +35,23 @@ draw_sixels-requires-clause-some g c = grind (arith, c.tail.ensures, splits_at, 
 
 pub draw_sixels-requires-clause-sixel : goal.draw_sixels-requires-clause-sixel
 draw_sixels-requires-clause-sixel g c =
-    let byte = get_or c.args.chunk.now c.bytes.index 0 in
-    rw (c.tail.ensures, splits_at c.args.chunk.now c.bytes.index c.bytes-test.true)
-    (sixel_from_test byte (sym c.is_sixel.ensures ∙ c.if-is_sixel.true))
+    rw (c.tail.ensures, splits_at c.args.chunk.now c.bytes.index c.bytes-test.true) (search rules)
 
 pub returns-in_err-close-clause-feeds : goal.returns-in_err-close-clause-feeds
 returns-in_err-close-clause-feeds g c = λ o h reached.
     let byte = get_or c.args.chunk.now c.bytes.index 0 in
-    let test : is_sixel byte ≡ true = sym c.is_sixel.ensures ∙ c.if-is_sixel.true in
+    let is : IsSixelByte byte = search rules in
     let r = c.bytes.invariant.0 o h reached in
     let p = err_from_is_err_and c.from_residual.result c.from_residual.ensures.1 in
     rw (p.1, p.2)
-    (feeds_refused_printable _ o _ h _ _ c.bytes-test.true (printable_from_sixel byte test) r
-    (refused_close _ o.pixel_limit r.now byte (goes_on_byte r.now byte (sixel_from_test byte test))
+    (feeds_refused_printable _ o _ h _ _ c.bytes-test.true (sixel_printable byte is) r
+    (refused_close _ o.pixel_limit r.now byte (goes_on_byte r.now byte is)
     (c.in_err-close.ensures.drawn o r.now r.stands)))
 
 pub returns-in_err-drawn-clause-feeds : goal.returns-in_err-drawn-clause-feeds
 returns-in_err-drawn-clause-feeds g c = λ o h reached.
     let byte = get_or c.args.chunk.now c.bytes.index 0 in
-    let test : is_sixel byte ≡ true = sym c.is_sixel.ensures ∙ c.if-is_sixel.true in
+    let is : IsSixelByte byte = search rules in
     let r = c.bytes.invariant.0 o h reached in
     let e = c.in_err-drawn.field-0.0 in
     let refused =
@@ -59,13 +59,13 @@ returns-in_err-drawn-clause-feeds g c = λ o h reached.
     let residual = c.from_residual-in_err-drawn in
     let p = err_from_is_err_and residual.result residual.ensures.1 in
     rw (p.1, p.2)
-    (feeds_refused_printable _ o _ h _ _ c.bytes-test.true (printable_from_sixel byte test) r
-    (refused_sixel e o.pixel_limit r.now byte (sixel_from_test byte test)
+    (feeds_refused_printable _ o _ h _ _ c.bytes-test.true (sixel_printable byte is) r
+    (refused_sixel e o.pixel_limit r.now byte is
     (subst (λ (b : ℕ). Faults e true (fault o.pixel_limit (Sixel (b - 63) ∷ r.now)))
     (first_ahead c.bytes.index c.args.chunk.now c.tail.result.now c.tail.ensures) refused)))
 
-pub bytes-preserved-then-is_sixel : goal.bytes-preserved-then-is_sixel
-bytes-preserved-then-is_sixel g c =
+pub bytes-preserved-then-matches : goal.bytes-preserved-then-matches
+bytes-preserved-then-matches g c =
     let is = c.in_ok-drawn.ensures in (
       λ o h reached.
           let r = c.bytes.invariant.0 o h reached in
