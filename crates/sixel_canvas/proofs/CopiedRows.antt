@@ -1,5 +1,5 @@
 -- What a caller's memory has once one more row of pixels was copied there.
-use Rattle.std.proofs.Common.{◌≡◌, ℕ, ◌+◌, ◌-◌, ◌*◌, ◌/◌, ◌%◌, ◌<◌, ◌≤◌, Bool, true, List}
+use Rattle.std.proofs.Common.{◌≡◌, ℕ, ◌+◌, ◌-◌, ◌*◌, ◌/◌, ◌%◌, ◌<◌, ◌≤◌, List}
 use Rattle.std.proofs.Common.{length, get_or, take, drop, arith}
 use Rattle.std.proofs.Common.{length-take, length-drop, get_or-take, get_or-drop}
 use Rattle.std.specs.Prelude.{nat_le, nat_lt, ◌==◌, ◌&&◌, if◌then◌else◌}
@@ -9,7 +9,6 @@ use borrow.Rule.Slice.PartMut.{put_mid}
 use Rattle.sixel_canvas.specs.Layout.{AreCopied, AreRowsIn, in_order}
 use Rattle.sixel_canvas.specs.declared.channels.RowLayout.{RowLayout}
 use Rattle.sixel_canvas.proofs.BandRows.{within_row}
-use Rattle.std.proofs.lemmas.Bool.Decides.{nat_tests}
 
 -- bytes with a part of them written over
 spliced : (a k : ℕ) (xs ys : List ℕ) (i : ℕ) → a + k ≤ length xs → length ys ≡ k →
@@ -17,9 +16,6 @@ spliced : (a k : ℕ) (xs ys : List ℕ) (i : ℕ) → a + k ≤ length xs → l
     ≡ (if nat_le a i && nat_lt i (a + k) then get_or ys (i - a) 0 else get_or xs i 0)
 spliced a k xs ys i fits len =
     grind (arith, length-take, get_or-take, get_or-drop, get_or_append_left, get_or-append_right)
-
-both : (a b : Bool) → (a && b) ≡ true → (a ≡ true) × (b ≡ true)
-both a b is = grind (arith, nat_tests)
 
 -- one row more was copied
 pub copied_row :

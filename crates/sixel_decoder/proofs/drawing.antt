@@ -1,6 +1,5 @@
 pub mod BandCosts
 pub mod Clips
-pub mod ColorDefinitions
 pub mod DrawnHeights
 pub mod ImageAreas
 pub mod LenientTokens

@@ -8,13 +8,12 @@ use Rattle.sixel_decoder.specs.declared.payload_parser.PayloadParser.{PayloadPar
 use Rattle.sixel_decoder.specs.declared.payload_parser.OpenCommand.{OpenCommand}
 use Rattle.sixel_base.specs.Fault.{Fault, Faults}
 use Rattle.sixel_base.specs.inside.Parameters.{Parameters, Keeps}
-use Rattle.sixel_base.specs.History.{Token, History, begun, goes_on, read}
+use Rattle.sixel_base.specs.History.{Token, History, goes_on, read}
 use Rattle.sixel_base.specs.Limits.{Limit}
 use Rattle.sixel_base.specs.Lenient.{fault}
 use Rattle.sixel_base.specs.Stroke.{Origin}
 use Rattle.sixel_base.specs.Payload.{closed, growths}
-use Rattle.sixel_decoder.specs.inside.PayloadParser.{IsOpen, StandsIn}
-use Rattle.sixel_decoder.specs.inside.Lenient.{HasDrawn}
+use Rattle.sixel_decoder.specs.inside.PayloadParser.{StandsIn}
 use Rattle.sixel_base.proofs.Histories.{read_ends}
 use Rattle.std.proofs.lemmas.Bool.Decides.{nat_tests}
 
@@ -44,10 +43,3 @@ pub refused_close : (e : SixelError) (limit : Limit) (h : History) (byte : ℕ)
     → Faults e (nat_lt (growths (closed h)) (growths (closed (read h byte))))
     (fault limit (closed (read h byte)))
 refused_close e limit h byte ends is = grind (arith, Faults-along, fault_stays, read_ends)
-
--- a command that was opened is the newest token
-pub opens : {C : Type 0} {canvas : Ghosts C} (command : List ℕ → Token) (o : Origin)
-    (new : PayloadParser C canvas) (h : History) (byte : ℕ)
-    → begun byte ≡ command [] → Keeps new.parameters []
-    → HasDrawn o new.painter new.ignored h → IsOpen command o new (begun byte ∷ h)
-opens command o new h byte is keeps shows = grind (arith, nat_tests)
