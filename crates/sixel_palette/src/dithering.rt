@@ -175,6 +175,11 @@ pub fn map_to_refined(
         × (it.colors.items ≡ spread_entries (spread_amount mapping.dither room)
         (opaque_pixels pixels.now) palette.colors.items)) }
     ensures shown { IfOk result (λ it. All IsRegisterColor it.colors.items) }
+    ensures few { IfOk result (λ it. length it.colors.items ≤ room) }
+    ensures count { IfOk result (λ it. length it.indices.items ≡ length pixels.now / 4) }
+    ensures known { IfOk result (λ it. (pixel : ℕ) → pixel < length pixels.now / 4
+        → IsOpaque pixels.now pixel
+        → slice_index it.indices.items pixel < length it.colors.items) }
     ensures dithered { IfOk result (λ it.
         AreDithered (refined_mapping mapping it.colors.items pixels.now) width pixels.now
         it.colors.items it.indices.items) }
