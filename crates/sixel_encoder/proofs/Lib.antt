@@ -4,4 +4,4 @@ pub mod drawings
 pub mod plain_text
 pub mod round_trip
 pub mod JoinedLists
-pub mod SixBits
+pub mod MaskBits

@@ -12,7 +12,7 @@ use Rattle.sixel_encoder.specs.inside.Compact.{AreLanes, lane_of}
 use Rattle.sixel_encoder.specs.inside.Indexed.{drawing_of}
 use Rattle.sixel_encoder.proofs.band_rows.EntryLaneMasks.{opaque-lane, transparent-lane}
 use Rattle.sixel_encoder.proofs.band_rows.Masks.{mask-more}
-use Rattle.sixel_encoder.proofs.SixBits.{is_set-mask, mask-small}
+use Rattle.sixel_encoder.proofs.MaskBits.{is_set-mask, mask-small}
 
 -- ---- the lanes of one column
 

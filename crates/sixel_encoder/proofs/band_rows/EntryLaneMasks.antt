@@ -5,7 +5,6 @@ use Rattle.std.proofs.Common.{replicate, suc, sym, true, w16, zero, ℕ, ◌%◌
 use Rattle.std.proofs.Common.{◌≡◌, ◌≤◌, get_or, []}
 use Rattle.std.proofs.lemmas.Bool.{both_ways, cases_lt}
 use Rattle.std.proofs.lemmas.Bool.Decides.{nat_tests}
-use Rattle.std.proofs.lemmas.Grind.{pow_more}
 use Rattle.std.proofs.lemmas.List.{get_or-map, length-map}
 use Rattle.std.proofs.lemmas.Simd.{bitmask_splat, get_or-chunk, length-chunk}
 use lib.Lanes.{chunk, mask_l, top, zip2}
@@ -16,15 +15,9 @@ use Rattle.sixel_encoder.specs.Text.{entry_at, is_entry, mask, sixel_of}
 use Rattle.sixel_encoder.specs.inside.Compact.{AreLanes, lane_of}
 use Rattle.sixel_encoder.specs.inside.Indexed.{IsIndexed, drawing_of}
 use Rattle.sixel_encoder.proofs.band_rows.Masks.{hits, hits-past, mask-more, mask-none}
+use Rattle.sixel_encoder.proofs.MaskBits.{mask-low}
 
 -- ---- the mask of a list of answers
-
--- a mask by its lowest bit and the others
-mask-low : (test : ℕ → Bool) (n : ℕ)
-    → mask test (suc n) ≡ cond (test 0) 1 0 + 2 * mask (λ k. test (suc k)) n
-unfolding mask
-mask-low test zero = omega arith
-mask-low test (suc n) = grind (arith, nat_tests, mask-low test n, pow_more)
 
 -- tests that agree have one mask
 pub mask-same : (p q : ℕ → Bool) (n : ℕ) → ((k : ℕ) → k < n → p k ≡ q k) → mask p n ≡ mask q n

@@ -9,7 +9,7 @@ use Rattle.std.proofs.lemmas.List.FromFn.{get_or-map-range_with_len, length-map-
 use Rattle.sixel_encoder.specs.Marks.{is_lit}
 use Rattle.sixel_encoder.specs.Text.{Drawing, entry_at, has_dot, row_of, sixel_of}
 use Rattle.sixel_encoder.proofs.band_rows.RowPixels.{is_lit-past, is_struck-zero}
-use Rattle.sixel_encoder.proofs.SixBits.{is_set-mask, mask-small}
+use Rattle.sixel_encoder.proofs.MaskBits.{is_set-mask, mask-small}
 use Rattle.std.proofs.lemmas.Grind.{common_steps}
 
 -- a row has a sixel for each column

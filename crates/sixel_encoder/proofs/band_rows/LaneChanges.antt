@@ -11,7 +11,7 @@ use Rattle.sixel_encoder.specs.inside.Indexed.{drawing_of}
 use Rattle.sixel_encoder.proofs.band_rows.EntryLaneMasks.{opaque-lane}
 use Rattle.sixel_encoder.proofs.band_rows.EntryRows.{no_dot-own}
 use Rattle.sixel_encoder.proofs.band_rows.Masks.{hits-past}
-use Rattle.sixel_encoder.proofs.SixBits.{is_set-mask}
+use Rattle.sixel_encoder.proofs.MaskBits.{is_set-mask}
 
 -- what a pixel shows of the row of its entry, if the pixel in another column has another lane
 record IsOther (entries : BandEntries) (here there lane : ℕ) : Type 0 where

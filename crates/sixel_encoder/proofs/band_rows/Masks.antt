@@ -6,7 +6,7 @@ use Rattle.std.proofs.Math.Nat.{mul_comm, pow-le-pow_right}
 use Rattle.std.proofs.lemmas.Nat.{mul-add-lt, mul-le}
 use Rattle.std.proofs.lemmas.List.{get_or_past}
 use Rattle.std.proofs.lemmas.List.FromFn.{length-map-range_with_len, get_or-map-range_with_len}
-use Rattle.std.proofs.lemmas.Grind.{pow_more, common_steps}
+use Rattle.std.proofs.lemmas.Grind.{common_steps}
 use Rattle.sixel_encoder.specs.declared.text.IndexedImage.{IndexedImage}
 use Rattle.sixel_encoder.specs.Text.{entry_at, is_entry, mask, sixel_of}
 use Rattle.sixel_encoder.specs.inside.Indexed.{entry_of, entries_of, drawing_of, IsIndexed}
@@ -20,14 +20,6 @@ pub mask-more : (test : ℕ → Bool) (n : ℕ)
     → mask test (n + 1) ≡ mask test n + cond (test n) (2 ^ n) 0
 unfolding mask
 mask-more test n = let e : n + 1 ≡ suc n = omega arith in ap (mask test) e
-
-bit_le : (b : Bool) (k : ℕ) → cond b k 0 ≤ k
-bit_le b k = grind (arith, nat_tests)
-
-pub mask-lt : (test : ℕ → Bool) (n : ℕ) → mask test n < 2 ^ n
-unfolding mask
-mask-lt test zero = omega arith
-mask-lt test (suc n) = grind (arith, nat_tests, pow_more, bit_le, mask-lt test n)
 
 -- a line's weight is that of one of six bits
 pub weight-le : (bit : ℕ) → bit < 6 → 2 ^ bit ≤ 32

@@ -16,7 +16,7 @@ use Rattle.sixel_encoder.specs.Text.{Drawing, entry_at, mask, sixel_of}
 use Rattle.sixel_encoder.proofs.compact_form.FillSteps.{All-fill, AreApart, IsFill-fill, IsPart}
 use Rattle.sixel_encoder.proofs.compact_form.FillSteps.{IsFilled}
 use Rattle.sixel_encoder.proofs.compact_form.SegmentTallies.{is_of, one, tally}
-use Rattle.sixel_encoder.proofs.SixBits.{is_set-mask, mask-small}
+use Rattle.sixel_encoder.proofs.MaskBits.{is_set-mask, mask-small}
 
 -- ---- bits of masks
 

@@ -7,8 +7,8 @@ use Rattle.sixel_encoder.specs.Text.{mask}
 use Rattle.sixel_encoder.specs.inside.Indexed.{entry_of, IsIndexed}
 use Rattle.sixel_encoder.specs.inside.Grid.{cell, pixel_bit}
 use Rattle.sixel_encoder.proofs.band_rows.Cells.{AreMarks-same}
-use Rattle.sixel_encoder.proofs.band_rows.Masks.{hits, mask-none, mask-lt, weight-le, mask-line}
-use Rattle.sixel_encoder.proofs.band_rows.Masks.{mask-below}
+use Rattle.sixel_encoder.proofs.MaskBits.{mask-lt}
+use Rattle.sixel_encoder.proofs.band_rows.Masks.{hits, mask-below, mask-line, mask-none, weight-le}
 use Rattle.sixel_encoder.proofs.band.BandRows.fill.Goals as goal
 use Rattle.sixel_encoder.proofs.band.BandRows.fill.Goals.{then-row-image+then-is_whole}
 use Rattle.sixel_encoder.proofs.band.BandRows.fill.Goals.{then-row-image+else-is_whole}

@@ -4,7 +4,7 @@ use Rattle.sixel_encoder.specs.Text.{entry_text, sixel_of}
 use Rattle.sixel_encoder.specs.inside.Indexed.{drawing_of}
 use Rattle.sixel_encoder.specs.inside.Grid.{cell}
 use Rattle.sixel_encoder.proofs.band_rows.Dots.{appended-start, joined-part}
-use Rattle.sixel_encoder.proofs.band_rows.Masks.{mask-lt}
+use Rattle.sixel_encoder.proofs.MaskBits.{mask-lt}
 use Rattle.sixel_encoder.proofs.band_rows.Parts.{joined-all, appended-part}
 use Rattle.sixel_encoder.proofs.band.BandRows.push_band.Goals as goal
 use Rattle.std.proofs.lemmas.Bool.Decides.{nat_tests}
