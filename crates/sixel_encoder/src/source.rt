@@ -50,16 +50,7 @@ pub fn encode_source(
 {
     validate_source(source)?;
     let choice = choose_palette(alloc, source.pixels, max_colors)?;
-    let image = IndexedImage {
-        width: source.width,
-        height: source.height,
-        aspect_ratio: source.aspect_ratio,
-        background_mode: source.background_mode,
-        colors: &choice.colors,
-        pixels: source.pixels,
-        indices: &choice.indices,
-    };
-    Ok(encode_in_form(alloc, &image, form)?)
+    encode_drawing(alloc, source, &choice.colors, &choice.indices, form)
 }
 
 /// Returns an error unless an image has valid sizes and the bytes for them.

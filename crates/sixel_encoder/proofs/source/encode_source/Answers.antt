@@ -1,38 +1,39 @@
 use Rattle.std.proofs.Common.{arith}
-use Rattle.sixel_palette.specs.Palette.{IsPalette, AreIndices}
-use Rattle.sixel_encoder.specs.declared.text.IndexedImage.{IndexedImage}
-use Rattle.sixel_encoder.specs.inside.Indexed.{drawing_of}
-use Rattle.sixel_encoder.proofs.drawings.IndexedDrawing.{IsDrawing-chosen}
-use Rattle.sixel_encoder.proofs.source.encode_source.Goals as goal
 use Rattle.std.proofs.lemmas.Bool.Decides.{nat_tests}
+use Rattle.std.proofs.lemmas.Result.{IfOk-weaker}
+use Rattle.sixel_encoder.specs.Encoding.{source_value}
+use Rattle.sixel_encoder.proofs.drawings.IndexedDrawing.{IsDrawing-chosen}
+use Rattle.sixel_encoder.proofs.drawings.Sizes.{within-sound}
+use Rattle.sixel_encoder.proofs.drawings.Verdicts.{none-found}
+use Rattle.sixel_encoder.proofs.source.encode_source.Goals as goal
 
-pub encode_in_form-requires : goal.encode_in_form-requires
-encode_in_form-requires c = grind (arith, nat_tests)
+pub encode_drawing-requires-clause-count : goal.encode_drawing-requires-clause-count
+encode_drawing-requires-clause-count c =
+    let sound = none-found _ _ _ c.validate_source.ensures c.in_ok-validate_source.was in
+    let within = within-sound (source_value c.args.source.now) sound in
+    rw c.deref-2.ensures.value (omega (arith, within.sized, c.in_ok-choice.ensures.indices.one_each))
+
+pub encode_drawing-requires-clause-opaque : goal.encode_drawing-requires-clause-opaque
+encode_drawing-requires-clause-opaque c = rw (c.deref.ensures.value, c.deref-2.ensures.value)
+    (λ pixel inside opaque.
+    let are = c.in_ok-choice.ensures.indices in
+    (are.opaque pixel (omega (arith, are.one_each)) opaque).entry)
 
 pub returns-clause-text : goal.returns-clause-text
 returns-clause-text c =
-    let source = c.args.source.now in
+    let image = source_value c.args.source.now in
     let told = c.in_ok-choice.ensures in
-    let image : IndexedImage = record {
-      width = source.width;
-      height = source.height;
-      aspect_ratio = source.aspect_ratio;
-      background_mode = source.background_mode;
-      colors = c.deref.result;
-      pixels = source.pixels;
-      indices = c.deref-2.result;
-    } in
-    let palette : IsPalette source.pixels.now c.args.max_colors c.deref.result.now =
-    rw c.deref.ensures.value told.palette in
-    let indices : AreIndices source.pixels.now c.deref.result.now c.deref-2.result.now =
-    rw (c.deref.ensures.value, c.deref-2.ensures.value) told.indices in (
-      drawing_of image,
-      IsDrawing-chosen image c.args.max_colors palette indices,
-      c.in_ok-encode_in_form.ensures,
-    )
+    let choice = c.in_ok-choice.choice in
+    let drawn =
+    IsDrawing-chosen image c.args.max_colors choice.colors.items choice.indices.items told.palette
+    told.indices in
+    IfOk-weaker c.encode_drawing.result _ _ (λ text is. (_, drawn, is.text))
+    (rw (c.deref.ensures.value, c.deref-2.ensures.value) at c.encode_drawing.ensures.text)
 
 pub returns-clause-refused : goal.returns-clause-refused
 returns-clause-refused c = grind (arith, nat_tests)
 
 pub returns-clause-bytes : goal.returns-clause-bytes
-returns-clause-bytes c = c.in_ok-choice.ensures.bytes
+returns-clause-bytes c =
+    IfOk-weaker c.encode_drawing.result _ _ (λ text is. c.in_ok-choice.ensures.bytes)
+    c.encode_drawing.ensures.text
