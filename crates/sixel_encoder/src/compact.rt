@@ -19,7 +19,7 @@ use crate::pixels::used_bands;
 use crate::register_order::{count_runs, number_entries, push_numbered};
 use crate::segment_rows::SegmentRows;
 use crate::segments::{Segment, drawn_segments};
-use crate::text::{IndexedImage, encode_below, push_parameters, push_raster};
+use crate::text::{IndexedImage, begin_text, encode_indexed};
 use std::alloc::{AllocError, Global};
 
 /// Returns the compact SIXEL output of an image, or the plain one if that is shorter.
@@ -31,10 +31,11 @@ pub fn encode_compact(alloc: Global, image: &IndexedImage<'_>) -> Result<String,
     if text.len() <= plain_bytes {
         return Ok(text);
     }
-    match encode_below(alloc, image, text.len())? {
-        Some(plain) => Ok(plain),
-        None => Ok(text),
+    let plain = encode_indexed(alloc, image)?;
+    if plain.len() < text.len() {
+        return Ok(plain);
     }
+    Ok(text)
 }
 
 /// The output in segments that share passes.
@@ -55,30 +56,11 @@ fn encode_marked(alloc: Global, image: &IndexedImage<'_>) -> Result<MarkedText, 
 {
     let runs = count_runs(alloc, image)?;
     let numbers = number_entries(alloc, &runs)?;
-    let mut text = begin_text(alloc, image, &runs, &numbers)?;
+    let mut text = begin_text(alloc, image)?;
+    push_numbered(&mut text, image, &runs, &numbers)?;
     let mut writer = BandWriter::new(alloc, image, &numbers)?;
     let plain_bytes = writer.push_bands(alloc, &mut text)?;
     Ok(MarkedText { text, plain_bytes })
-}
-
-/// Returns the output before the first band.
-fn begin_text(
-    alloc: Global,
-    image: &IndexedImage<'_>,
-    runs: &[usize],
-    numbers: &[usize],
-) -> Result<String, AllocError>
-    requires runs { AreRuns (drawing_of image.now) runs.now }
-    requires numbers { AreRanks runs.now numbers.now }
-    ensures { IfOk result (λ text. string_bytes text ≡ parameters_text (drawing_of image.now)
-        ++ raster_text (drawing_of image.now)
-        ++ definitions_text (drawing_of image.now) (numbered_definitions (drawing_of image.now))) }
-{
-    let mut text = String::new(alloc);
-    push_parameters(&mut text, image)?;
-    push_raster(&mut text, image)?;
-    push_numbered(&mut text, image, runs, numbers)?;
-    Ok(text)
 }
 
 /// Writes the bands of a compact output.

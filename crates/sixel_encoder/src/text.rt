@@ -1,9 +1,8 @@
 //! The SIXEL output of an image whose colors are chosen.
 
-ghost use Rattle.std.specs.Prelude.{◌≡◌, ◌<◌, ◌≤◌, ◌++◌, IfOk, IfSome, MatchOption, OnOk, length};
-ghost use Rattle.std.specs.Prelude.{string_bytes};
+ghost use Rattle.std.specs.Prelude.{◌≡◌, ◌++◌, IfOk, OnOk, string_bytes};
 ghost use Rattle.sixel_encoder.specs.Text.{color_definition, parameters_text, raster_text};
-ghost use Rattle.sixel_encoder.specs.Text.{palette_text, bands_text, text_of};
+ghost use Rattle.sixel_encoder.specs.Text.{palette_text, text_of};
 ghost use Rattle.sixel_encoder.specs.inside.Indexed.{IsIndexed, drawing_of};
 
 use crate::band::BandRows;
@@ -29,72 +28,32 @@ pub fn encode_indexed(alloc: Global, image: &IndexedImage<'_>) -> Result<String,
     ensures { IfOk result (λ text. string_bytes text ≡ text_of (drawing_of image.now)) }
 {
     let mut text = begin_text(alloc, image)?;
-    push_bands(alloc, &mut text, image)?;
-    text.push_str("\x1b\\")?;
-    Ok(text)
-}
-
-/// Returns the SIXEL output of an image, if it is shorter than a limit.
-///
-/// Stops at the first band that begins at the limit or past it.
-pub fn encode_below(
-    alloc: Global,
-    image: &IndexedImage<'_>,
-    limit: usize,
-) -> Result<Option<String>, AllocError>
-    requires { IsIndexed image.now }
-    ensures text { IfOk result (λ found. IfSome found
-        (λ text. string_bytes text ≡ text_of (drawing_of image.now))) }
-    ensures shorter { IfOk result (λ found. MatchOption found
-        (limit ≤ length (text_of (drawing_of image.now)))
-        (λ text. length (string_bytes text) < limit)) }
-{
-    let mut text = begin_text(alloc, image)?;
+    push_palette(&mut text, image)?;
     let mut rows = BandRows::new(alloc, image)?;
     for band in 0..image.height.div_ceil(6) {
-        if text.len() >= limit {
-            return Ok(None);
-        }
         rows.push_band(&mut text, image, band)?;
     }
     text.push_str("\x1b\\")?;
-    if text.len() >= limit {
-        return Ok(None);
-    }
-    Ok(Some(text))
-}
-
-/// Returns the output before the first band.
-fn begin_text(alloc: Global, image: &IndexedImage<'_>) -> Result<String, AllocError>
-    ensures { IfOk result (λ text. string_bytes text ≡ parameters_text (drawing_of image.now)
-        ++ raster_text (drawing_of image.now) ++ palette_text (drawing_of image.now)) }
-{
-    let mut text = String::new(alloc);
-    push_parameters(&mut text, image)?;
-    push_raster(&mut text, image)?;
-    push_palette(&mut text, image)?;
     Ok(text)
 }
 
-/// Appends the introducer and the parameters: shape, background, no grid size.
-pub fn push_parameters(text: &mut String, image: &IndexedImage<'_>) -> Result<(), AllocError>
-    ensures { OnOk result
-        (string_bytes text.new ≡ string_bytes text.old ++ parameters_text (drawing_of image.now)) }
+/// Returns the output before the palette: the parameters and the raster attributes.
+///
+/// The parameters are shape, background and no grid size. The attributes are a pixel's height and
+/// width, then the sizes.
+pub fn begin_text(alloc: Global, image: &IndexedImage<'_>) -> Result<String, AllocError>
+    ensures { IfOk result (λ text. string_bytes text
+        ≡ parameters_text (drawing_of image.now) ++ raster_text (drawing_of image.now)) }
 {
+    let mut text = String::new(alloc);
     let p1 = image.aspect_ratio.to_p1_value();
     let p2 = image.background_mode.to_p2_value();
-    write!(text, "\x1bP{p1};{p2};0q")
-}
-
-/// Appends the raster attributes: a pixel's height and width, then the sizes.
-pub fn push_raster(text: &mut String, image: &IndexedImage<'_>) -> Result<(), AllocError>
-    ensures { OnOk result
-        (string_bytes text.new ≡ string_bytes text.old ++ raster_text (drawing_of image.now)) }
-{
+    write!(text, "\x1bP{p1};{p2};0q")?;
     let pad = image.aspect_ratio.pad();
     let width = image.width;
     let height = image.height;
-    write!(text, "\"{pad};1;{width};{height}")
+    write!(text, "\"{pad};1;{width};{height}")?;
+    Ok(text)
 }
 
 /// Appends the definition of each palette entry.
@@ -117,17 +76,4 @@ pub fn push_definition(text: &mut String, entry: usize, color: [u8; 3]) -> Resul
     let green = percentage(color[1]);
     let blue = percentage(color[2]);
     write!(text, "#{entry};2;{red};{green};{blue}")
-}
-
-/// Appends the bands.
-fn push_bands(alloc: Global, text: &mut String, image: &IndexedImage<'_>) -> Result<(), AllocError>
-    requires { IsIndexed image.now }
-    ensures { OnOk result
-        (string_bytes text.new ≡ string_bytes text.old ++ bands_text (drawing_of image.now)) }
-{
-    let mut rows = BandRows::new(alloc, image)?;
-    for band in 0..image.height.div_ceil(6) {
-        rows.push_band(text, image, band)?;
-    }
-    Ok(())
 }

@@ -9,7 +9,8 @@ new-requires-clause-numbers c =
 
 pub returns-clause-text : goal.returns-clause-text
 returns-clause-text c =
-    marked-joined (drawing_of c.args.image.now) _ _ c.in_ok-text.ensures
+    marked-joined (drawing_of c.args.image.now) _ _ _ c.in_ok-text.ensures
+    c.in_ok-push_numbered.ensures
     (rw c.in_ok-writer.ensures.image at c.in_ok-plain_bytes.ensures.text)
 
 pub returns-clause-plain : goal.returns-clause-plain

@@ -1,10 +1,10 @@
-use Rattle.std.proofs.Common.{string_bytes, refl, arith}
+use Rattle.std.proofs.Common.{append_assoc, arith, refl}
 use Rattle.sixel_encoder.proofs.band_rows.Dots.{appended-start, appended-more}
-use Rattle.sixel_encoder.proofs.text.push_bands.Goals as goal
+use Rattle.sixel_encoder.proofs.text.encode_indexed.Goals as goal
 use Rattle.std.proofs.lemmas.Bool.Decides.{nat_tests}
 
 pub loop-band-init : goal.loop-band-init
-loop-band-init c = grind (arith, nat_tests, appended-start, string_bytes, c.in_ok-rows.ensures)
+loop-band-init c = grind (arith, nat_tests, appended-start, c.in_ok-rows.ensures)
 
 pub loop-band-preserved : goal.loop-band-preserved
 loop-band-preserved c =
@@ -15,4 +15,4 @@ loop-band-preserved c =
     }
 
 pub returns : goal.returns
-returns c = grind arith
+returns c = grind (arith, nat_tests, append_assoc)

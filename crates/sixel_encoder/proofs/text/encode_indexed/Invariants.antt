@@ -3,7 +3,7 @@ use Rattle.sixel_base.specs.Picture.{joined}
 use Rattle.sixel_encoder.specs.Text.{band_text}
 use Rattle.sixel_encoder.specs.inside.Indexed.{drawing_of}
 use Rattle.sixel_encoder.specs.inside.Grid.{AreEmptyRows}
-use Rattle.sixel_encoder.proofs.text.encode_below.Given as goal
+use Rattle.sixel_encoder.proofs.text.encode_indexed.Given as goal
 
 abbrev pub invariant-loop-band : goal.invariant-loop-band
 invariant-loop-band l = record {
