@@ -4,4 +4,5 @@ pub mod drawings
 pub mod plain_text
 pub mod round_trip
 pub mod JoinedLists
+pub mod TextLaws
 pub mod MaskBits

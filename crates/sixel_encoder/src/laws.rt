@@ -1,4 +1,5 @@
 //! Laws of the SIXEL output and its meaning, stated by functions with empty bodies.
+#![tactic(auto, using(crate::proofs::TextLaws::laws))]
 
 ghost use Rattle.std.specs.Prelude.{◌≡◌, ℕ, ◌≤◌, ◌<◌, ◌*◌, Bool, List, ◌∷◌, ◌++◌, length, codes};
 ghost use Rattle.std.specs.Prelude.{Some, None, All, false};

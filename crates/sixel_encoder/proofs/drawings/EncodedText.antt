@@ -2,7 +2,7 @@
 -- one, and read back as its trip.
 use Rattle.std.proofs.Common.{◌≡◌, ℕ, ◌*◌, ◌<◌, ◌≤◌, List, Result, Ok, Err, sym, ap, ◌∙◌, arith}
 use Rattle.std.proofs.Common.{length}
-use Rattle.std.specs.Prelude.{All, IfErr, IfOk, OnOk, MatchOption}
+use Rattle.std.specs.Prelude.{All, IfErr, IfOk, None, OnOk, MatchOption}
 use Rattle.sixel_base.specs.declared.error.SixelError.{SixelError}
 use Rattle.sixel_base.specs.declared.error.SixelError.TheVariants.{OutOfMemory}
 use Rattle.sixel_base.specs.Size.{banded}
@@ -53,6 +53,32 @@ short-written form bytes (Ok text) image k plain one fits is also =
     grind (arith, nat_tests, length-compact)
 short-written form bytes (Err e) image k plain one fits is also = tt
 
+module _ (form : TextForm) where
+  -- the text of an image is one DCS sequence
+  pub one_string-form : (limit : Limit) (image : Image) (k : ℕ) (bytes : List ℕ)
+      → image_fault image ≡ None → All (λ byte. byte < 256) image.pixels
+      → image.width * banded image.height ≤ limit.pixels → IsFormText form image k bytes
+      → IsOneString limit bytes
+  one_string-form limit image k bytes sound fits room is =
+      let drawn = IsWritable-drawn image k is.0 is.1 sound fits in
+      let small = area-drawn image k is.0 is.1 in
+      rw is.2 (IsOneString-drawn limit is.0 _ drawn (IsDrawnText-form form is.0 drawn)
+      (omega (arith, room)))
+
+  -- it is read back as the trip of the image's drawing
+  pub read_back-form : (decoder : DecoderState) (image : Image) (k : ℕ) (bytes : List ℕ)
+      → image_fault image ≡ None → All (λ byte. byte < 256) image.pixels
+      → CanRead decoder image.width image.height → IsFormText form image k bytes
+      → (drawing : Drawing) × IsDrawing image k drawing
+      × IsReadAs decoder bytes (trip decoder.raster_crop drawing)
+  read_back-form decoder image k bytes sound fits reads is =
+      let drawn = IsWritable-drawn image k is.0 is.1 sound fits in
+      let back = CanRead-drawn image k is.0 is.1 decoder reads in (
+        is.0,
+        is.1,
+        rw is.2 (IsReadAs-drawn decoder is.0 _ drawn (IsDrawnText-form form is.0 drawn) back),
+      )
+
 pub one_string-written : {S : Type 0} (form : TextForm) (bytes : S → List ℕ)
     (result : Result S SixelError) (limit : Limit) (image : Image) (k : ℕ)
     → MatchOption (image_fault image) (IfErr result (λ e. e ≡ OutOfMemory)) (λ f. result ≡ Err f)
@@ -61,10 +87,7 @@ pub one_string-written : {S : Type 0} (form : TextForm) (bytes : S → List ℕ)
     → image.width * banded image.height ≤ limit.pixels
     → IfOk result (λ text. IsOneString limit (bytes text))
 one_string-written form bytes (Ok text) limit image k refused fits is room =
-    let sound = IsWritable-drawn image k is.0 is.1 (grind (arith, nat_tests)) fits in
-    let small = area-drawn image k is.0 is.1 in
-    rw is.2
-    (IsOneString-drawn limit is.0 _ sound (IsDrawnText-form form is.0 sound) (omega (arith, room)))
+    one_string-form form limit image k (bytes text) (grind (arith, nat_tests)) fits room is
 one_string-written form bytes (Err e) limit image k refused fits is room = tt
 
 pub read_back-written : {S : Type 0} (form : TextForm) (bytes : S → List ℕ)
@@ -78,8 +101,5 @@ pub read_back-written : {S : Type 0} (form : TextForm) (bytes : S → List ℕ)
     (drawing : Drawing) × IsDrawing image k drawing
     × IsReadAs decoder (bytes text) (trip decoder.raster_crop drawing))
 read_back-written form bytes (Ok text) decoder image k refused fits is reads =
-    let sound = IsWritable-drawn image k is.0 is.1 (grind (arith, nat_tests)) fits in
-    let drawn = IsDrawnText-form form is.0 sound in
-    let back = CanRead-drawn image k is.0 is.1 decoder reads in
-    (is.0, is.1, rw is.2 (IsReadAs-drawn decoder is.0 _ sound drawn back))
+    read_back-form form decoder image k (bytes text) (grind (arith, nat_tests)) fits reads is
 read_back-written form bytes (Err e) decoder image k refused fits is reads = tt

@@ -8,7 +8,6 @@ use Rattle.std.proofs.lemmas.List.{length-map}
 use Rattle.sixel_base.specs.declared.settings.BackgroundMode.TheVariants.{Transparent}
 use Rattle.sixel_palette.specs.Palette.{IsShown, IsOpaque, HasSize, color_at}
 use Rattle.sixel_base.specs.Picture.{picture}
-use Rattle.sixel_base.specs.Size.{banded}
 use Rattle.sixel_base.specs.declared.state.DecoderState.{DecoderState}
 use Rattle.sixel_base.specs.Payload.{Image}
 use Rattle.sixel_palette.proofs.mapped_images.DiffusionLaws.{nearest-own}
@@ -17,21 +16,21 @@ use Rattle.sixel_palette.proofs.traversal.Size.{complete_from_size, size-le}
 use Rattle.sixel_palette.proofs.traversal.Choices.{three_from_shown}
 use Rattle.sixel_encoder.specs.Text.{Drawing, entry_at, bands}
 use Rattle.sixel_encoder.specs.Trip.{IsWritable, CanRead, rounded, trip_pixel, trip_height}
-use Rattle.sixel_encoder.specs.Trip.{trip, IsTrip, IsReadAs, IsOneString, is_used, bands_up_to}
+use Rattle.sixel_encoder.specs.Trip.{trip, IsTrip, IsReadAs, is_used, bands_up_to}
 use Rattle.sixel_encoder.specs.Encoding.{image_fault, IsDrawing, IsText}
 use Rattle.sixel_encoder.proofs.round_trip.Trip.{picture-same, image-same}
 use Rattle.sixel_encoder.proofs.round_trip.Percentages.{rounded-rounded}
 use Rattle.sixel_encoder.proofs.round_trip.UsedBands.{window-some, window-any}
 use Rattle.sixel_encoder.proofs.round_trip.DrawnHeight.{bands_up_to-none, bands_up_to-more}
 use Rattle.sixel_encoder.proofs.round_trip.DrawnHeight.{bands_up_to-le}
-use Rattle.sixel_encoder.proofs.round_trip.TripLimits.{IsWritable-drawn, area-drawn, CanRead-drawn}
+use Rattle.sixel_encoder.proofs.round_trip.TripLimits.{IsWritable-drawn}
 use Rattle.sixel_encoder.proofs.round_trip.TripLimits.{image_fault-trip, bytes-trip, bands-trip}
-use Rattle.sixel_encoder.proofs.plain_text.Text.{text-trip, IsOneString-text}
+use Rattle.sixel_encoder.specs.declared.form.TextForm.TheVariants.{Plain}
+use Rattle.sixel_encoder.proofs.drawings.EncodedText.{read_back-form}
 use Rattle.sixel_encoder.proofs.round_trip.TripPixels.{entry_in, known_in, rounded_entry}
 use Rattle.sixel_encoder.proofs.round_trip.TripPixels.{length-trip}
 use Rattle.sixel_encoder.proofs.round_trip.TripPixels.{alpha-some, color-some, alpha-none}
 use Rattle.sixel_encoder.proofs.round_trip.TripPixels.{shown-among}
-use Rattle.sixel_base.specs.Limits.{Limit}
 use Rattle.std.proofs.lemmas.Bool.Decides.{nat_tests}
 
 -- ---- an image and its trip, each drawn with as many colors
@@ -170,33 +169,14 @@ trip-again crop image max_colors drawing was mode drawn =
     image-same _ _ (pixels-again _ _ _ _ _ again) again.drawn.width (height-again _ _ _ _ _ again)
     again.drawn.aspect_ratio again.drawn.background_mode ∙ sym same
 
--- it is one control string
-pub image-one_string : (limit : Limit) (image : Image) (max_colors : ℕ) (text : List ℕ)
-    → image_fault image ≡ None → All (λ byte. byte < 256) image.pixels
-    → image.width * banded image.height ≤ limit.pixels → IsText image max_colors text
-    → IsOneString limit text
-image-one_string limit image max_colors text sound bytes room is =
-    let writable = IsWritable-drawn image max_colors is.0 is.1 in
-    grind (arith, nat_tests, IsOneString-text limit is.0, area-drawn image max_colors is.0 is.1)
-
-module _ (decoder : DecoderState) (image : Image) (max_colors : ℕ) (text : List ℕ)
-    (reads : CanRead decoder image.width image.height) (is : IsText image max_colors text) where
-  -- ---- the text of an image
-
-  -- it is read back as the trip of the image's drawing
-  pub image-read_back : image_fault image ≡ None → All (λ byte. byte < 256) image.pixels
-      → (drawing : Drawing) × IsDrawing image max_colors drawing
-      × IsReadAs decoder text (trip decoder.raster_crop drawing)
-  image-read_back sound bytes =
-      let can = CanRead-drawn image max_colors is.0 is.1 decoder in
-      grind (arith, nat_tests, IsWritable-drawn image max_colors is.0 is.1, text-trip decoder is.0)
-
-  -- a transparent trip is read back as it is
-  pub text-again : IsTrip decoder.raster_crop image max_colors → image.background_mode ≡ Transparent
-      → IsReadAs decoder text image
-  text-again was mode =
-      let first = IsWritable-drawn was.0 max_colors was.1 was.4 was.2 was.3 in
-      let sound : image_fault image ≡ None = grind (arith, nat_tests, image_fault-trip) in
-      let bytes : All (λ byte. byte < 256) image.pixels = grind (arith, nat_tests, bytes-trip) in
-      let read = image-read_back sound bytes in
-      rw (trip-again _ _ _ _ was mode read.1) at read.2
+-- a transparent trip is read back as it is
+pub text-again : (decoder : DecoderState) (image : Image) (max_colors : ℕ) (text : List ℕ)
+    → IsTrip decoder.raster_crop image max_colors → image.background_mode ≡ Transparent
+    → CanRead decoder image.width image.height → IsText image max_colors text
+    → IsReadAs decoder text image
+text-again decoder image max_colors text was mode reads is =
+    let first = IsWritable-drawn was.0 max_colors was.1 was.4 was.2 was.3 in
+    let sound : image_fault image ≡ None = grind (arith, nat_tests, image_fault-trip) in
+    let bytes : All (λ byte. byte < 256) image.pixels = grind (arith, nat_tests, bytes-trip) in
+    let read = read_back-form Plain decoder image max_colors text sound bytes reads is in
+    rw (trip-again _ _ _ _ was mode read.1) at read.2
