@@ -4,7 +4,7 @@
 //! band of six rows is written once for each palette entry that it uses. Every row takes the fewest
 //! bytes that it can be written in. Other calls encode in a refined or a given palette, dither, or
 //! write the compact form. `icy_sixel` re-exports the public names.
-#![tactic(auto)]
+#![tactic(auto, using(std::proofs::lemmas::Bool::Decides::nat_tests))]
 
 ghost use Rattle.std.specs.Prelude.{◌≡◌, ℕ, ◌<◌, All, IfErr, IfOk, MatchOption, string_bytes};
 ghost use Rattle.sixel_base.specs.Payload.{Image};

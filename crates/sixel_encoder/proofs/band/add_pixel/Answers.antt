@@ -3,23 +3,8 @@ use Rattle.sixel_encoder.proofs.band_rows.Cells.{AreMarks-dot, cell-dot, sixel_i
 use Rattle.sixel_encoder.proofs.band.add_pixel.Goals as goal
 use Rattle.std.proofs.lemmas.Bool.Decides.{nat_tests}
 
-pub returns-then-not-is_opaque-clause-cells : goal.returns-then-not-is_opaque-clause-cells
-returns-then-not-is_opaque-clause-cells c = λ e x le lx. grind (arith)
-
 pub returns-clause-cells : goal.returns-clause-cells
 returns-clause-cells c = λ e x le lx. grind (arith, nat_tests, sixel_inside, cell-dot)
 
 pub returns-clause-marks : goal.returns-clause-marks
 returns-clause-marks c = grind (arith, nat_tests, AreMarks-dot, sixel_inside)
-
-pub bounds-rows-row : goal.bounds-rows-row
-bounds-rows-row c = grind (arith, nat_tests)
-
-pub bounds-rows-row-2 : goal.bounds-rows-row-2
-bounds-rows-row-2 c = grind (arith, nat_tests)
-
-pub bounds-used-row : goal.bounds-used-row
-bounds-used-row c = grind (arith, nat_tests)
-
-pub returns-then-not-is_opaque-clause-marks : goal.returns-then-not-is_opaque-clause-marks
-returns-then-not-is_opaque-clause-marks c = c.requires.marks

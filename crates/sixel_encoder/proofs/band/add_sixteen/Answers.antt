@@ -31,12 +31,3 @@ add_weight-requires-clause-fits c = λ k l m.
 
 pub loop-one-init : goal.loop-one-init
 loop-one-init c = grind (arith, nat_tests, between-none, c.requires.marks)
-
-pub add_pixel-requires-clause-fits : goal.add_pixel-requires-clause-fits
-add_pixel-requires-clause-fits c = λ e le. grind (arith)
-
-pub loop-one-preserved : goal.loop-one-preserved
-loop-one-preserved c = grind (arith, nat_tests)
-
-pub returns-clause-cells : goal.returns-clause-cells
-returns-clause-cells c = grind (arith, nat_tests, c.loop-one.invariant.cells)

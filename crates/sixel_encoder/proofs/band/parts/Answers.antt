@@ -5,6 +5,3 @@ use Rattle.std.proofs.lemmas.Bool.Decides.{nat_tests}
 
 pub returns-clause-all : goal.returns-clause-all
 returns-clause-all c = grind (arith, nat_tests, div_ceil_times, c.requires, c.div_ceil.ensures)
-
-pub returns-clause-none_past : goal.returns-clause-none_past
-returns-clause-none_past c = λ part l. grind (arith)

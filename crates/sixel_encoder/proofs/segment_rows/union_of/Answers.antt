@@ -12,6 +12,3 @@ loop-column-preserved c =
     let low = c.loop-column.auto.column in
     let more : c.loop-column.column + 1 - c.args.from ≡ n + 1 = omega (arith, low) in
     grind (arith, nat_tests, union-more, c.loop-column.invariant)
-
-pub returns : goal.returns
-returns c = grind (arith, nat_tests)

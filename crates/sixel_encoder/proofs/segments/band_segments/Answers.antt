@@ -101,9 +101,6 @@ returns c = grind (arith, nat_tests, c.columns.invariant.segments)
 pub push_run-requires-clause-last : goal.push_run-requires-clause-last
 push_run-requires-clause-last c = rw c.run_of-run.ensures.first c.columns.invariant.last
 
-pub push_run-requires-then-is_new-clause-last : goal.push_run-requires-then-is_new-clause-last
-push_run-requires-then-is_new-clause-last c = grind (arith, nat_tests)
-
 pub columns-preserved : goal.columns-preserved
 columns-preserved c = grind (arith, nat_tests)
 

@@ -1,5 +1,4 @@
 use Rattle.std.proofs.Common.{arith}
-use Rattle.std.proofs.lemmas.Bool.Decides.{nat_tests}
 use Rattle.std.proofs.lemmas.Result.{IfOk-weaker}
 use Rattle.sixel_encoder.specs.Encoding.{source_value}
 use Rattle.sixel_encoder.proofs.drawings.IndexedDrawing.{IsDrawing-chosen}
@@ -29,9 +28,6 @@ returns-clause-text c =
     told.indices in
     IfOk-weaker c.encode_drawing.result _ _ (λ text is. (_, drawn, is.text))
     (rw (c.deref.ensures.value, c.deref-2.ensures.value) at c.encode_drawing.ensures.text)
-
-pub returns-clause-refused : goal.returns-clause-refused
-returns-clause-refused c = grind (arith, nat_tests)
 
 pub returns-clause-bytes : goal.returns-clause-bytes
 returns-clause-bytes c =

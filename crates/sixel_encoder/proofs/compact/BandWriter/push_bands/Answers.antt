@@ -33,6 +33,3 @@ loop-band-preserved c =
 
 pub returns-clause-plain : goal.returns-clause-plain
 returns-clause-plain c = grind (arith, bands_up_to-le, length-bands)
-
-pub returns-clause-text : goal.returns-clause-text
-returns-clause-text c = grind (arith, nat_tests)

@@ -14,9 +14,6 @@ use Rattle.sixel_encoder.proofs.segment_rows.SegmentRows.draw.Goals.{
 }
 use Rattle.std.proofs.lemmas.Bool.Decides.{nat_tests}
 
-pub loop-column-init : goal.loop-column-init
-loop-column-init c = grind (arith)
-
 pub loop-column-preserved : goal.loop-column-preserved
 loop-column-preserved c =
     let is = c.loop-column.invariant in
