@@ -1,5 +1,5 @@
 -- The bits of a mask: each is the answer of its test.
-use Rattle.std.proofs.Common.{◌≡◌, ℕ, zero, suc, ◌+◌, ◌*◌, ◌^◌, ◌<◌, Bool, cond, arith}
+use Rattle.std.proofs.Common.{◌≡◌, ℕ, zero, suc, ◌+◌, ◌*◌, ◌^◌, ◌<◌, Bool, cond, false, refl, arith}
 use Rattle.std.specs.Int.{bit_at}
 use Rattle.std.proofs.lemmas.Bool.Decides.{nat_tests}
 use Rattle.std.proofs.lemmas.Grind.{pow_more}
@@ -27,6 +27,13 @@ pub mask-lt : (test : ℕ → Bool) (n : ℕ) → mask test n < 2 ^ n
 unfolding mask
 mask-lt test zero = omega arith
 mask-lt test (suc n) = grind (arith, nat_tests, pow_more, mask-lt test n)
+
+-- tests that all fail make 0
+pub mask-nothing : (test : ℕ → Bool) (n : ℕ) → ((k : ℕ) → k < n → test k ≡ false) → mask test n ≡ 0
+unfolding mask
+mask-nothing test zero none = refl
+mask-nothing test (suc n) none =
+    grind (arith, nat_tests, mask-nothing test n (λ k l. none k (omega arith)))
 
 -- so a sixel's pixel is set where the test of its line passes
 pub is_set-mask : (test : ℕ → Bool) (k : ℕ) → k < 6 → is_set (mask test 6) k ≡ test k

@@ -9,7 +9,7 @@ ghost use Rattle.sixel_encoder.specs.Marks.{definitions_text, marks_text};
 ghost use Rattle.sixel_encoder.specs.RegisterOrder.{numbered_definitions};
 ghost use Rattle.sixel_encoder.specs.Text.{parameters_text, raster_text, text_of};
 ghost use Rattle.sixel_encoder.specs.inside.Compact.{AreLanes, AreNumbersOf, AreRanks, AreRuns};
-ghost use Rattle.sixel_encoder.specs.inside.Compact.{IsWithin, IsWriter, drawn_so_far};
+ghost use Rattle.sixel_encoder.specs.inside.Compact.{IsSegment, IsWriter, drawn_so_far};
 ghost use Rattle.sixel_encoder.specs.inside.Indexed.{IsIndexed, drawing_of};
 
 use crate::band_entries::BandEntries;
@@ -151,7 +151,7 @@ impl<'a> BandWriter<'a> {
     fn push_segment(&mut self, text: &mut String, segment: &Segment) -> Result<(), AllocError>
         requires writer { IsWriter self.old }
         requires entries { AreLanes self.old.entries }
-        requires within { IsWithin self.old.entries.image.now segment.now }
+        requires within { IsSegment (drawing_of self.old.entries.image.now) segment.now }
         ensures writer { OnOk result (IsWriter self.new) }
         ensures entries { self.new.entries ≡ self.old.entries }
         ensures text { OnOk result (string_bytes text.new ≡ string_bytes text.old ++ marks_text

@@ -3,7 +3,7 @@
 ghost use Rattle.std.specs.Prelude.{◌≡◌, ◌-◌, ◌≤◌, ◌++◌, IfOk, OnOk, length, string_bytes};
 ghost use Rattle.sixel_encoder.specs.Compact.{blocked_after, segment_row, transparent_row, union};
 ghost use Rattle.sixel_encoder.specs.RunTokens.{written, row_tokens};
-ghost use Rattle.sixel_encoder.specs.inside.Compact.{AreLanes, IsWithin};
+ghost use Rattle.sixel_encoder.specs.inside.Compact.{AreLanes, IsSegment};
 ghost use Rattle.sixel_encoder.specs.inside.Indexed.{drawing_of};
 
 use crate::band_entries::BandEntries;
@@ -53,7 +53,7 @@ impl SegmentRows {
         requires entries { AreLanes entries.now }
         requires wide { length self.old.blocked.items ≡ entries.now.image.now.width }
         requires from { from ≤ segment.now.first }
-        requires within { IsWithin entries.now.image.now segment.now }
+        requires within { IsSegment (drawing_of entries.now.image.now) segment.now }
         ensures text { OnOk result (string_bytes text.new ≡ string_bytes text.old
             ++ written (row_tokens (segment_row (drawing_of entries.now.image.now) entries.now.band
             self.old.blocked.items segment.now from))) }
@@ -77,7 +77,7 @@ impl SegmentRows {
         requires entries { AreLanes entries.now }
         requires wide { length self.old.blocked.items ≡ entries.now.image.now.width }
         requires from { from ≤ segment.now.first }
-        requires within { IsWithin entries.now.image.now segment.now }
+        requires within { IsSegment (drawing_of entries.now.image.now) segment.now }
         ensures row { OnOk result (self.new.row.items ≡ segment_row
             (drawing_of entries.now.image.now) entries.now.band self.old.blocked.items segment.now
             from) }

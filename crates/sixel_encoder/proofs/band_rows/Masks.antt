@@ -11,6 +11,7 @@ use Rattle.sixel_encoder.specs.declared.text.IndexedImage.{IndexedImage}
 use Rattle.sixel_encoder.specs.Text.{entry_at, is_entry, mask, sixel_of}
 use Rattle.sixel_encoder.specs.inside.Indexed.{entry_of, entries_of, drawing_of, IsIndexed}
 use Rattle.sixel_encoder.specs.inside.Grid.{pixel_bit}
+use Rattle.sixel_encoder.proofs.MaskBits.{mask-nothing}
 
 pub mask-none : (test : ℕ → Bool) → mask test 0 ≡ 0
 unfolding mask
@@ -45,11 +46,6 @@ entry_at-below image x row is h = grind (arith, get_or_past, mul-le, mul_comm, l
 abbrev pub hits : IndexedImage → ℕ → ℕ → ℕ → ℕ → Bool
 hits image band e x bit = is_entry e (entry_at (drawing_of image) x (6 * band + bit))
 
-mask-false : (test : ℕ → Bool) (n : ℕ) → ((k : ℕ) → test k ≡ false) → mask test n ≡ 0
-unfolding mask
-mask-false test zero none = refl
-mask-false test (suc n) none = grind (arith, nat_tests, mask-false test n none)
-
 module _ (image : IndexedImage) (band bit e x : ℕ) (is : IsIndexed image) where
   -- a line of the image adds its pixels
   pub mask-line : (old weight new : ℕ) → x < image.width → 6 * band + bit < image.height
@@ -73,4 +69,4 @@ module _ (image : IndexedImage) (band bit e x : ℕ) (is : IsIndexed image) wher
 -- nor does its sixel have a dot
 pub sixel-past : (image : IndexedImage) (band e x : ℕ) → IsIndexed image → x < image.width
     → length image.colors.now ≤ e → sixel_of (drawing_of image) band e x ≡ 0
-sixel-past image band e x is lx past = grind (arith, nat_tests, mask-false, hits-past)
+sixel-past image band e x is lx past = grind (arith, nat_tests, mask-nothing, hits-past)

@@ -12,27 +12,12 @@ use Rattle.std.proofs.lemmas.Nat.Bits.{bit_at-lt, bit_at-zero, bit_at_above, bit
 use Rattle.sixel_base.specs.Picture.{is_set}
 use Rattle.sixel_encoder.specs.declared.segments.Segment.{Segment}
 use Rattle.sixel_encoder.specs.Compact.{blocked_after, blocked_sixel, segment_row, union}
+use Rattle.sixel_encoder.specs.inside.Compact.{IsSegment}
 use Rattle.sixel_encoder.specs.Text.{Drawing, entry_at, mask, sixel_of}
 use Rattle.sixel_encoder.proofs.compact_form.FillSteps.{All-fill, AreApart, IsFill-fill, IsPart}
 use Rattle.sixel_encoder.proofs.compact_form.FillSteps.{IsFilled}
 use Rattle.sixel_encoder.proofs.compact_form.SegmentTallies.{is_of, one, tally}
-use Rattle.sixel_encoder.proofs.MaskBits.{is_set-mask, mask-small}
-
--- ---- bits of masks
-
--- a bit of a mask whose test passes
-pub bit-mask : (test : ℕ → Bool) (i : ℕ) → i < 6 → test i ≡ true → bit_at (mask test 6) i ≡ 1
-bit-mask test i l on =
-    let set : is_set (mask test 6) i ≡ true = is_set-mask test i l ∙ on in grind (arith, nat_tests)
-
--- a bit of a mask whose test fails
-pub no_bit-mask : (test : ℕ → Bool) (i : ℕ) → i < 6 → test i ≡ false → bit_at (mask test 6) i ≡ 0
-no_bit-mask test i l off =
-    let set : is_set (mask test 6) i ≡ false = is_set-mask test i l ∙ off in
-    low (bit_at (mask test 6) i) set (bit_at-lt (mask test 6) i)
-  where
-    low : (n : ℕ) → n == 1 ≡ false → n < 2 → n ≡ 0
-    low n e l = grind (arith, nat_tests)
+use Rattle.sixel_encoder.proofs.MaskBits.{bit_at-mask, mask-small}
 
 -- ---- what is left
 
@@ -55,12 +40,6 @@ pub record AreLeft (drawing : Drawing) (band : ℕ) (blocked : List ℕ) (segmen
       → entry_at drawing column (6 * band + bit) ≡ Some entry
       → bit_at (slice_index blocked column) bit + tally (is_of column (Some entry)) segments ≡ 1
 
--- a segment of the drawing
-pub record IsSegment (drawing : Drawing) (segment : Segment) : Type 0 where
-  pub known : segment.entry < length drawing.colors
-  pub some : segment.first < segment.end
-  pub wide : segment.end ≤ drawing.width
-
 -- a segment that passes the test is one
 pub segment-is : (drawing : Drawing) (s : Segment) → is_segment drawing s ≡ true
     → IsSegment drawing s
@@ -81,7 +60,7 @@ is_of-entry column entry segment is = grind (arith, nat_tests)
 pub own-bit : (drawing : Drawing) (band own column bit entry : ℕ) → bit < 6
     → entry_at drawing column (6 * band + bit) ≡ Some entry
     → bit_at (sixel_of drawing band own column) bit ≡ one (entry == own)
-own-bit drawing band own column bit entry l at = grind (arith, nat_tests, bit-mask, no_bit-mask)
+own-bit drawing band own column bit entry l at = grind (arith, nat_tests, bit_at-mask)
 
 -- ---- one segment less
 
@@ -118,7 +97,7 @@ own-apart drawing band blocked segment segments are column low high bit =
     elim (cases_lt bit 6) [
       | inr past ↦ omega (arith, above past, few)
       | inl l ↦
-          grind (arith, nat_tests, are.once column bit, own-bit, no_bit-mask)
+          grind (arith, nat_tests, are.once column bit, own-bit, bit_at-mask)
     ]
 
 -- a sixel has no bit that the union does not have

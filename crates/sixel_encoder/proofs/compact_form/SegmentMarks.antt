@@ -15,7 +15,8 @@ use Rattle.sixel_encoder.specs.RegisterOrder.{number_of}
 use Rattle.sixel_encoder.specs.Text.{Drawing, bands, entry_at}
 use Rattle.sixel_encoder.specs.Trip.{is_used}
 use Rattle.sixel_encoder.proofs.band_rows.EntryRows.{IsInBand}
-use Rattle.sixel_encoder.proofs.compact_form.LeftSegments.{AreLeft, AreLeft-after, IsSegment}
+use Rattle.sixel_encoder.proofs.compact_form.LeftSegments.{AreLeft, AreLeft-after}
+use Rattle.sixel_encoder.specs.inside.Compact.{IsSegment}
 use Rattle.sixel_encoder.proofs.compact_form.LeftSegments.{IsSegmentRow}
 use Rattle.sixel_encoder.proofs.compact_form.LeftSegments.{IsSegmentRow-left, first-left}
 use Rattle.sixel_encoder.proofs.compact_form.LeftSegments.{is_of-entry, own-bit}

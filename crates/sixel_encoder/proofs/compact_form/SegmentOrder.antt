@@ -13,10 +13,12 @@ use Rattle.sixel_encoder.specs.Segments.{drawn_segments, gap_of}
 use Rattle.sixel_encoder.specs.Segments.{segments_up_to, with_pixel, with_place}
 use Rattle.sixel_encoder.specs.Text.{Drawing, entry_at}
 use Rattle.sixel_encoder.specs.Trip.{is_used}
-use Rattle.sixel_encoder.specs.inside.Compact.{nth}
-use Rattle.sixel_encoder.proofs.compact_form.LeftSegments.{AreLeft, IsSegment, bit-mask, is_segment}
-use Rattle.sixel_encoder.proofs.compact_form.LeftSegments.{no_bit-mask, segment-is}
+use Rattle.sixel_encoder.specs.inside.Compact.{IsSegment, nth}
+use Rattle.sixel_encoder.proofs.compact_form.LeftSegments.{AreLeft, is_segment}
+use Rattle.sixel_encoder.proofs.compact_form.LeftSegments.{segment-is}
+use Rattle.sixel_encoder.proofs.MaskBits.{bit_at-mask}
 use Rattle.sixel_encoder.proofs.compact_form.PassSteps.{passes-none}
+use Rattle.sixel_encoder.proofs.compact_form.SegmentSteps.{some-same}
 use Rattle.sixel_encoder.proofs.round_trip.UsedBands.{unused-places}
 use Rattle.sixel_encoder.proofs.compact_form.SegmentTallies.{each-tally, is_of, one, tally}
 use Rattle.sixel_encoder.proofs.compact_form.SegmentTallies.{tally-drawn}
@@ -51,9 +53,6 @@ AreOf-place drawing band n (Some entry) segments is known was =
         | inr apart ↦ grind (arith, nat_tests, tally-pixel, was.whole k e)
       ];
     }
-  where
-    some-same : (a b : ℕ) → Some a ≡ Some b → a ≡ b
-    some-same a b h = cc
 
 -- each entry that a place has is one of the drawing's
 abbrev pub AreKnown : Drawing → Type 0
@@ -97,7 +96,7 @@ transparent-bit : (drawing : Drawing) (band column bit : ℕ) → column < drawi
     → (b : Bool) → not (is_some (entry_at drawing column (6 * band + bit))) ≡ b
     → bit_at (slice_index (transparent_row drawing band) column) bit ≡ one b
 transparent-bit drawing band column bit lc lb b is =
-    grind (arith, nat_tests, get_or-map-range_with_len, not, bit-mask, no_bit-mask)
+    grind (arith, nat_tests, get_or-map-range_with_len, not, bit_at-mask)
 
 -- and that of an opaque one
 pub opaque-bit : (drawing : Drawing) (band column bit entry : ℕ) → column < drawing.width → bit < 6

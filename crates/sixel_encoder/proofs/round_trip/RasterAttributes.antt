@@ -9,6 +9,7 @@ use Rattle.sixel_base.specs.Stroke.{ratio}
 use Rattle.sixel_base.specs.declared.settings.PixelAspectRatio.{PixelAspectRatio}
 use Rattle.sixel_encoder.specs.Text.{Drawing, bands}
 use Rattle.sixel_encoder.specs.Trip.{IsWritable}
+use Rattle.sixel_encoder.proofs.drawings.Sizes.{covered}
 use Rattle.sixel_encoder.proofs.round_trip.Digits.{fields-numbers, numbers}
 use Rattle.sixel_encoder.proofs.round_trip.Extent.{Fits}
 use Rattle.sixel_encoder.proofs.round_trip.TextHistory.{AreFields-sizes, pad-small}
@@ -32,10 +33,6 @@ pub raster-height : (drawing : Drawing) → IsWritable drawing
     → height (raster_of drawing ∷ []) ≡ drawing.height
 raster-height drawing is = omega (arith, raster-field3 drawing is, is.some_height)
 
--- the bands are as high as the drawing
-pub height-covered : (height : ℕ) → height ≤ 6 * bands height
-height-covered height = omega arith
-
 -- the first two fields say the shape
 pub raster-shape : (drawing : Drawing) (other : PixelAspectRatio) → IsWritable drawing
     → ratio other (raster_of drawing ∷ []) ≡ drawing.aspect_ratio
@@ -44,4 +41,4 @@ raster-shape drawing other is = grind (arith, nat_tests, raster-fields)
 -- the raster attributes of a drawing are within its sizes
 pub Fits-raster : (drawing : Drawing) → IsWritable drawing
     → Fits whole_limit drawing.width (6 * bands drawing.height) (raster_of drawing ∷ [])
-Fits-raster drawing is = grind (arith, height-covered, mul-le, raster-field3, raster-fields)
+Fits-raster drawing is = grind (arith, covered, mul-le, raster-field3, raster-fields)

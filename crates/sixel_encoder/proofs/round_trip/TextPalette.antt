@@ -18,6 +18,7 @@ use Rattle.sixel_encoder.proofs.round_trip.Digits.{fields-numbers, numbers}
 use Rattle.sixel_encoder.proofs.round_trip.Extent.{Fits, Fits-color}
 use Rattle.sixel_encoder.proofs.round_trip.PenSteps.{Follows}
 use Rattle.sixel_encoder.proofs.round_trip.TextHistory.{AreFields-percentages}
+use Rattle.sixel_encoder.proofs.round_trip.TripPixels.{rounded_entry}
 use Rattle.sixel_encoder.proofs.round_trip.Tokens.{percentages, raster_of, with_definition}
 use Rattle.sixel_encoder.proofs.round_trip.Tokens.{with_definitions}
 use Rattle.sixel_encoder.proofs.round_trip.Tokens.{with_palette}
@@ -32,22 +33,18 @@ defines : (entry : ℕ) (color : List ℕ) → entry < 256 → IsColor color
 defines entry color small is =
     fields-numbers entry (percentages color) (omega arith) (AreFields-percentages color is)
 
--- the color of an entry after a round trip
-abbrev rounded_color : Drawing → ℕ → List ℕ
-rounded_color drawing entry = map rounded (slice_index_or drawing.colors entry [])
-
 -- a register that was defined has the color of its entry
 abbrev HasColor : Drawing → List (List ℕ) → Option ℕ → ℕ → Type 0
 HasColor drawing palette None register = Unit {0}
 HasColor drawing palette (Some entry) register =
-    slice_index_or palette register [] ≡ rounded_color drawing entry
+    slice_index_or palette register [] ≡ rounded_entry drawing entry
 
 module _ (start : List (List ℕ)) (drawing : Drawing) (definition : Definition) (h : History)
     (is : IsWritable drawing) (known : IsDefinition drawing definition) where
   -- a definition gives its register the rounded color of its entry
   registers-definition :
       registers start (with_definition drawing definition h)
-      ≡ slice_set (registers start h) definition.register (rounded_color drawing definition.entry)
+      ≡ slice_set (registers start h) definition.register (rounded_entry drawing definition.entry)
   registers-definition = grind (arith, nat_tests, defines, common_steps)
 
   -- so it has after one definition more
@@ -81,7 +78,7 @@ pub register-palette : (start : List (List ℕ)) (drawing : Drawing) (definition
     (register entry : ℕ) → IsWritable drawing → AreDefinitions drawing definitions
     → length start ≡ 256 → register_entry definitions None register ≡ Some entry
     → slice_index_or (registers start (with_palette drawing definitions)) register []
-    ≡ rounded_color drawing entry
+    ≡ rounded_entry drawing entry
 register-palette start drawing definitions register entry is known size e =
     let h : History = raster_of drawing ∷ [] in
     rw e at (HasColor-definitions start drawing is definitions h None register known size tt)

@@ -10,6 +10,7 @@ use Rattle.std.proofs.lemmas.List.FromFn.{get_or-map-range_with_len}
 use Rattle.std.proofs.lemmas.Nat.{div_below, mod_below, mul-add-lt, mul-le}
 use Rattle.sixel_encoder.specs.Text.{Drawing, entry_at, has_dot, mask, row_of}
 use Rattle.sixel_encoder.specs.Trip.{IsWritable, is_used}
+use Rattle.sixel_encoder.proofs.MaskBits.{mask-nothing}
 use Rattle.sixel_encoder.proofs.band_rows.EntryRows.{length-row_of}
 use Rattle.std.proofs.lemmas.Bool.Decides.{nat_tests}
 
@@ -53,13 +54,6 @@ pub unused-places : (drawing : Drawing) (band bit column : ℕ) → is_used draw
 unused-places drawing band bit column none lb lc =
     let place = place-in_band band bit drawing.width column in
     grind (arith, nat_tests, window-none, mul-add-lt bit drawing.width column 6)
-
--- six answers of no make 0
-pub mask-nothing : (test : ℕ → Bool) (n : ℕ) → ((k : ℕ) → k < n → test k ≡ false) → mask test n ≡ 0
-unfolding mask
-mask-nothing test zero none = refl
-mask-nothing test (suc n) none =
-    grind (arith, nat_tests, mask-nothing test n (λ k l. none k (omega arith)))
 
 -- so no entry has a dot there
 pub unused-dots : (drawing : Drawing) (band entry : ℕ) → is_used drawing band ≡ false

@@ -66,11 +66,11 @@ pub record AreLanes (entries : BandEntries) : Type 0 where
       → slice_index entries.lanes.items (8 * column + bit)
       ≡ lane_of (entry_at (drawing_of entries.image.now) column (6 * entries.band + bit))
 
--- the segment has an entry and columns of the image
-pub record IsWithin (image : IndexedImage) (segment : Segment) : Type 0 where
-  pub known : segment.entry < length image.colors.now
+-- the segment has an entry and columns of the drawing
+pub record IsSegment (drawing : Drawing) (segment : Segment) : Type 0 where
+  pub known : segment.entry < length drawing.colors
   pub some : segment.first < segment.end
-  pub wide : segment.end ≤ image.width
+  pub wide : segment.end ≤ drawing.width
 
 -- the register of each entry of the image
 pub record AreNumbersOf (image : IndexedImage) (numbers : List ℕ) : Type 0 where

@@ -1,7 +1,7 @@
 use Rattle.std.proofs.Common.{◌≤◌, length, ◌∙◌, arith}
 use Rattle.std.proofs.lemmas.List.FromFn.{length-map-range_with_len}
 use Rattle.sixel_encoder.specs.inside.Indexed.{drawing_of}
-use Rattle.sixel_encoder.proofs.compact_form.Steps.{IsWithin-drawn, band-selected, band-text}
+use Rattle.sixel_encoder.proofs.compact_form.Steps.{IsSegment-image, band-selected, band-text}
 use Rattle.sixel_encoder.proofs.compact_form.Steps.{drawn-end}
 use Rattle.sixel_encoder.proofs.compact_form.Steps.{drawn-made, drawn-more, text-end, text-more}
 use Rattle.sixel_encoder.proofs.compact.BandWriter.push_band.Goals as goal
@@ -11,7 +11,7 @@ pub loop-segment-init : goal.loop-segment-init
 loop-segment-init c = grind (arith, length-map-range_with_len)
 
 pub push_segment-requires-clause-within : goal.push_segment-requires-clause-within
-push_segment-requires-clause-within c = grind (arith, nat_tests, IsWithin-drawn)
+push_segment-requires-clause-within c = grind (arith, nat_tests, IsSegment-image)
 
 pub loop-segment-preserved : goal.loop-segment-preserved
 loop-segment-preserved c =
