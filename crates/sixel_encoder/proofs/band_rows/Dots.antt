@@ -8,7 +8,7 @@ use Rattle.std.proofs.lemmas.List.Folds.{list_any_at, list_any_none}
 use Rattle.std.proofs.lemmas.List.FromFn.{fill_by_all, length-map-range_with_len}
 use Rattle.std.proofs.lemmas.List.FromFn.{get_or-map-range_with_len}
 use Rattle.sixel_base.specs.Picture.{joined}
-use Rattle.sixel_encoder.specs.Text.{Drawing, has_dot, row_text, sixel_of, row_of, entry_text}
+use Rattle.sixel_encoder.specs.Text.{Drawing, has_dot, sixel_of, row_of, entry_text}
 use Rattle.sixel_encoder.specs.inside.Grid.{cell, grid_row, grid_text}
 use Rattle.sixel_encoder.proofs.JoinedLists.{joined-none, joined-more, joined-same}
 use Rattle.sixel_encoder.proofs.band_rows.RowParts.{All-grid_row}
@@ -30,11 +30,6 @@ has_dot-none rows width entry blank =
     (All-grid_row (λ bits. not (bits == 0) ≡ false)
     rows width entry
     (λ x l. is_dot-zero (cell rows width entry x) (blank x l)))
-
-pub grid_text-some : (rows : List ℕ) (width from entry : ℕ)
-    → has_dot (grid_row rows width entry) ≡ true
-    → grid_text rows width from entry ≡ row_text (from + entry) (grid_row rows width entry)
-grid_text-some rows width from entry h = grind (arith, nat_tests)
 
 -- a loop that appends what it joins: one list more
 pub appended-more : (f : ℕ → List ℕ) (n : ℕ) (start now new part : List ℕ)

@@ -1,5 +1,5 @@
 -- The lanes of a column that have a value, as the bits of a number.
-use Rattle.std.specs.Prelude.{None, Option, Some, is_some, not, ◌==◌, ◌≢◌}
+use Rattle.std.specs.Prelude.{None, Some, is_some, not, ◌==◌, ◌≢◌}
 use Rattle.std.proofs.Common.{Bool, List, ap, arith, cond, eqb, false, inl, inr, length, map, refl}
 use Rattle.std.proofs.Common.{replicate, suc, sym, true, w16, zero, ℕ, ◌%◌, ◌*◌, ◌+◌, ◌<◌, ◌∙◌, ◌∷◌}
 use Rattle.std.proofs.Common.{◌≡◌, ◌≤◌, get_or, []}
@@ -83,11 +83,6 @@ pub transparent-lane : (entries : BandEntries) (column bit lane : ℕ) → AreLa
     → entry_at (drawing_of entries.image.now) column (6 * entries.band + bit) ≡ None
 transparent-lane entries column bit lane are lc is none = grind (arith, nat_tests, known)
 
--- whether a lane of a pixel is transparent
-lane-none : (place : Option ℕ) → ((e : ℕ) → place ≡ Some e → e < 256)
-    → (lane_of place == 256) ≡ not (is_some place)
-lane-none place known = grind (arith, nat_tests)
-
 -- the lanes with an entry are the sixel of the entry
 pub sixel-lanes : (entries : BandEntries) (column entry : ℕ) → AreLanes entries
     → column < entries.image.now.width → entry < 256
@@ -111,5 +106,5 @@ transparent-lanes entries column are lc =
     let same =
     mask-same test (λ bit. not (is_some
     (entry_at (drawing_of entries.image.now) column (6 * entries.band + bit)))) 6
-    (grind (arith, nat_tests, lane-none, known)) in
+    (grind (arith, nat_tests, known)) in
     grind (arith, nat_tests, mask-more test 6, mask-more test 7)

@@ -71,9 +71,3 @@ AreMarks-run rows new used width row column weight marks each le lc lw =
       ];
       marked = λ e x l lx some. grind (arith, nat_tests, get_or-set_same, get_or-set_other);
     }
-
--- an amount that is the same between two places
-pub between-same : (from to one other place : ℕ)
-    → (from ≤ place → place < to → one ≡ other)
-    → between from to one place ≡ between from to other place
-between-same from to one other place same = grind (arith, nat_tests)

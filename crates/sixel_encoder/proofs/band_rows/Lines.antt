@@ -13,12 +13,6 @@ pub pixel_bit-other : (pixels indices : List ℕ) (weight entry pixel : ℕ)
     → get_or indices pixel 0 ≢ entry → pixel_bit weight entry (entry_of pixels indices pixel) ≡ 0
 pixel_bit-other pixels indices weight entry pixel other = grind (arith, nat_tests)
 
--- a transparent pixel adds nothing
-pub pixel_bit-transparent : (pixels indices : List ℕ) (weight entry pixel : ℕ)
-    → get_or pixels (4 * pixel + 3) 0 < 128
-    → pixel_bit weight entry (entry_of pixels indices pixel) ≡ 0
-pixel_bit-transparent pixels indices weight entry pixel transparent = grind (arith, nat_tests)
-
 -- an opaque pixel sets one in the row of its entry
 pub pixel_bit-dot : (pixels indices : List ℕ) (weight first entry column pixel e : ℕ)
     → 128 ≤ get_or pixels (4 * pixel + 3) 0 → entry ≡ get_or indices pixel 0 → first ≤ entry
@@ -26,12 +20,6 @@ pub pixel_bit-dot : (pixels indices : List ℕ) (weight first entry column pixel
     ≡ pixel_bit weight (first + e) (entry_of pixels indices pixel)
 pixel_bit-dot pixels indices weight first entry column pixel e opaque is from =
     grind (arith, nat_tests, entry_of-opaque)
-
--- the same in rows of all entries
-pub pixel_bit-row : (pixels indices : List ℕ) (weight row column pixel e : ℕ)
-    → 128 ≤ get_or pixels (4 * pixel + 3) 0 → row ≡ get_or indices pixel 0
-    → dot_at weight row column e column ≡ pixel_bit weight e (entry_of pixels indices pixel)
-pixel_bit-row pixels indices weight row column pixel e opaque is = grind (arith, nat_tests)
 
 -- a column more, and those after it that add nothing
 pub column-more : (bit : ℕ → ℕ) (start was now column n x : ℕ)

@@ -7,7 +7,7 @@ use Rattle.sixel_base.specs.Picture.{joined}
 use Rattle.sixel_encoder.specs.Text.{row_text}
 use Rattle.sixel_encoder.specs.inside.Grid.{cell, grid_row, grid_text, AreMarks, AreClear}
 use Rattle.sixel_encoder.proofs.band_rows.RowParts.{grid_row-same}
-use Rattle.sixel_encoder.proofs.band_rows.Dots.{has_dot-some, has_dot-none, grid_text-some}
+use Rattle.sixel_encoder.proofs.band_rows.Dots.{has_dot-some, has_dot-none}
 use Rattle.sixel_encoder.proofs.band_rows.Dots.{appended-more, appended-none}
 use Rattle.std.proofs.lemmas.Bool.Decides.{nat_tests}
 
@@ -32,7 +32,7 @@ module _ (start now first rows : List ℕ) (marks used : List Bool) (width from 
   progress-used new after are size l is text blank others =
       let row = grid_row-same rows first width n (λ x lx. was.rest n x (omega arith) l lx) in
       let part : row_text (from + n) (grid_row rows width n) ≡ grid_text first width from n =
-      grind (arith, nat_tests, grid_text-some, has_dot-some) in
+      grind (arith, nat_tests, has_dot-some) in
       let text = appended-more _ _ _ _ _ _ was.text text part in
       grind (arith, nat_tests, get_or-set_same, get_or-set_other, length-set)
 

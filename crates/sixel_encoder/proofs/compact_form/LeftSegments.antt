@@ -2,18 +2,17 @@
 use Rattle.std.specs.Int.{bit_at}
 use Rattle.std.specs.List.{range_with_len}
 use Rattle.std.specs.Prelude.{All, None, Some, nat_le, nat_lt, not, slice_index, ◌&&◌, ◌==◌}
-use Rattle.std.proofs.Common.{Bool, List, arith, false, inl, inr, length, suc, zero, true, ℕ, ◌*◌}
+use Rattle.std.proofs.Common.{Bool, List, arith, inl, inr, length, suc, zero, true, ℕ, ◌*◌}
 use Rattle.std.proofs.Common.{◌+◌, ◌-◌, ◌<◌, ◌∙◌, ◌∷◌, ◌≡◌, ◌≤◌}
 use Rattle.std.proofs.lemmas.Bool.{cases_lt}
 use Rattle.std.proofs.lemmas.Bool.Decides.{nat_tests}
 use Rattle.std.proofs.lemmas.List.FromFn.{get_or-map-range_with_len, get_or-range_with_len}
 use Rattle.std.proofs.lemmas.List.FromFn.{length-map-range_with_len, length-range_with_len}
 use Rattle.std.proofs.lemmas.Nat.Bits.{bit_at-lt, bit_at-zero, bit_at_above, bit_at_or}
-use Rattle.sixel_base.specs.Picture.{is_set}
 use Rattle.sixel_encoder.specs.declared.segments.Segment.{Segment}
 use Rattle.sixel_encoder.specs.Compact.{blocked_after, blocked_sixel, segment_row, union}
 use Rattle.sixel_encoder.specs.inside.Compact.{IsSegment}
-use Rattle.sixel_encoder.specs.Text.{Drawing, entry_at, mask, sixel_of}
+use Rattle.sixel_encoder.specs.Text.{Drawing, entry_at, sixel_of}
 use Rattle.sixel_encoder.proofs.compact_form.FillSteps.{All-fill, AreApart, IsFill-fill, IsPart}
 use Rattle.sixel_encoder.proofs.compact_form.FillSteps.{IsFilled}
 use Rattle.sixel_encoder.proofs.compact_form.SegmentTallies.{is_of, one, tally}

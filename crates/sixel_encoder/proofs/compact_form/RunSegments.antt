@@ -88,10 +88,6 @@ module _ (segments : List Segment) (last : List (Option ℕ)) (gap : ℕ) (run :
 
 -- ---- the columns of a band
 
--- an image with a column has a gap
-pub gap-positive : (drawing : Drawing) → 0 < drawing.width → 0 < gap_of drawing
-gap-positive drawing wide = grind (arith, nat_tests)
-
 -- the pixels of a column all have this entry, or none
 abbrev pub IsColumn : Drawing → ℕ → ℕ → Option ℕ → Type 0
 IsColumn drawing band column place =
@@ -168,7 +164,7 @@ module _ (drawing : Drawing) (band first end : ℕ) (items : List Segment) (some
   columns-whole gap lane new wide is at pushed =
       let n : ℕ = end - first - 1 in
       let e : first + (n + 1) ≡ end = omega arith in
-      grind (arith, nat_tests, columns-run, gap-positive)
+      grind (arith, nat_tests, columns-run)
 
   -- and after transparent ones
   pub columns-blank : entry_at drawing first (6 * band + 0) ≡ None

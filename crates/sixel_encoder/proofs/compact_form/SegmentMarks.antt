@@ -60,11 +60,6 @@ at_start drawn segment = record {
   blocked = drawn.blocked;
 }
 
--- a register that is selected
-selected-is : (register : ℕ) (place : Option ℕ) → is_selected register place ≡ true
-    → place ≡ Some register
-selected-is register place is = grind (arith, nat_tests)
-
 -- what is drawn when a register is selected, too
 abbrev in_register : ℕ → Drawn → Drawn
 in_register register drawn = record {
@@ -99,7 +94,7 @@ module _ (drawing : Drawing) (band : ℕ) (drawn : Drawn) (pen : Pen) (place : P
       go : (b : Bool) → is_selected register drawn.register ≡ b
           → Leads drawing (IsDrawn drawing band (in_register register drawn)) pen place
           (cond b [] (Pick register ∷ []))
-      go true e = grind (arith, nat_tests, IsDrawn-moved, selected-is)
+      go true e = grind (arith, nat_tests, IsDrawn-moved)
       go false e = grind (arith, nat_tests, IsDrawn-moved)
 
 -- ---- where a row sets a pixel
@@ -116,12 +111,6 @@ lit-is : (row : List ℕ) (band from end column line : ℕ) → length row ≡ e
     → is_lit row from (6 * band) column line ≡ true
     → IsLit band from end column line (slice_index row (column - from))
 lit-is row band from end column line size lit = grind (arith, nat_tests, is_lit-past)
-
--- a row sets a pixel whose bit it has
-is-lit : (row : List ℕ) (band from column line : ℕ) → from ≤ column → IsInBand band line
-    → bit_at (slice_index row (column - from)) (line - 6 * band) ≡ 1
-    → is_lit row from (6 * band) column line ≡ true
-is-lit row band from column line since at bit = grind (arith, nat_tests)
 
 -- ---- the row of a segment
 
@@ -199,7 +188,7 @@ Leads-row drawing band drawn segment segments pen place are lower used left at =
         let own = owned column line entry lc inside e bit in
         let at_bit = at-bit column line inside ∙ e in
         let has = own-bit drawing band segment.entry column _ entry (bit-of line inside) at_bit in
-        grind (arith, nat_tests, is_of-entry, bit_at-lt, is-lit, row, is, same, at.here)
+        grind (arith, nat_tests, is_of-entry, bit_at-lt, row, is, same, at.here)
 
 -- ---- some segments
 

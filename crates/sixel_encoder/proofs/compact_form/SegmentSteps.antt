@@ -19,11 +19,6 @@ is_near gap column entry segment = segment.entry == entry && nat_lt column (segm
 abbrev pub grown : ℕ → Segment → Segment
 grown column segment = record { entry = segment.entry; first = segment.first; end = column + 1 }
 
--- one of the entry that is not near ended a gap before
-pub far-own : (gap column entry : ℕ) (segment : Segment) → segment.entry ≡ entry
-    → is_near gap column entry segment ≡ false → segment.end + gap ≤ column
-far-own gap column entry segment same none = grind (arith, nat_tests)
-
 -- a segment of the entry that has not ended a gap before is near
 pub near-own : (gap column entry : ℕ) (segment : Segment) → segment.entry ≡ entry
     → column < segment.end + gap → is_near gap column entry segment ≡ true
@@ -92,7 +87,7 @@ AreLast-new segments last gap column entry new own short are inside none =
       ];
       closed = λ j l. elim (cases_eq j (length segments)) [
         | inl same ↦ grind (arith, nat_tests, get_or-set_at)
-        | inr apart ↦ grind (arith, nat_tests, far-own, get_or_append_left, get_or-set_other)
+        | inr apart ↦ grind (arith, nat_tests, get_or_append_left, get_or-set_other)
       ];
       ended = λ j l. grind (arith, nat_tests, get_or_append_left);
     }

@@ -1,7 +1,7 @@
 -- What is known of the text of an image in a given palette once it is returned: the image has no
 -- fault, a new decoder can read the text, and colors of transparent pixels do not affect it.
 use Rattle.std.proofs.Common.{◌≡◌, ℕ, List, arith}
-use Rattle.std.specs.Prelude.{Option, None, Result, Ok, IfOk}
+use Rattle.std.specs.Prelude.{Option, None, Result, IfOk}
 use Rattle.std.specs.Option.{option_or}
 use Rattle.std.proofs.Math.Nat.{mul_comm}
 use Rattle.sixel_base.specs.CallFault.{CallFault, FailsBy, size_call_fault}
@@ -16,16 +16,6 @@ use Rattle.sixel_encoder.proofs.drawings.SameDithering.{drawing-alike}
 use Rattle.sixel_encoder.proofs.drawings.Sizes.{within-sound}
 use Rattle.std.proofs.lemmas.Bool.Decides.{nat_tests}
 
--- a call that returned a value had no fault
-none-from_ok : {S : Type 0} (fault : Option CallFault) (value : S)
-    → FailsBy {X = S} fault (Ok value) → fault ≡ None
-none-from_ok fault value is = grind (arith, nat_tests)
-
--- so its image has none
-sound-first : (fault : Option SixelError) (rest : Option CallFault)
-    → option_or (size_call_fault fault) rest ≡ None → fault ≡ None
-sound-first fault rest e = grind (arith, nat_tests)
-
 -- the rows of an image without a fault
 pub rows-sound : (image : Image) → image_fault image ≡ None → AreRowsOf image.pixels image.width
 rows-sound image sound = grind (arith, nat_tests, within-sound, mul_comm)
@@ -39,4 +29,4 @@ pub hidden-returned : {S : Type 0} (bytes : S → List ℕ) (result : Result S S
     → shown_image image ≡ shown_image other → IsPaletteText other colors mapping form others
     → IfOk result (λ text. bytes text ≡ others)
 hidden-returned bytes result image other colors mapping form others rest fails is same also =
-    grind (arith, nat_tests, sound-first, none-from_ok, drawing-alike, rows-sound)
+    grind (arith, nat_tests, drawing-alike, rows-sound)

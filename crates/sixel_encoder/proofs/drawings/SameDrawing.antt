@@ -14,10 +14,6 @@ shown_color-opaque : (pixels : List ℕ) (pixel : ℕ) → IsOpaque pixels pixel
     → shown_color pixels pixel ≡ Some (color_at pixels pixel)
 shown_color-opaque pixels pixel h = grind (arith, nat_tests)
 
-shown_color-transparent : (pixels : List ℕ) (pixel : ℕ) → get_or pixels (4 * pixel + 3) 0 < 128
-    → shown_color pixels pixel ≡ None
-shown_color-transparent pixels pixel h = grind (arith, nat_tests)
-
 module _ (image other : Image) (e : shown_image image ≡ shown_image other) where
   -- as many pixels
   pub count-same : length image.pixels / 4 ≡ length other.pixels / 4
@@ -36,7 +32,7 @@ module _ (image other : Image) (e : shown_image image ≡ shown_image other) whe
   pub opaque-other : (pixel : ℕ) → pixel < length image.pixels / 4 → IsOpaque image.pixels pixel
       → IsOpaque other.pixels pixel × (color_at other.pixels pixel ≡ color_at image.pixels pixel)
   opaque-other pixel l is =
-      grind (arith, nat_tests, color-same pixel, shown_color-transparent, shown_color-opaque)
+      grind (arith, nat_tests, color-same pixel, shown_color-opaque)
 
   pub transparent-other : (pixel : ℕ) → pixel < length image.pixels / 4
       → get_or image.pixels (4 * pixel + 3) 0 < 128 → get_or other.pixels (4 * pixel + 3) 0 < 128

@@ -54,21 +54,9 @@ length-total t (suc n) = omega (arith, length-append (joined t n) (t n), length-
 
 -- ---- an entry whose row has no other run yet, and any other
 
-left-none : (drawing : Drawing) (band column entry : ℕ) (starts : ℕ → ℕ) → starts entry ≡ 0
-    → bytes_left drawing band column starts entry ≡ 0
-left-none drawing band column entry starts none = grind (arith, nat_tests)
-
-left-some : (drawing : Drawing) (band column entry : ℕ) (starts : ℕ → ℕ) → 0 < starts entry
-    → bytes_left drawing band column starts entry
-    ≡ bytes_from drawing band entry column (starts entry)
-left-some drawing band column entry starts some = grind (arith, nat_tests)
-
 -- the bytes that a run adds when it ends: up to three, and four if its row had no other
 abbrev pub added : ℕ → ℕ → ℕ
 added start three = if start == 0 then three + 4 else three
-
-pub added-none : (start three : ℕ) → start ≡ 0 → added start three ≡ three + 4
-added-none start three none = grind (arith, nat_tests)
 
 pub added-some : (start three : ℕ) → 0 < start → added start three ≡ three
 added-some start three some = grind (arith, nat_tests)
@@ -111,7 +99,7 @@ module _ (drawing : Drawing) (band column : ℕ) (runs : RowRuns) where
       let n = length drawing.colors in
       let le =
       total-le (bytes_left drawing band (column + 1) starts) (bytes_left drawing band column starts)
-      (λ k. 0) n (λ k lk. grind (arith, nat_tests, bytes_from-step, left-some, left-none)) in
+      (λ k. 0) n (λ k lk. grind (arith, nat_tests, bytes_from-step)) in
       grind (arith, nat_tests, total-zero n)
 
   -- after the last column a band has the bytes that are counted

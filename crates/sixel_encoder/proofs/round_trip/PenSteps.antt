@@ -47,10 +47,6 @@ pub record Follows (drawing : Drawing) (first : ℕ) (start palette : List (List
   pub shape : (other : PixelAspectRatio) → ratio other history ≡ drawing.aspect_ratio
   pub fits : Fits whole_limit drawing.width (6 * bands drawing.height) history
 
--- two options with a value are equal only if the values are
-same_some : (m n : ℕ) → Some m ≡ Some n → m ≡ n
-same_some m n e = cc
-
 module _ (drawing : Drawing) (is : IsWritable drawing) where
   -- a drawing's sizes are within the limits
   IsWithinLimits-drawing : IsWithinLimits whole_limit drawing.width (6 * bands drawing.height)
@@ -61,7 +57,7 @@ module _ (drawing : Drawing) (is : IsWritable drawing) where
       (h : History) → IsAllowed drawing pen mark → Follows drawing first start palette pen h
       → Follows drawing first start palette (moved pen mark) (with_mark mark h)
   Follows-mark first start palette pen (Pick register) h may follows =
-      grind (arith, nat_tests, selects, same_some, keeps_registers)
+      grind (arith, nat_tests, selects, keeps_registers)
   Follows-mark first start palette pen (Draw row) h may follows =
       let fits =
       Fits-run_tokens whole_limit drawing.width (6 * bands drawing.height) (row_tokens row) h in

@@ -1,5 +1,5 @@
 -- The raster attributes of a text: they give the picture the drawing's sizes and shape.
-use Rattle.std.proofs.Common.{ap, arith, get_or, ℕ, ◌*◌, ◌∷◌, ◌≡◌, ◌≤◌, []}
+use Rattle.std.proofs.Common.{ap, arith, get_or, ◌*◌, ◌∷◌, ◌≡◌, []}
 use Rattle.std.proofs.lemmas.Nat.{mul-le}
 use Rattle.sixel_base.specs.Fields.{field, fields}
 use Rattle.sixel_base.specs.Limits.{whole_limit}

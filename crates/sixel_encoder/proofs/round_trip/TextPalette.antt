@@ -1,7 +1,7 @@
 -- What the definitions of a text leave: in each register the color of the last entry that was
 -- defined in it, rounded.
 use Rattle.std.specs.Prelude.{None, Option, Some, slice_index_or, slice_set, ◌==◌}
-use Rattle.std.proofs.Common.{List, arith, cond, length, map}
+use Rattle.std.proofs.Common.{List, arith, cond, length}
 use Rattle.std.proofs.Common.{nat_lt, refl, ℕ, ◌*◌, ◌<◌, ◌∙◌, ◌∷◌, ◌≡◌, []}
 use Rattle.std.proofs.lemmas.Bool.Decides.{nat_tests}
 use Rattle.std.proofs.lemmas.List.{get_or-set_other, get_or-set_same, length-set}
@@ -13,7 +13,7 @@ use Rattle.sixel_base.specs.Stroke.{Origin, background, pixel, ratio, registers}
 use Rattle.sixel_encoder.specs.Marks.{AreDefinitions, Definition, IsDefinition, first_pen}
 use Rattle.sixel_encoder.specs.Marks.{register_entry}
 use Rattle.sixel_encoder.specs.Text.{Drawing, bands}
-use Rattle.sixel_encoder.specs.Trip.{IsColor, IsWritable, rounded}
+use Rattle.sixel_encoder.specs.Trip.{IsColor, IsWritable}
 use Rattle.sixel_encoder.proofs.round_trip.Digits.{fields-numbers, numbers}
 use Rattle.sixel_encoder.proofs.round_trip.Extent.{Fits, Fits-color}
 use Rattle.sixel_encoder.proofs.round_trip.PenSteps.{Follows}

@@ -1,8 +1,8 @@
 -- What the tokens of a text show: each pixel in the register that it was last drawn in.
-use Rattle.std.specs.Prelude.{None, Option, Some, is_some, slice_index_or}
-use Rattle.std.proofs.Common.{Bool, List, cond, true, ℕ, ◌++◌, ◌∷◌, ◌≡◌, arith, []}
+use Rattle.std.specs.Prelude.{None, Option, Some, slice_index_or}
+use Rattle.std.proofs.Common.{Bool, List, cond, ℕ, ◌++◌, ◌∷◌, ◌≡◌, arith, []}
 use Rattle.sixel_base.specs.History.{History}
-use Rattle.sixel_base.specs.Stroke.{Origin, color, pixel}
+use Rattle.sixel_base.specs.Stroke.{Origin, pixel}
 use Rattle.sixel_encoder.specs.Marks.{AreAllowed, Back, Draw, IsAllowed, Mark, Next, Pen, Pick}
 use Rattle.sixel_encoder.specs.Marks.{covered, moved, painted}
 use Rattle.sixel_encoder.specs.Text.{Drawing}
@@ -24,13 +24,6 @@ module _ (palette : List (List ℕ)) (base : List ℕ) where
       ≡ color_in palette base (cond b x y)
   color_in-cond b x y = grind (arith, nat_tests)
 
-  -- the pen's register has the color that the decoder draws in
-  color_in-selected : (drawing : Drawing) (origin : Origin) (pen : Pen) (h : History)
-      → Follows drawing origin.pixel_limit.first_register origin.registers palette pen h
-      → is_some pen.register ≡ true
-      → color origin h ++ 255 ∷ [] ≡ color_in palette base pen.register
-  color_in-selected drawing origin pen h follows some = grind (arith, nat_tests)
-
   -- a mark sets the pixels of its row
   pixel-mark : (drawing : Drawing) (origin : Origin) (pen : Pen) (mark : Mark) (before : Option ℕ)
       (h : History) (column line : ℕ) → IsAllowed drawing pen mark
@@ -40,7 +33,7 @@ module _ (palette : List (List ℕ)) (base : List ℕ) where
       ≡ color_in palette base (covered pen mark before column line)
   pixel-mark drawing origin pen (Pick register) before h column line may follows was = was
   pixel-mark drawing origin pen (Draw row) before h column line may follows was =
-      grind (arith, nat_tests, Moved-row row h, color_in-selected, color_in-cond)
+      grind (arith, nat_tests, Moved-row row h, color_in-cond)
   pixel-mark drawing origin pen Back before h column line may follows was = was
   pixel-mark drawing origin pen Next before h column line may follows was = was
 

@@ -1,8 +1,8 @@
 -- What is drawn of an image within the limits can be written, and a trip leads to an image within
 -- the limits.
 use Rattle.std.proofs.Common.{◌≡◌, ℕ, Bool, zero, suc, ◌+◌, ◌*◌, ◌<◌, List}
-use Rattle.std.proofs.Common.{◌∷◌, ◌++◌, map, length, get_or, arith, []}
-use Rattle.std.specs.Prelude.{◌/◌, ◌%◌, Option, None, IfSome, All}
+use Rattle.std.proofs.Common.{◌∷◌, ◌++◌, map, get_or, arith, []}
+use Rattle.std.specs.Prelude.{◌/◌, ◌%◌, Option, None, All}
 use Rattle.std.proofs.lemmas.List.{get_or_default}
 use Rattle.std.proofs.lemmas.List.Elements.{All-from_get_or}
 use Rattle.sixel_palette.specs.Palette.{IsShown}
@@ -18,7 +18,7 @@ use Rattle.sixel_encoder.specs.Encoding.{IsDrawing, image_fault}
 use Rattle.sixel_encoder.proofs.drawings.Sizes.{within-sound, sound-within}
 use Rattle.sixel_encoder.proofs.round_trip.Percentages.{rounded_byte}
 use Rattle.sixel_encoder.proofs.round_trip.DrawnHeight.{bands_up_to-le}
-use Rattle.sixel_encoder.proofs.round_trip.TripPixels.{entry_in, byte-trip, length-trip}
+use Rattle.sixel_encoder.proofs.round_trip.TripPixels.{byte-trip, length-trip}
 use Rattle.std.proofs.lemmas.Bool.Decides.{nat_tests}
 
 -- ---- an image's drawing
@@ -26,12 +26,6 @@ use Rattle.std.proofs.lemmas.Bool.Decides.{nat_tests}
 -- a shown color is three bytes
 IsColor-shown : (pixels c : List ℕ) → All (λ b. b < 256) pixels → IsShown pixels c → IsColor c
 IsColor-shown pixels c bytes shown = grind (arith, nat_tests)
-
--- an entry that is drawn is one of the palette
-drawn-known : (image : Image) (max_colors : ℕ) (drawing : Drawing) (place : ℕ)
-    → IsDrawing image max_colors drawing → place < length image.pixels / 4
-    → IfSome (entry_in drawing place) (λ entry. entry < length drawing.colors)
-drawn-known image max_colors drawing place drawn l = grind (arith, nat_tests)
 
 module _ (image : Image) (max_colors : ℕ) (drawing : Drawing)
     (drawn : IsDrawing image max_colors drawing) where
@@ -51,7 +45,7 @@ module _ (image : Image) (max_colors : ℕ) (drawing : Drawing)
         few = omega (arith, drawn.palette.size.2);
         colors = λ k d l.
             IsColor-shown image.pixels _ bytes (members_from_order _ _ drawn.palette.order k d l);
-        known = λ k d l. grind (arith, nat_tests, get_or_default, drawn-known);
+        known = λ k d l. grind (arith, nat_tests, get_or_default);
       }
 
   -- it takes as much room in whole bands as its image

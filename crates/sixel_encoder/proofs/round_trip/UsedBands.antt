@@ -1,14 +1,14 @@
 -- Which bands of a drawing are used: those with a pixel that has an entry.
 use Rattle.std.specs.List.{list_any}
 use Rattle.std.specs.Prelude.{None, Option, Some, is_some, ◌/◌}
-use Rattle.std.proofs.Common.{Bool, List, ap, arith, drop, false, get_or, length, refl, suc}
-use Rattle.std.proofs.Common.{take, true, zero, ℕ, ◌%◌, ◌*◌, ◌+◌, ◌-◌, ◌<◌, ◌∙◌, ◌≡◌, ◌≤◌}
+use Rattle.std.proofs.Common.{List, ap, arith, drop, false, get_or, length}
+use Rattle.std.proofs.Common.{take, true, ℕ, ◌%◌, ◌*◌, ◌+◌, ◌-◌, ◌<◌, ◌∙◌, ◌≡◌, ◌≤◌}
 use Rattle.std.proofs.lemmas.List.{get_or-drop, get_or-take, get_or_default, get_or_past}
 use Rattle.std.proofs.lemmas.List.{length-drop, length-take}
 use Rattle.std.proofs.lemmas.List.Folds.{Any-from_list_any, list_any_at, list_any_none}
 use Rattle.std.proofs.lemmas.List.FromFn.{get_or-map-range_with_len}
 use Rattle.std.proofs.lemmas.Nat.{div_below, mod_below, mul-add-lt, mul-le}
-use Rattle.sixel_encoder.specs.Text.{Drawing, entry_at, has_dot, mask, row_of}
+use Rattle.sixel_encoder.specs.Text.{Drawing, entry_at, has_dot, row_of}
 use Rattle.sixel_encoder.specs.Trip.{IsWritable, is_used}
 use Rattle.sixel_encoder.proofs.MaskBits.{mask-nothing}
 use Rattle.sixel_encoder.proofs.band_rows.EntryRows.{length-row_of}

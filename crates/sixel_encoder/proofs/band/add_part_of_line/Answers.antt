@@ -2,7 +2,7 @@ use Rattle.std.proofs.Common.{◌≡◌, ℕ, ◌+◌, ◌-◌, ◌*◌, ◌<◌
 use Rattle.sixel_encoder.specs.inside.Indexed.{entry_of}
 use Rattle.sixel_encoder.specs.inside.Grid.{cell, pixel_bit}
 use Rattle.sixel_encoder.proofs.band_rows.Cells.{AreMarks-dot, AreMarks-same, place_inside}
-use Rattle.sixel_encoder.proofs.band_rows.Lines.{pixel_bit-other, pixel_bit-transparent}
+use Rattle.sixel_encoder.proofs.band_rows.Lines.{pixel_bit-other}
 use Rattle.sixel_encoder.proofs.band_rows.Lines.{pixel_bit-dot}
 use Rattle.sixel_encoder.proofs.band_rows.Lines.{column-dot, column-more}
 use Rattle.sixel_encoder.proofs.band.add_part_of_line.Goals as goal
@@ -59,7 +59,7 @@ columns-preserved c =
             let count : e < length used = omega (arith, c.if-has_row.auto.used) in
             let none : bit e column ≡ 0 = elim w.else-has_row.branch [
               | else-has_row-via-then-has_row+else-is_opaque v ↦
-                  grind (arith, nat_tests, pixel_bit-transparent, weight, first)
+                  grind (arith, nat_tests, weight, first)
               | else-has_row-via-else-has_row v ↦
                   let other = c.has_row.ensures.outside v.if-has_row.false e count in
                   grind (arith, nat_tests, pixel_bit-other, weight, first, c.from-entry.ensures)

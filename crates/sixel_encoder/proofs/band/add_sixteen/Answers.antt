@@ -1,6 +1,5 @@
 use Rattle.std.proofs.Common.{◌≡◌, ◌+◌, ◌-◌, ◌*◌, arith}
-use Rattle.sixel_encoder.proofs.band_rows.Lines.{pixel_bit-row}
-use Rattle.sixel_encoder.proofs.band_rows.LineRuns.{between-none, between-same, cell-run}
+use Rattle.sixel_encoder.proofs.band_rows.LineRuns.{between-none, cell-run}
 use Rattle.sixel_encoder.proofs.band_rows.LineRuns.{AreMarks-run}
 use Rattle.sixel_encoder.proofs.band.add_sixteen.Goals as goal
 use Rattle.std.proofs.lemmas.Bool.Decides.{nat_tests}
@@ -8,7 +7,7 @@ use Rattle.std.proofs.lemmas.Bool.Decides.{nat_tests}
 pub returns-then-is_run-clause-cells : goal.returns-then-is_run-clause-cells
 returns-then-is_run-clause-cells c = λ e x le lx.
     let run = cell-run _ _ _ _ _ _ c.add_weight.ensures c.requires.columns e _ lx in
-    grind (arith, nat_tests, between-same, pixel_bit-row, c.from-row.ensures)
+    grind (arith, nat_tests, c.from-row.ensures)
 
 pub returns-then-is_run-clause-marks : goal.returns-then-is_run-clause-marks
 returns-then-is_run-clause-marks c =

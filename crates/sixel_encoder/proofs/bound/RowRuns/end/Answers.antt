@@ -1,7 +1,7 @@
 use Rattle.std.proofs.Common.{◌≡◌, arith, slice_index}
 use Rattle.std.proofs.lemmas.Grind.{get_or-set_at}
 use Rattle.std.proofs.lemmas.List.{get_or-set_other}
-use Rattle.sixel_encoder.proofs.plain_text.Bound.{added-none, added-some, bound-end}
+use Rattle.sixel_encoder.proofs.plain_text.Bound.{added-some, bound-end}
 use Rattle.sixel_encoder.proofs.bound.RowRuns.end.Goals as goal
 use Rattle.std.proofs.lemmas.Bool.Decides.{nat_tests}
 
@@ -16,7 +16,7 @@ returns-then-start-eq0-clause-bound c = λ drawing band change is.
     (change c.if-lane-eq-TRANSPARENT.false) is
     (λ k ne. grind (arith, nat_tests, get_or-set_other, c.from-entry.ensures)) (grind
     (arith, nat_tests, get_or-set_at, c.from-entry.ensures, c.requires.starts, c.requires.lane))
-    (grind (arith, nat_tests, added-none)) (omega (arith, at, c.min.ensures))
+    (grind (arith, nat_tests)) (omega (arith, at, c.min.ensures))
     (omega (arith, c.min.ensures))
 
 pub returns-else-start-eq0-clause-bound : goal.returns-else-start-eq0-clause-bound
