@@ -9,7 +9,6 @@ ghost use Rattle.sixel_palette.specs.Palette.{IsNearest, AreIndices, IsError, Ar
 ghost use Rattle.sixel_palette.specs.PaletteBound.{AreApart, NoListIsBetter};
 ghost use Rattle.sixel_palette.specs.Refined.{IsRefined, opaque_pixels};
 ghost use Rattle.sixel_palette.specs.declared.palette.refined.RefinedPalette.{RefinedPalette};
-ghost use Rattle.sixel_palette.specs.inside.PaletteCodes.{AreShownCodes};
 ghost use Rattle.sixel_palette.specs.inside.PaletteChosen.{IsChosen};
 
 mod assignment;
@@ -33,7 +32,7 @@ pub mod register_color;
 mod relaxation;
 pub mod spread;
 
-use crate::palette::colors::shown_codes;
+use crate::palette::color_set::ColorSet;
 use crate::palette::distance::is_apart_from;
 use crate::palette::farthest::choose;
 use crate::palette::indices::indices_of;
@@ -134,28 +133,12 @@ fn palette_of(
     ensures chosen { IfOk result (IsChosen pixels.now room) }
     ensures indices { IfOk result (λ p. AreIndices pixels.now p.colors.items p.indices.items) }
 {
-    let codes = shown_codes(alloc, pixels)?;
-    palette_of_codes(alloc, pixels, &codes, room)
-}
-
-/// The palette from the codes of the opaque pixels' colors, each once, in order.
-fn palette_of_codes(
-    alloc: Global,
-    pixels: &[u8],
-    codes: &[u32],
-    room: usize,
-) -> std::result::Result<PaletteChoice, AllocError>
-    requires some { 0 < room }
-    requires room { room ≤ 256 }
-    requires codes { AreShownCodes pixels.now codes.now }
-    ensures chosen { IfOk result (IsChosen pixels.now room) }
-    ensures indices { IfOk result (λ p. AreIndices pixels.now p.colors.items p.indices.items) }
-{
-    let selection = choose(alloc, codes, room)?;
-    let indices = indices_of(alloc, pixels, codes, &selection.indices)?;
-    let witnesses = selection.witnesses(alloc, codes)?;
+    let colors = ColorSet::of(alloc, pixels)?;
+    let selection = choose(alloc, &colors.codes, room)?;
+    let indices = indices_of(alloc, pixels, &colors, &selection.indices)?;
+    let witnesses = selection.witnesses(alloc, &colors.codes)?;
     Ok(PaletteChoice {
-        error: selection.error(codes),
+        error: selection.error(&colors.codes),
         colors: selection.colors,
         indices,
         witnesses,

@@ -1,5 +1,5 @@
 -- Lists of numbers: one more at the end, one set, a part, and numbers that rise.
-use Rattle.std.proofs.Common.{◌≡◌, ℕ, zero, suc, ◌+◌, ◌-◌, ◌<◌, ◌≤◌, List, [], ◌∷◌, ◌++◌, length}
+use Rattle.std.proofs.Common.{◌≡◌, ℕ, ◌+◌, ◌-◌, ◌<◌, ◌≤◌, List, [], ◌∷◌, ◌++◌, length}
 use Rattle.std.proofs.Common.{get_or, take, drop, replicate, ◌∙◌, arith}
 use Rattle.std.specs.List.{All}
 use Rattle.std.specs.List.Sorted.{IsStrictlyIncreasing}
@@ -33,19 +33,6 @@ increasing-le xs up i j l m = grind (arith, nat_tests, AllPairs-from_increasing)
 pub increasing-push : (xs : List ℕ) (x : ℕ) → IsStrictlyIncreasing xs → All (λ y. y < x) xs
     → IsStrictlyIncreasing (xs ++ x ∷ [])
 increasing-push xs x up below = grind (arith, length_push, get_or_append_left, get_or_push)
-
--- a rising number is at least its position
-increasing-from : (xs : List ℕ) → IsStrictlyIncreasing xs → (k : ℕ) → k < length xs
-    → k ≤ get_or xs k 0
-increasing-from xs up zero l = omega arith
-increasing-from xs up (suc k) l =
-    let next : k + 1 ≡ suc k = omega arith in
-    omega (arith, increasing-from xs up k (omega arith), rw next at (up k (omega arith)))
-
--- rising numbers below a limit are at most as many
-pub increasing-few : (xs : List ℕ) (n : ℕ) → IsStrictlyIncreasing xs → All (λ x. x < n) xs
-    → length xs ≤ n
-increasing-few xs n up below = grind (arith, nat_tests, increasing-from)
 
 -- a number of a part is that far on in the whole
 get_or_part : (xs : List ℕ) (a n k : ℕ) → k < n

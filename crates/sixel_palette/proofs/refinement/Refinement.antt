@@ -92,8 +92,8 @@ module _ (pixels : List ℕ) (room amount : ℕ) (it : Refinement)
   pub refinement-below : (c : List ℕ) → IsShown pixels c
       → nearest it.entries.colors.items c < no_entry
   refinement-below =
-      entries-below pixels it.codes.items it.entries.colors.items is.entries.squares
-      it.entries.indices.items bytes is.codes
+      entries-below pixels it.colors.codes.items it.entries.colors.items is.entries.squares
+      it.entries.indices.items bytes is.colors.codes
       (λ l. omega (arith, is.entries.size, is.entries.are.some l)) is.entries.shown
       is.entries.nearest
 
@@ -103,8 +103,8 @@ module _ (pixels : List ℕ) (room amount : ℕ) (it : Refinement)
       → AreIndices pixels is.entries.refined.colors.items palette.indices.items
       → IsRefined pixels room palette
   refinement-palette palette has indices =
-      let codes = it.codes.items in
-      let are = is.codes in
+      let codes = it.colors.codes.items in
+      let are = is.colors.codes in
       let made = is.entries.are in
       let refined = is.entries.refined in
       let colors = refined.colors.items in
@@ -166,8 +166,8 @@ module _ (pixels : List ℕ) (room amount : ℕ) (it : Refinement)
       let refined = is.entries.refined in
       let made = is.entries.are in
       let (own, many, each) =
-      first-indexed pixels it.codes.items refined.colors.items made.squares refined.indices.items
-      bytes is.codes made.some made.shown made.nearest (length pixels / 4) (omega arith) in
+      first-indexed pixels it.colors.codes.items refined.colors.items made.squares
+      refined.indices.items bytes is.colors.codes made.some made.shown made.nearest (length pixels / 4) (omega arith) in
       let palette : RefinedPalette = record {
         colors = refined.colors;
         indices = record {

@@ -1,11 +1,7 @@
 -- The distinct colors of an image's opaque pixels, with the number of pixels that have each.
 use Rattle.std.specs.Prelude.{◌≡◌, ℕ, ◌*◌, ◌/◌, ◌%◌, ◌<◌, ◌≤◌, List, length, slice_index}
-use Rattle.std.specs.List.Sorted.{IsStrictlyIncreasing}
-use Rattle.sixel_palette.specs.declared.palette.color_counts.Ranking.{Ranking}
-use Rattle.sixel_palette.specs.Palette.{nearest, IsShown}
+use Rattle.sixel_palette.specs.Palette.{nearest}
 use Rattle.sixel_palette.specs.Refined.{opaque_number, sum_to}
-use Rattle.sixel_palette.specs.inside.PaletteCodes.{IsListed}
-use Rattle.sixel_palette.specs.inside.PaletteRanks.{IsRankBitmap}
 use Rattle.sixel_palette.specs.inside.PaletteSums.{counted_pixels}
 
 -- each code has the number of the first pixels that have its color: whatever number each color has,
@@ -19,12 +15,6 @@ pub record AreCounts (pixels codes counts : List ℕ) (count : ℕ) : Type 0 whe
 pub record HasPosition (codes : List ℕ) (word position : ℕ) : Type 0 where
   pub within : 128 ≤ word % 256 → position < length codes
   pub code : 128 ≤ word % 256 → slice_index codes position ≡ word / 256
-
--- the colors of the image's opaque pixels have ranks
-pub record IsRankingOf (pixels : List ℕ) (ranking : Ranking) : Type 0 where
-  pub ascending : IsStrictlyIncreasing ranking.codes.now
-  pub ranks : IsRankBitmap ranking.codes.now ranking.ranks.now
-  pub listed : (c : List ℕ) → IsShown pixels c → IsListed ranking.codes.now c
 
 -- the sum of the products of two lists, element by element
 abbrev pub dot : List ℕ → List ℕ → ℕ

@@ -11,10 +11,10 @@ use Rattle.sixel_palette.specs.PaletteBound.{IsLeastApart}
 use Rattle.sixel_palette.specs.Refined.{AreOnTop, IsRegisterColor, base_entries, cut_entries}
 use Rattle.sixel_palette.specs.Refined.{register_color}
 use Rattle.sixel_palette.specs.Spread.{is_flat, spread_entries}
-use Rattle.sixel_palette.specs.inside.PaletteCodes.{AreShownCodes, IsListed, color_of}
+use Rattle.sixel_palette.specs.inside.PaletteCodes.{IsListed, color_of}
 use Rattle.sixel_palette.specs.inside.PaletteCounts.{AreCounts, counted_error}
 use Rattle.sixel_palette.specs.inside.PaletteNearest.{AreNearest}
-use Rattle.sixel_palette.specs.inside.PaletteRanks.{IsRankBitmap}
+use Rattle.sixel_palette.specs.inside.PaletteRanks.{IsColorSetOf}
 use Rattle.sixel_palette.specs.inside.PaletteSums.{counted_pixels}
 
 -- the entries are refined for these codes and counts
@@ -68,11 +68,10 @@ pub record AreSpreadEntries (codes counts : List ℕ) (room amount : ℕ) (entri
 -- the palette is refined for the image
 pub record IsRefinement (pixels : List ℕ) (room amount : ℕ) (it : Refinement) : Type 0 where
   pub area : length pixels / 4 ≤ area_limit
-  pub codes : AreShownCodes pixels it.codes.items
-  pub ranks : IsRankBitmap it.codes.items it.ranks
+  pub colors : IsColorSetOf pixels it.colors
   pub counts : List ℕ
-  pub counted : AreCounts pixels it.codes.items counts (length pixels / 4)
-  pub entries : AreSpreadEntries it.codes.items counts room amount it.entries
+  pub counted : AreCounts pixels it.colors.codes.items counts (length pixels / 4)
+  pub entries : AreSpreadEntries it.colors.codes.items counts room amount it.entries
 
 -- the palette has these entries
 pub record HasEntries (entries : RefinedEntries) (palette : RefinedPalette) : Type 0 where

@@ -1,54 +1,15 @@
 //! The number of an image's pixels that have each of its distinct colors.
 
-ghost use Rattle.std.specs.Prelude.{◌≡◌, ◌+◌, ◌*◌, ◌/◌, ◌<◌, ◌≤◌, ℕ, List, length, IfOk};
+ghost use Rattle.std.specs.Prelude.{◌≡◌, ◌+◌, ◌*◌, ◌/◌, ◌<◌, ◌≤◌, length, IfOk};
 ghost use Rattle.std.specs.List.{sum};
-ghost use Rattle.std.specs.List.Sorted.{IsStrictlyIncreasing};
 ghost use Rattle.sixel_base.specs.Limits.{area_limit};
-ghost use Rattle.sixel_palette.specs.Palette.{IsShown};
-ghost use Rattle.sixel_palette.specs.inside.PaletteCodes.{IsListed, AreColorCodes};
 ghost use Rattle.sixel_palette.specs.inside.PaletteCodes.{IsPixelWord};
-ghost use Rattle.sixel_palette.specs.inside.PaletteCounts.{AreCounts, HasPosition, IsRankingOf};
-ghost use Rattle.sixel_palette.specs.inside.PaletteRanks.{IsRankBitmap};
+ghost use Rattle.sixel_palette.specs.inside.PaletteCounts.{AreCounts, HasPosition};
+ghost use Rattle.sixel_palette.specs.inside.PaletteRanks.{IsColorSetOf};
 
-use crate::palette::color_set::rank_bitmap::RankBitmap;
+use crate::palette::color_set::ColorSet;
 use crate::palette::colors::{are_four_of, four_words, pixel_word};
 use std::alloc::{AllocError, Global};
-
-/// The pixels of each distinct color, and the ranks of the colors.
-#[derive(Drop)]
-pub struct Counts {
-    /// The number of opaque pixels of each color.
-    pub counts: Vec<u32>,
-    /// The position of each color's code in the list of codes.
-    pub ranks: RankBitmap,
-}
-
-/// The codes of the distinct colors in order, and their ranks.
-#[derive(Clone, Copy)]
-struct Ranking<'a> {
-    codes: &'a [u32],
-    ranks: &'a RankBitmap,
-}
-
-/// The counts and the ranks of the colors of an image, from the colors' codes.
-pub fn counts_of(alloc: Global, pixels: &[u8], codes: &[u32]) -> Result<Counts, AllocError>
-    requires area { length pixels.now / 4 ≤ area_limit }
-    requires ascending { IsStrictlyIncreasing codes.now }
-    requires small { AreColorCodes codes.now }
-    requires listed { (c : List ℕ) → IsShown pixels.now c → IsListed codes.now c }
-    ensures counts { IfOk result (λ counted.
-        AreCounts pixels.now codes.now counted.counts.items (length pixels.now / 4)) }
-    ensures ranks { IfOk result (λ counted. IsRankBitmap codes.now counted.ranks) }
-{
-    let mut counts = vec![in alloc; 0; codes.len()]?;
-    let ranks = RankBitmap::new(alloc, codes)?;
-    let ranking = Ranking {
-        codes,
-        ranks: &ranks,
-    };
-    ranking.count_pixels(&mut counts, pixels);
-    Ok(Counts { counts, ranks })
-}
 
 /// The sum of the counts.
 #[inline(never)]
@@ -63,16 +24,28 @@ pub fn total_of(counts: &[u32]) -> u64
     total
 }
 
-impl Ranking<'_> {
+impl ColorSet {
+    /// The number of an image's opaque pixels of each color.
+    pub fn counts(&self, alloc: Global, pixels: &[u8]) -> Result<Vec<u32>, AllocError>
+        requires area { length pixels.now / 4 ≤ area_limit }
+        requires colors { IsColorSetOf pixels.now self.now }
+        ensures { IfOk result (λ counts.
+            AreCounts pixels.now self.now.codes.items counts.items (length pixels.now / 4)) }
+    {
+        let mut counts = vec![in alloc; 0; self.codes.len()]?;
+        self.count_pixels(&mut counts, pixels);
+        Ok(counts)
+    }
+
     /// Counts the opaque pixels of each color.
     ///
     /// Four pixels that are equal to the one before them are counted without a search.
     #[inline(never)]
     fn count_pixels(&self, counts: &mut [u32], pixels: &[u8])
         requires area { length pixels.now / 4 ≤ area_limit }
-        requires ranking { IsRankingOf pixels.now self.now }
-        requires none { AreCounts pixels.now self.now.codes.now counts.old 0 }
-        ensures { AreCounts pixels.now self.now.codes.now counts.new (length pixels.now / 4) }
+        requires colors { IsColorSetOf pixels.now self.now }
+        requires none { AreCounts pixels.now self.now.codes.items counts.old 0 }
+        ensures { AreCounts pixels.now self.now.codes.items counts.new (length pixels.now / 4) }
     {
         let count = pixels.len() / 4;
         let mut last = 0;
@@ -99,15 +72,15 @@ impl Ranking<'_> {
         requires area { length pixels.now / 4 ≤ area_limit }
         requires within { pixel < length pixels.now / 4 }
         requires word { IsPixelWord pixels.now pixel word }
-        requires ranking { IsRankingOf pixels.now self.now }
-        requires counts { AreCounts pixels.now self.now.codes.now counts.old pixel }
-        ensures counts { AreCounts pixels.now self.now.codes.now counts.new (pixel + 1) }
-        ensures position { HasPosition self.now.codes.now word result }
+        requires colors { IsColorSetOf pixels.now self.now }
+        requires counts { AreCounts pixels.now self.now.codes.items counts.old pixel }
+        ensures counts { AreCounts pixels.now self.now.codes.items counts.new (pixel + 1) }
+        ensures position { HasPosition self.now.codes.items word result }
     {
         if word % 256 < 128 {
             return 0;
         }
-        let position = self.ranks.position_of(self.codes, word / 256);
+        let position = self.position_of(word / 256);
         counts[position] += 1;
         position
     }

@@ -2,72 +2,45 @@
 
 ghost use Rattle.std.specs.Prelude.{◌≡◌, ℕ, ◌+◌, ◌*◌, ◌/◌, ◌%◌, ◌<◌, ◌≤◌, List, length};
 ghost use Rattle.std.specs.Prelude.{slice_index, Contains, IfOk};
-ghost use Rattle.std.specs.List.Sorted.{IsStrictlyIncreasing};
 ghost use Rattle.sixel_palette.specs.Palette.{nearest, IsShown, AreIndices, no_entry};
-ghost use Rattle.sixel_palette.specs.inside.PaletteCodes.{color_of, IsListed, AreColorCodes};
-ghost use Rattle.sixel_palette.specs.inside.PaletteCodes.{IsPixelWord};
+ghost use Rattle.sixel_palette.specs.inside.PaletteCodes.{color_of, IsPixelWord};
 ghost use Rattle.sixel_palette.specs.inside.PaletteNearest.{AreNearest, IsIndexOf};
 ghost use Rattle.sixel_palette.specs.inside.PaletteNearest.{IsIndex, AreIndicesTo};
-ghost use Rattle.sixel_palette.specs.inside.PaletteLookUp.{IsLookUp, HasColorsOf, FindsNearest};
-ghost use Rattle.sixel_palette.specs.inside.PaletteRanks.{IsRankBitmap};
+ghost use Rattle.sixel_palette.specs.inside.PaletteLookUp.{HasColorsOf, FindsNearest};
+ghost use Rattle.sixel_palette.specs.inside.PaletteRanks.{IsColorSet, IsColorSetOf};
 
-use crate::palette::color_set::rank_bitmap::RankBitmap;
+use crate::palette::color_set::ColorSet;
 use crate::palette::colors::{are_four_of, four_words, pixel_word};
 use std::alloc::{AllocError, Global};
 use std::simd::prelude::*;
 
-/// The palette index of each pixel, from those of the colors in use.
+/// The palette index of each pixel, from those of the image's colors.
 pub fn indices_of(
     alloc: Global,
     pixels: &[u8],
-    codes: &[u32],
+    colors: &ColorSet,
     color_indices: &[u8],
 ) -> Result<Vec<u8>, AllocError>
-    requires same { length codes.now ≡ length color_indices.now }
-    requires ascending { IsStrictlyIncreasing codes.now }
-    requires small { AreColorCodes codes.now }
-    requires listed { (c : List ℕ) → IsShown pixels.now c → IsListed codes.now c }
+    requires same { length colors.now.codes.items ≡ length color_indices.now }
+    requires colors { IsColorSetOf pixels.now colors.now }
     ensures { IfOk result (λ indices. (entries : List (List ℕ)) (squares : List ℕ)
-        → AreNearest entries codes.now squares color_indices.now
-        → ((c : List ℕ) → IsShown pixels.now c → nearest entries c < no_entry)
-        → AreIndices pixels.now entries indices.items) }
-{
-    let ranks = RankBitmap::new(alloc, codes)?;
-    Ok(indices_by(alloc, pixels, codes, &ranks, color_indices)?)
-}
-
-/// The palette index of each pixel, from those of the colors in use and the colors' ranks.
-pub fn indices_by(
-    alloc: Global,
-    pixels: &[u8],
-    codes: &[u32],
-    ranks: &RankBitmap,
-    color_indices: &[u8],
-) -> Result<Vec<u8>, AllocError>
-    requires same { length codes.now ≡ length color_indices.now }
-    requires ascending { IsStrictlyIncreasing codes.now }
-    requires ranks { IsRankBitmap codes.now ranks.now }
-    requires listed { (c : List ℕ) → IsShown pixels.now c → IsListed codes.now c }
-    ensures { IfOk result (λ indices. (entries : List (List ℕ)) (squares : List ℕ)
-        → AreNearest entries codes.now squares color_indices.now
+        → AreNearest entries colors.now.codes.items squares color_indices.now
         → ((c : List ℕ) → IsShown pixels.now c → nearest entries c < no_entry)
         → AreIndices pixels.now entries indices.items) }
 {
     let mut indices = vec![in alloc; 0; pixels.len() / 4]?;
     let look_up = LookUp {
-        codes,
-        ranks,
+        colors,
         color_indices,
     };
     fill_indices(&mut indices, pixels, &look_up);
     Ok(indices)
 }
 
-/// A table of the colors in use: codes in order, ranks and palette indices.
+/// The colors of an image, and the palette index of each.
 #[derive(Clone, Copy)]
 struct LookUp<'a> {
-    codes: &'a [u32],
-    ranks: &'a RankBitmap,
+    colors: &'a ColorSet,
     color_indices: &'a [u8],
 }
 
@@ -75,17 +48,18 @@ impl LookUp<'_> {
     /// The palette index for a pixel of this word, 0 if it is transparent.
     #[inline(always)]
     fn index_of(&self, word: u32) -> u8
-        requires whole { IsLookUp self.now }
-        requires listed { 128 ≤ word % 256 → Contains self.now.codes.now (word / 256) }
+        requires colors { IsColorSet self.now.colors.now }
+        requires same { length self.now.colors.now.codes.items ≡ length self.now.color_indices.now }
+        requires listed { 128 ≤ word % 256 → Contains self.now.colors.now.codes.items (word / 256) }
         ensures { (entries : List (List ℕ)) (squares : List ℕ)
-            → AreNearest entries self.now.codes.now squares self.now.color_indices.now
+            → AreNearest entries self.now.colors.now.codes.items squares self.now.color_indices.now
             → (128 ≤ word % 256 → nearest entries (color_of (word / 256)) < no_entry)
             → IsIndexOf entries word result }
     {
         if word % 256 < 128 {
             return 0;
         }
-        self.color_indices[self.ranks.position_of(self.codes, word / 256)]
+        self.color_indices[self.colors.position_of(word / 256)]
     }
 }
 

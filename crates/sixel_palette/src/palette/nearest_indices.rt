@@ -1,11 +1,9 @@
 //! The palette index of each pixel in a given palette.
 
-ghost use Rattle.std.specs.Prelude.{◌≡◌, ℕ, ◌<◌, ◌≤◌, List, length, All, IfOk, slice_index};
+ghost use Rattle.std.specs.Prelude.{ℕ, ◌<◌, ◌≤◌, length, All, IfOk, slice_index};
 ghost use Rattle.sixel_palette.specs.Palette.{AreIndices};
-ghost use Rattle.sixel_palette.specs.inside.PaletteCodes.{AreColorCodes};
-ghost use Rattle.sixel_palette.specs.inside.PaletteNearest.{AreNearest};
 
-use crate::palette::colors::shown_codes;
+use crate::palette::color_set::ColorSet;
 use crate::palette::farthest::Traversal;
 use crate::palette::indices::indices_of;
 use std::alloc::{AllocError, Global};
@@ -22,22 +20,10 @@ pub fn nearest_indices(
     requires few { length colors.now ≤ 256 }
     ensures { IfOk result (λ indices. AreIndices pixels.now colors.now indices.items) }
 {
-    let codes = shown_codes(alloc, pixels)?;
-    let color_indices = color_indices_of(alloc, &codes, colors)?;
+    let shown = ColorSet::of(alloc, pixels)?;
+    let traversal = Traversal::among(alloc, &shown.codes, colors)?;
     color_bytes(colors);
-    Ok(indices_of(alloc, pixels, &codes, &color_indices)?)
-}
-
-/// The palette index of the nearest entry of each code's color.
-fn color_indices_of(alloc: Global, codes: &[u32], colors: &[[u8; 3]]) -> Result<Vec<u8>, AllocError>
-    requires small { AreColorCodes codes.now }
-    requires few { length colors.now ≤ 256 }
-    ensures nearest { IfOk result (λ indices. (squares : List ℕ)
-        × AreNearest colors.now codes.now squares indices.items) }
-    ensures size { IfOk result (λ indices. length indices.items ≡ length codes.now) }
-{
-    let traversal = Traversal::among(alloc, codes, colors)?;
-    Ok(traversal.indices)
+    Ok(indices_of(alloc, pixels, &shown, &traversal.indices)?)
 }
 
 /// States that the channels of colors are bytes. It does nothing.

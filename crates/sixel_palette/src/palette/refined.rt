@@ -18,13 +18,13 @@ ghost use Rattle.sixel_palette.specs.inside.PaletteRefinement.{AreRefinedEntries
 
 use crate::palette::assignment::{Assignment, assign, summed};
 use crate::palette::bins::{Bin, bins_of};
-use crate::palette::color_counts::{counts_of, total_of};
-use crate::palette::color_set::rank_bitmap::RankBitmap;
-use crate::palette::colors::{color_of, shown_codes};
+use crate::palette::color_counts::total_of;
+use crate::palette::color_set::ColorSet;
+use crate::palette::colors::color_of;
 use crate::palette::distance::distance;
 use crate::palette::farthest_on_top::{Topped, add_farthest};
 use crate::palette::gain_cut::{box_colors, boxes_of, is_final};
-use crate::palette::indices::indices_by;
+use crate::palette::indices::indices_of;
 use crate::palette::lloyd::improve;
 use crate::palette::nearest_entry::squared_to_nearest;
 use crate::palette::register_color::register_color;
@@ -70,12 +70,11 @@ pub struct RefinedEntries {
 
 /// A refined palette of an image whose pixels have no indices yet.
 ///
-/// They are looked up by the codes of the image's colors and the ranks of these.
+/// They are looked up by the image's colors.
 #[derive(Drop)]
 pub struct Refinement {
     pub entries: RefinedEntries,
-    pub codes: Vec<u32>,
-    pub ranks: RankBitmap,
+    pub colors: ColorSet,
 }
 
 /// The entries before the rounds, and each color's nearest one after them.
@@ -167,15 +166,11 @@ impl Refinement {
         requires room { room ≤ 256 }
         ensures { IfOk result (IsRefinement pixels.now room amount) }
     {
-        let codes = shown_codes(alloc, pixels)?;
-        let counted = counts_of(alloc, pixels, &codes)?;
-        let refined = refined_entries(alloc, &codes, &counted.counts, room)?;
-        let entries = refined.spread(alloc, &codes, &counted.counts, amount)?;
-        Ok(Refinement {
-            entries,
-            codes,
-            ranks: counted.ranks,
-        })
+        let colors = ColorSet::of(alloc, pixels)?;
+        let counts = colors.counts(alloc, pixels)?;
+        let refined = refined_entries(alloc, &colors.codes, &counts, room)?;
+        let entries = refined.spread(alloc, &colors.codes, &counts, amount)?;
+        Ok(Refinement { entries, colors })
     }
 
     /// The palette index of each pixel's nearest entry, the first of equals.
@@ -184,13 +179,7 @@ impl Refinement {
         ensures { IfOk result
             (λ indices. AreIndices pixels.now self.now.entries.colors.items indices.items) }
     {
-        indices_by(
-            alloc,
-            pixels,
-            &self.codes,
-            &self.ranks,
-            &self.entries.indices,
-        )
+        indices_of(alloc, pixels, &self.colors, &self.entries.indices)
     }
 }
 

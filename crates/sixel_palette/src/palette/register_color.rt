@@ -6,7 +6,8 @@ ghost use Rattle.sixel_palette.specs.Palette.{HasSize, IsShown};
 ghost use Rattle.sixel_palette.specs.Refined.{IsRegisterColor, percentage, register_color};
 ghost use Rattle.sixel_palette.specs.inside.PaletteCodes.{AreColorCodes, IsListed};
 
-use crate::palette::colors::{code_of, color_of, shown_codes};
+use crate::palette::color_set::ColorSet;
+use crate::palette::colors::{code_of, color_of};
 use sixel_base::{Result, SixelError};
 use std::alloc::Global;
 
@@ -30,10 +31,10 @@ pub fn count_colors(alloc: Global, pixels: &[u8]) -> Result<DistinctColors>
     ensures exact { IfOk result (λ it. IsTrue it.are_exact
         ↔ ((c : List ℕ) → IsShown pixels.now c → IsRegisterColor c)) }
 {
-    let codes = shown_codes(alloc, pixels)?;
+    let colors = ColorSet::of(alloc, pixels)?;
     Ok(DistinctColors {
-        count: codes.len().min(257) as u16,
-        are_exact: are_exact(&codes),
+        count: colors.codes.len().min(257) as u16,
+        are_exact: are_exact(&colors.codes),
     })
 }
 

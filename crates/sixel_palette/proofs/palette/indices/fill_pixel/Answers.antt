@@ -3,7 +3,7 @@ use Rattle.sixel_palette.proofs.palette.indices.fill_pixel.Goals as goal
 
 pub index_of-index-requires-clause-listed : goal.index_of-index-requires-clause-listed
 index_of-index-requires-clause-listed c = λ o.
-    Contains-word _ _ _ _ c.requires.word c.requires.within o c.requires.shown.listed
+    Contains-word _ _ _ _ c.requires.word c.requires.within o c.requires.shown.colors.codes.shown
 
 pub returns-clause-last : goal.returns-clause-last
 returns-clause-last c = λ entries tells.

@@ -7,7 +7,8 @@ pub returns : goal.returns
 returns c = λ entries squares near below.
     let light : 128 ≤ c.args.word % 256 = omega (arith, c.if-word-lt128.false) in
     let code = c.args.word / 256 in
-    let same : color_of (get_or c.args.self.now.codes.now c.position_of.result 0) ≡ color_of code =
+    let codes = c.args.self.now.colors.now.codes.items in
+    let same : color_of (get_or codes c.position_of.result 0) ≡ color_of code =
     ap color_of c.position_of.ensures.position in
     record {
       opaque = λ o.

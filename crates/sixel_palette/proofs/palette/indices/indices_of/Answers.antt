@@ -1,6 +1,6 @@
 use Rattle.std.proofs.Common.{drop, length, arith}
 use Rattle.std.proofs.lemmas.List.{take_at}
-use Rattle.sixel_palette.proofs.palette.indices.indices_by.Goals as goal
+use Rattle.sixel_palette.proofs.palette.indices.indices_of.Goals as goal
 
 pub returns : goal.returns
 returns c = λ entries squares near below.

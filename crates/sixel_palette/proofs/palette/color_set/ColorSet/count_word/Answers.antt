@@ -1,7 +1,7 @@
 use Rattle.std.proofs.Common.{◌≡◌, ◌%◌, ◌≤◌, refl, arith}
 use Rattle.sixel_palette.proofs.refinement.Counts.{count-le, counts_hidden, counts_run}
 use Rattle.sixel_palette.proofs.traversal.Farthest.{Contains-word}
-use Rattle.sixel_palette.proofs.palette.color_counts.Ranking.count_word.Goals as goal
+use Rattle.sixel_palette.proofs.palette.color_set.ColorSet.count_word.Goals as goal
 
 pub returns-then-word-lt128-clause-counts : goal.returns-then-word-lt128-clause-counts
 returns-then-word-lt128-clause-counts c =
@@ -12,13 +12,13 @@ returns-then-word-lt128-clause-counts c =
 pub position_of-position-requires-clause-listed : goal.position_of-position-requires-clause-listed
 position_of-position-requires-clause-listed c =
     Contains-word _ _ _ _ c.requires.word c.requires.within (omega (arith, c.if-word-lt128.false))
-    c.requires.ranking.listed
+    c.requires.colors.codes.shown
 
 pub overflow_add-counts : goal.overflow_add-counts
 overflow_add-counts c =
     omega (
       arith,
-      count-le c.args.pixels.now c.args.self.now.codes.now c.args.counts.now c.args.pixel
+      count-le c.args.pixels.now c.args.self.now.codes.items c.args.counts.now c.args.pixel
           c.position_of-position.result c.position_of-position.ensures.within c.requires.counts,
       c.requires.area,
       c.requires.within,
