@@ -1,12 +1,11 @@
 -- Buckets: their bounding boxes, and the farthest color of all.
-use Rattle.sixel_palette.specs.Palette.{no_entry}
 use Rattle.std.proofs.Common.{◌≡◌, ℕ, ◌+◌, ◌*◌, ◌/◌, ◌<◌, ◌≤◌, min, List}
 use Rattle.std.proofs.Common.{length, get_or, take, drop, arith}
 use Rattle.sixel_palette.specs.declared.palette.buckets.Interval.{Interval}
 use Rattle.sixel_palette.specs.declared.palette.buckets.Bucket.{Bucket}
 use Rattle.sixel_palette.specs.inside.PaletteCodes.{color_of, AreColorCodes}
 use Rattle.sixel_palette.specs.inside.PaletteBuckets.{channel, IsInInterval, IsInBox, IsInBucket}
-use Rattle.sixel_palette.specs.inside.PaletteBuckets.{IsGreatestIn, AreBuckets, AreAll}
+use Rattle.sixel_palette.specs.inside.PaletteBuckets.{AreBuckets}
 use Rattle.sixel_palette.specs.inside.PaletteBuckets.{IsFirstGreatest}
 use Rattle.sixel_palette.proofs.colors.Lists.{part_at, length-part}
 use Rattle.std.proofs.lemmas.Bool.Decides.{nat_tests}
@@ -55,11 +54,6 @@ box_from_intervals codes bucket n red green blue greatest small end r g b k i =
     let in_green = interval_of_part codes (64 * bucket) n 256 green few g k i.from within in
     let in_blue = interval_of_part codes (64 * bucket) n 1 blue few b k i.from within in
     grind (arith, nat_tests)
-
--- with no entry each color has the same distance
-pub greatest_none : (codes squares : List ℕ) (bucket : ℕ) → 64 * bucket < length codes
-    → AreAll no_entry (length codes) squares → IsGreatestIn codes squares bucket no_entry
-greatest_none codes squares bucket some far = grind (arith, nat_tests)
 
 -- no number is above the greatest of the buckets'
 below_best : (codes squares : List ℕ) (buckets : List Bucket) (greatest best k : ℕ)

@@ -55,10 +55,6 @@ abbrev pub IsSameOutside : ℕ → List ℕ → List ℕ → Type 0
 IsSameOutside bucket old new =
     (k : ℕ) → (k < 64 * bucket) ⊎ (64 * bucket + 64 ≤ k) → slice_index new k ≡ slice_index old k
 
--- the first numbers are all this one
-abbrev pub AreAll : ℕ → ℕ → List ℕ → Type 0
-AreAll number count numbers = (k : ℕ) → k < count → slice_index numbers k ≡ number
-
 -- the position is the first of those with the greatest number
 pub record IsFirstGreatest (squares : List ℕ) (position : ℕ) : Type 0 where
   pub within : position < length squares

@@ -8,16 +8,16 @@
 ghost use Rattle.std.specs.Prelude.{◌≡◌, ◌<◌, ◌≤◌, ◌*◌, ℕ, List, [], ◌∷◌, ◌++◌, length};
 ghost use Rattle.std.specs.Prelude.{All, IfOk, IsTrue, slice_index};
 ghost use Rattle.std.specs.Int.{abs_diff};
-ghost use Rattle.sixel_palette.specs.Palette.{distance, no_entry};
+ghost use Rattle.sixel_palette.specs.Palette.{distance};
 ghost use Rattle.sixel_palette.specs.inside.PaletteNearest.{AreNearest};
 ghost use Rattle.sixel_palette.specs.inside.PaletteBuckets.{IsInInterval, IsInBox, IsBucket};
 ghost use Rattle.sixel_palette.specs.inside.PaletteBuckets.{AreBuckets};
-ghost use Rattle.sixel_palette.specs.inside.PaletteBuckets.{AreAll, IsGreatestIn, IsFirstGreatest};
+ghost use Rattle.sixel_palette.specs.inside.PaletteBuckets.{IsGreatestIn, IsFirstGreatest};
 ghost use Rattle.sixel_palette.specs.inside.PaletteBuckets.{channel};
 ghost use Rattle.sixel_palette.specs.inside.PaletteCodes.{AreColorCodes};
 
 use crate::palette::distance::wrapped_gap;
-use crate::palette::nearest_entry::{Entry, NO_ENTRY};
+use crate::palette::nearest_entry::Entry;
 use crate::palette::relaxation::relax_bucket;
 use std::alloc::{AllocError, Global};
 
@@ -88,27 +88,8 @@ impl Interval {
     }
 }
 
-/// The buckets of some colors while there is no entry.
-pub fn buckets_of(alloc: Global, codes: &[u32]) -> Result<Vec<Bucket>, AllocError>
-    requires small { AreColorCodes codes.now }
-    ensures { IfOk result (λ buckets. (squares : List ℕ)
-        → AreAll no_entry (length codes.now) squares
-        → AreBuckets codes.now squares buckets.items) }
-{
-    let count = codes.len().div_ceil(BUCKET);
-    let mut buckets = Vec::with_capacity(alloc, count)?;
-    for bucket in 0..count {
-        buckets.push(bucket_of(codes, bucket))?;
-    }
-    Ok(buckets)
-}
-
 /// The buckets of some colors, whose distances to their nearest entries are given.
-pub fn measured_buckets(
-    alloc: Global,
-    codes: &[u32],
-    squares: &[u32],
-) -> Result<Vec<Bucket>, AllocError>
+pub fn buckets_of(alloc: Global, codes: &[u32], squares: &[u32]) -> Result<Vec<Bucket>, AllocError>
     requires small { AreColorCodes codes.now }
     requires squares { length squares.now ≡ length codes.now }
     ensures { IfOk result (λ buckets. AreBuckets codes.now squares.now buckets.items) }
@@ -116,11 +97,26 @@ pub fn measured_buckets(
     let count = codes.len().div_ceil(BUCKET);
     let mut buckets = Vec::with_capacity(alloc, count)?;
     for position in 0..count {
-        let greatest = greatest_in(codes, squares, position);
-        let bucket = bucket_of(codes, position);
-        buckets.push(Bucket { greatest, ..bucket })?;
+        buckets.push(bucket_of(codes, squares, position))?;
     }
     Ok(buckets)
+}
+
+/// One of the buckets of some colors.
+fn bucket_of(codes: &[u32], squares: &[u32], bucket: usize) -> Bucket
+    requires some { 64 * bucket < length codes.now }
+    requires small { AreColorCodes codes.now }
+    requires squares { length squares.now ≡ length codes.now }
+    ensures { IsBucket codes.now squares.now bucket result }
+{
+    let start = BUCKET * bucket;
+    let part = &codes[start..codes.len().min(start + BUCKET)];
+    Bucket {
+        red: interval_of(part, 65536),
+        green: interval_of(part, 256),
+        blue: interval_of(part, 1),
+        greatest: greatest_in(codes, squares, bucket),
+    }
 }
 
 /// The greatest distance in a bucket.
@@ -136,23 +132,6 @@ fn greatest_in(codes: &[u32], squares: &[u32], bucket: usize) -> u32
         greatest = squares[position].max(greatest);
     }
     greatest
-}
-
-/// One of the buckets of some colors while there is no entry.
-fn bucket_of(codes: &[u32], bucket: usize) -> Bucket
-    requires some { 64 * bucket < length codes.now }
-    requires small { AreColorCodes codes.now }
-    ensures { (squares : List ℕ) → AreAll no_entry (length codes.now) squares
-        → IsBucket codes.now squares bucket result }
-{
-    let start = BUCKET * bucket;
-    let part = &codes[start..codes.len().min(start + BUCKET)];
-    Bucket {
-        red: interval_of(part, 65536),
-        green: interval_of(part, 256),
-        blue: interval_of(part, 1),
-        greatest: NO_ENTRY,
-    }
 }
 
 /// The interval of a channel of some codes, whose unit is 65536, 256 or 1.

@@ -13,7 +13,7 @@ ghost use Rattle.sixel_palette.specs.inside.PaletteNearest.{AreNearest};
 ghost use Rattle.sixel_palette.specs.inside.PaletteBuckets.{IsFirstGreatest};
 ghost use Rattle.sixel_palette.specs.inside.PaletteTraversal.{IsTraversal, HasRelaxed};
 
-use crate::palette::buckets::{Bucket, buckets_of, farthest_of, measured_buckets, relax_buckets};
+use crate::palette::buckets::{Bucket, buckets_of, farthest_of, relax_buckets};
 use crate::palette::colors::color_of;
 use crate::palette::nearest_entry::{Entry, NO_ENTRY, squared_to_nearest};
 use std::alloc::{AllocError, Global};
@@ -118,12 +118,8 @@ impl Traversal {
     {
         let squares = vec![in alloc; NO_ENTRY; codes.len()]?;
         let indices = vec![in alloc; 0; codes.len()]?;
-        let buckets = buckets_of(alloc, codes)?;
-        Ok(Traversal {
-            squares,
-            indices,
-            buckets,
-        })
+        let traversal = Traversal::of(alloc, codes, squares, indices)?;
+        Ok(traversal)
     }
 
     /// A traversal of each color's nearest one among some entries, in order.
@@ -164,7 +160,7 @@ impl Traversal {
         ensures squares { IfOk result (λ t. t.squares.items ≡ squares.items) }
         ensures indices { IfOk result (λ t. t.indices.items ≡ indices.items) }
     {
-        let buckets = measured_buckets(alloc, codes, &squares)?;
+        let buckets = buckets_of(alloc, codes, &squares)?;
         Ok(Traversal {
             squares,
             indices,
