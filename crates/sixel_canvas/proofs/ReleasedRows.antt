@@ -20,7 +20,8 @@ dropped bytes width free n = grind (arith, common_steps)
 
 -- the bytes of rows below `free` others, without the first `n` of them
 pub removed : (bytes : List ℕ) (width rows free n : ℕ) → n ≤ rows →
-    4 * (free * width) ≤ length bytes → length (drop (4 * (free * width)) bytes) ≡ 4 * (rows * width) →
+    4 * (free * width) ≤ length bytes →
+    length (drop (4 * (free * width)) bytes) ≡ 4 * (rows * width) →
     (4 * ((free + n) * width) ≤ length bytes)
     × (length (drop (4 * ((free + n) * width)) bytes) ≡ 4 * ((rows - n) * width))
 removed bytes width rows free n few above len =

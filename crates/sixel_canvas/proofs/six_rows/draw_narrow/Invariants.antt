@@ -5,4 +5,5 @@ use Rattle.sixel_canvas.proofs.six_rows.draw_narrow.Given as goal
 
 abbrev pub invariant-drawn : goal.invariant-drawn
 invariant-drawn l =
-    AreDrawn l.fn.pixels l.pixels l.cap (covers l.from (min l.to (l.from + 8 * l.i)) 0 l.bits) l.color
+    AreDrawn l.fn.pixels l.pixels l.cap
+    (covers l.from (min l.to (l.from + 8 * l.i)) 0 l.bits) l.color

@@ -15,7 +15,8 @@ mixed-preserved c =
     c.number.result ∷ c.number-in-mixed.result ∷ c.number-in-mixed-2.result
     ∷ c.number-in-mixed-3.result ∷ [] in
     let bytes = λ (k : ℕ) (pixel : List ℕ).
-    lane_bytes args.sixels numbers args.color pixel bit c.number-colors.result k (omega arith) refl in
+    lane_bytes args.sixels numbers args.color pixel bit c.number-colors.result k (omega arith) refl
+    in
     let color = c.number-colors.ensures in
     let p = c.to_le_bytes.ensures ∙ bytes 0 _ (omega arith) color c.number.ensures in
     let q =

@@ -4,7 +4,4 @@ use Rattle.sixel_canvas.proofs.MovedRows.{rows_above-down}
 use Rattle.sixel_canvas.proofs.band_canvas.BandCanvasCanvas.new_line.Goals as goal
 
 pub returns-clause-paid : goal.returns-clause-paid
-returns-clause-paid c = λ named runs before.
-    let now = c.args.self.now in
-    let above = rows_above-down now.top runs before.0.below in
-    (grind (arith, nat_tests), grind (arith), grind (arith, nat_tests, above))
+returns-clause-paid c = grind (arith, nat_tests, rows_above-down)
