@@ -33,9 +33,9 @@ mod relaxation;
 pub mod spread;
 
 use crate::palette::color_set::ColorSet;
-use crate::palette::distance::is_apart_from;
 use crate::palette::farthest::choose;
 use crate::palette::indices::indices_of;
+use crate::palette::refined::least_apart;
 pub use crate::palette::refined::{RefinedPalette, refine_palette};
 pub use crate::palette::register_color::{DistinctColors, count_colors};
 use sixel_base::{Result, SixelError};
@@ -149,18 +149,12 @@ fn palette_of(
 ///
 /// If so, then for any list of fewer colors some witness has to each of these a squared distance of
 /// at least a fourth of `error`. It does not allocate.
-#[tactic(auto, using(crate::proofs::traversal::Apart::apart_pairs))]
 pub fn witnesses_hold(witnesses: &[[u8; 3]], error: u32) -> bool
     ensures apart { IsTrue result ↔ AreApart witnesses.now error }
     ensures bound { IsTrue result → (n : ℕ) → n < length witnesses.now
         → NoListIsBetter (Contains witnesses.now) n error }
 {
-    for (position, color) in witnesses.iter().enumerate() {
-        if !is_apart_from(*color, &witnesses[..position], error) {
-            return false;
-        }
-    }
-    true
+    witnesses.len() < 2 || least_apart(witnesses) >= error
 }
 
 /// A law, without work: images of the same opaque colors have the same palette.

@@ -1,15 +1,13 @@
 -- What colors that lie apart prove of all lists of fewer colors.
 use Rattle.std.proofs.Common.{◌≡◌, ℕ, suc, ◌+◌, ◌*◌, ◌<◌, ◌≤◌, Bool, true, false, leb, List, []}
-use Rattle.std.proofs.Common.{◌∷◌, length, get_or, take, refl, arith}
+use Rattle.std.proofs.Common.{◌∷◌, length, get_or, refl, arith}
 use Rattle.std.specs.List.{All, AllPairs, Contains, filter}
 use Rattle.std.proofs.lemmas.Bool.{cases_Bool, leb-false, leb-true}
-use Rattle.std.proofs.lemmas.List.{get_or-take, get_or_default, length-take, take_all, take_more}
-use Rattle.std.proofs.lemmas.List.Quantifiers.{all_pairs_push}
 use Rattle.std.proofs.lemmas.List.Elements.{All-contains_itself, All-nil, All-cons}
 use Rattle.std.proofs.lemmas.List.Elements.{All-filter, filter_passes}
 use Rattle.std.proofs.lemmas.List.Kept.{AllPairs-filter}
 use Rattle.sixel_palette.specs.Palette.{distance}
-use Rattle.sixel_palette.specs.PaletteBound.{AreApart, NoListIsBetter}
+use Rattle.sixel_palette.specs.PaletteBound.{AreApart, IsLeastApart, NoListIsBetter}
 use Rattle.sixel_palette.proofs.colors.Distance.{distance_comm, distance_through}
 use Rattle.std.proofs.lemmas.Bool.Decides.{nat_tests}
 
@@ -67,19 +65,15 @@ far_from_others Member least (p ∷ others) colors apart members more =
     (members_far Member least p colors members) (omega (arith, length-far least p colors apart)) in
     (rest.0, rest.1.0, All-cons (λ q. least ≤ 4 * distance rest.0 q) p others rest.1.1 rest.2)
 
--- one more color, at that distance from those before it
-pub apart_more : (colors : List (List ℕ)) (least i : ℕ) → i < length colors
-    → AreApart (take i colors) least
-    → All (λ p. least ≤ distance p (get_or colors i [])) (take i colors)
-    → AreApart (take (i + 1) colors) least
-apart_more colors least i l before here =
-    rw (take_more colors i [] l)
-    (all_pairs_push (λ a b. least ≤ distance a b) (take i colors) (get_or colors i []) before here)
+-- colors whose least distance is no less lie apart, and only those
+pub apart_from_least : (colors : List (List ℕ)) (least given : ℕ) → IsLeastApart colors least
+    → given ≤ least → AreApart colors given
+apart_from_least colors least given h l = λ i j d m n. omega (arith, h.apart i j d m n, l)
 
--- a color among others that lie apart is at that distance from those before it
-pub apart_before : (colors : List (List ℕ)) (least i : ℕ) → i < length colors
-    → AreApart colors least → All (λ p. least ≤ distance p (get_or colors i [])) (take i colors)
-apart_before colors least i l apart = grind (arith, length-take, get_or-take, get_or_default)
+pub least_from_apart : (colors : List (List ℕ)) (least given : ℕ) → IsLeastApart colors least
+    → 2 ≤ length colors → AreApart colors given → given ≤ least
+least_from_apart colors least given h many apart =
+    let (i, j, l, m, is) = h.reached [] many in omega (arith, apart i j [] l m, is)
 
 -- no list of fewer colors is near to each of those that lie apart
 pub bound_from_apart : (colors : List (List ℕ)) (least : ℕ) → AreApart colors least → (n : ℕ)
@@ -87,5 +81,3 @@ pub bound_from_apart : (colors : List (List ℕ)) (least : ℕ) → AreApart col
 bound_from_apart colors least apart n l = λ others m.
     far_from_others (Contains colors) least others colors apart (All-contains_itself colors)
     (omega arith)
-
-pub ruleset apart_pairs = (nat_tests, take_all, apart_more, bound_from_apart)

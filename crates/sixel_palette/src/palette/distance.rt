@@ -1,6 +1,6 @@
 //! Squared distances of colors: sums of the squared differences of their channels.
 
-ghost use Rattle.std.specs.Prelude.{◌≡◌, ◌*◌, ◌<◌, ◌≤◌, ◌↔◌, ℕ, List, All, IsTrue};
+ghost use Rattle.std.specs.Prelude.{◌≡◌, ◌*◌, ◌<◌, ◌≤◌};
 ghost use Rattle.std.specs.Int.{abs_diff};
 ghost use Rattle.sixel_palette.specs.Palette.{distance, no_entry};
 ghost use Rattle.sixel_palette.specs.inside.PaletteCodes.{color_of, code_count};
@@ -20,18 +20,6 @@ fn square_gap(a: u8, b: u8) -> u32
     ensures small { result ≤ 65025 }
 {
     wrapped_gap(u32::from(a), u32::from(b))
-}
-
-/// Returns whether a color has at least this squared distance to each other one.
-pub fn is_apart_from(color: [u8; 3], others: &[[u8; 3]], least: u32) -> bool
-    ensures { IsTrue result ↔ All (λ p. least ≤ distance p color) others.now }
-{
-    for position in 0..others.len() {
-        if distance(others[position], color) < least {
-            return false;
-        }
-    }
-    true
 }
 
 /// The squared distance of a code's color to another one, without a branch.

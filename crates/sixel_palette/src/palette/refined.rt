@@ -346,7 +346,7 @@ fn register_colors(alloc: Global, codes: &[u32]) -> std::result::Result<Vec<[u8;
 }
 
 /// The least squared distance of two of the colors, 0 if there are not two.
-fn least_apart(colors: &[[u8; 3]]) -> u32
+pub fn least_apart(colors: &[[u8; 3]]) -> u32
     ensures { IsLeastApart colors.now result }
 {
     if colors.len() < 2 {
