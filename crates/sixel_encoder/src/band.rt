@@ -150,23 +150,13 @@ impl BandRows {
     {
         let start = row * self.width;
         let end = start + self.width;
-        push_sixels(text, self.first + row, &self.rows[start..end])?;
+        text.push('#')?;
+        push_number(text, self.first + row)?;
+        push_row(text, &self.rows[start..end])?;
+        text.push('$')?;
         self.rows[start..end].fill(0);
         Ok(())
     }
-}
-
-/// Appends an entry and the sixels of its row.
-fn push_sixels(text: &mut String, entry: usize, sixels: &[u8]) -> Result<(), AllocError>
-    requires number { entry < 512 }
-    requires below { All (λ bits. bits < 64) sixels.now }
-    ensures { OnOk result (string_bytes text.new ≡ string_bytes text.old
-        ++ row_text entry sixels.now) }
-{
-    text.push('#')?;
-    push_number(text, entry)?;
-    push_row(text, sixels)?;
-    text.push('$')
 }
 
 /// A line of a band: its first pixel, and the weight of its bit in a sixel.

@@ -23,7 +23,13 @@ pub fn equal_from(row: &[u8], at: usize, bits: u8) -> usize
     if row.len() - at < LANES {
         return usize::from(row[at] == bits);
     }
-    equal_lanes(row, at, bits)
+    let sixels = u8x16::from_slice(&row[at..]);
+    let others = sixels.simd_ne(u8x16::splat(bits)).to_bitmask();
+    if others == 0 {
+        LANES
+    } else {
+        others.trailing_zeros() as usize
+    }
 }
 
 /// Returns how many sixels from `at` on equal `bits`, of a long run maybe fewer.
@@ -55,20 +61,4 @@ fn is_long_run(row: &[u8], at: usize, bits: u8) -> bool
     let sixels = u8x64::from_slice(&row[at..]);
     let others = sixels.simd_ne(u8x64::splat(bits)).to_bitmask();
     others == 0
-}
-
-/// Returns how many of sixteen sixels equal `bits` before the first that differs.
-#[inline(always)]
-fn equal_lanes(row: &[u8], at: usize, bits: u8) -> usize
-    requires { at + 16 ≤ length row.now }
-    ensures run { IsRun row.now at bits result }
-    ensures stop { result < 16 → slice_index row.now (at + result) ≢ bits }
-{
-    let sixels = u8x16::from_slice(&row[at..]);
-    let others = sixels.simd_ne(u8x16::splat(bits)).to_bitmask();
-    if others == 0 {
-        LANES
-    } else {
-        others.trailing_zeros() as usize
-    }
 }

@@ -1,20 +1,29 @@
-use Rattle.std.proofs.Common.{arith}
-use Rattle.sixel_encoder.proofs.band_rows.EntryLanes.{mask_is, none_of_all, none_before}
-use Rattle.sixel_encoder.proofs.band_rows.EntryLanes.{at_most_all}
+use Rattle.std.proofs.Common.{◌≡◌, ◌<◌, ◌≤◌, ◌+◌, arith, false, get_or, sym, ◌∙◌, ℕ}
+use Rattle.std.proofs.lemmas.Simd.{none_from_empty_mask, run_in_chunk_fails, run_in_chunk_le}
+use Rattle.sixel_encoder.proofs.band_rows.EntryLanes.{first_one, is_one, mask_is, other_from}
 use Rattle.sixel_encoder.proofs.entries.others_from.Goals as goal
 
 pub returns-then-some-eq0-clause-others : goal.returns-then-some-eq0-clause-others
-returns-then-some-eq0-clause-others c =
+returns-then-some-eq0-clause-others c = λ k e from to le.
+    let is = is_one c.args.first c.args.count in
     let mask = mask_is c.args.indices.now c.args.at c.args.first c.args.count (omega arith) in
-    none_of_all _ _ _ _ _ (omega arith) c.requires.first c.requires.count mask c.if-some-eq0.true
+    other_from c.args.first c.args.count _ e c.requires.first c.requires.count le
+    (none_from_empty_mask is c.args.indices.now c.args.at 32 0 (omega arith)
+    (sym mask ∙ c.if-some-eq0.true) k from to)
 
 pub returns-else-some-eq0-clause-few : goal.returns-else-some-eq0-clause-few
 returns-else-some-eq0-clause-few c =
-    at_most_all c.args.indices.now c.args.at c.args.first c.args.count _ (omega arith)
-    (mask_is c.args.indices.now c.args.at c.args.first c.args.count (omega arith))
-    c.if-some-eq0.false
+    let is = is_one c.args.first c.args.count in
+    let mask = mask_is c.args.indices.now c.args.at c.args.first c.args.count (omega arith) in
+    run_in_chunk_le is c.args.indices.now c.args.at 32 _ 0 (omega arith)
+    (first_one c.args.indices.now c.args.at c.args.first c.args.count _ (omega arith) mask
+    c.if-some-eq0.false)
 
 pub returns-else-some-eq0-clause-others : goal.returns-else-some-eq0-clause-others
-returns-else-some-eq0-clause-others c =
+returns-else-some-eq0-clause-others c = λ k e from to le.
+    let is = is_one c.args.first c.args.count in
     let mask = mask_is c.args.indices.now c.args.at c.args.first c.args.count (omega arith) in
-    none_before _ _ _ _ _ (omega arith) c.requires.first c.requires.count mask c.if-some-eq0.false
+    other_from c.args.first c.args.count _ e c.requires.first c.requires.count le
+    (run_in_chunk_fails is c.args.indices.now c.args.at 32 _ 0 (omega arith)
+    (first_one c.args.indices.now c.args.at c.args.first c.args.count _ (omega arith) mask
+    c.if-some-eq0.false) k from to)

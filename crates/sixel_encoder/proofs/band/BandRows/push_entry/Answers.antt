@@ -1,4 +1,4 @@
-use Rattle.std.proofs.Common.{◌≡◌, ◌<◌, ◌+◌, ◌-◌, ◌*◌, take, drop, arith}
+use Rattle.std.proofs.Common.{◌≡◌, ◌<◌, ◌+◌, ◌-◌, ◌*◌, append_assoc, take, drop, arith}
 use Rattle.std.proofs.lemmas.List.{with_items_is}
 use Rattle.sixel_encoder.specs.inside.Grid.{grid_row}
 use Rattle.sixel_encoder.proofs.band_rows.RowParts.{part-row, All-grid_row, cell-put_own}
@@ -6,8 +6,8 @@ use Rattle.sixel_encoder.proofs.band_rows.RowParts.{cell-put_other}
 use Rattle.sixel_encoder.proofs.band.BandRows.push_entry.Goals as goal
 use Rattle.std.proofs.lemmas.Bool.Decides.{nat_tests}
 
-pub push_sixels-requires-clause-below : goal.push_sixels-requires-clause-below
-push_sixels-requires-clause-below c =
+pub push_row-requires : goal.push_row-requires
+push_row-requires c =
     let rows = c.args.self.now in
     let start = c.args.row * rows.width in
     let row : take (start + rows.width - start) (drop start c.deref.result.now)
@@ -17,7 +17,7 @@ push_sixels-requires-clause-below c =
 
 pub returns-clause-text : goal.returns-clause-text
 returns-clause-text c =
-    grind (arith, part-row, c.deref.ensures.value, c.requires.within, c.in_ok-push_sixels.ensures)
+    grind (arith, append_assoc, part-row, c.deref.ensures.value, c.requires.within)
 
 pub returns-clause-blank : goal.returns-clause-blank
 returns-clause-blank c = grind (arith, with_items_is, cell-put_own, c.fill.ensures.clones)
