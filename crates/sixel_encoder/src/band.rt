@@ -1,7 +1,7 @@
 //! The rows of sixels of one band, for all palette entries or for a part of them.
 
 ghost use Rattle.std.specs.Prelude.{◌≡◌, ◌≢◌, ℕ, ◌+◌, ◌*◌, ◌^◌, ◌<◌, ◌≤◌, ◌++◌, IfOk, OnOk};
-ghost use Rattle.std.specs.Prelude.{string_bytes, true, false, length, slice_index, All};
+ghost use Rattle.std.specs.Prelude.{string_bytes, true, false, length, slice_index};
 ghost use Rattle.sixel_base.specs.Limits.{side_limit};
 ghost use Rattle.sixel_base.specs.Picture.{joined};
 ghost use Rattle.sixel_encoder.specs.Text.{sixel_of, row_text, band_text};

@@ -5,10 +5,9 @@ ghost use Rattle.std.specs.Prelude.{length, string_bytes};
 ghost use Rattle.sixel_encoder.specs.Compact.{band_marks, band_register, compact_marks};
 ghost use Rattle.sixel_encoder.specs.Compact.{compact_text, drawn_after, marked_text};
 ghost use Rattle.sixel_encoder.specs.Compact.{segment_marks};
-ghost use Rattle.sixel_encoder.specs.Marks.{definitions_text, marks_text};
-ghost use Rattle.sixel_encoder.specs.RegisterOrder.{numbered_definitions};
-ghost use Rattle.sixel_encoder.specs.Text.{parameters_text, raster_text, text_of};
-ghost use Rattle.sixel_encoder.specs.inside.Compact.{AreLanes, AreNumbersOf, AreRanks, AreRuns};
+ghost use Rattle.sixel_encoder.specs.Marks.{marks_text};
+ghost use Rattle.sixel_encoder.specs.Text.{text_of};
+ghost use Rattle.sixel_encoder.specs.inside.Compact.{AreLanes, AreNumbersOf};
 ghost use Rattle.sixel_encoder.specs.inside.Compact.{IsSegment, IsWriter, drawn_so_far};
 ghost use Rattle.sixel_encoder.specs.inside.Indexed.{IsIndexed, drawing_of};
 

@@ -1,6 +1,6 @@
 //! The SIXEL output of an image in a refined palette.
 
-ghost use Rattle.std.specs.Prelude.{◌≡◌, ℕ, ◌*◌, ◌<◌, ◌≤◌, All, IfOk, OnOk, None, map};
+ghost use Rattle.std.specs.Prelude.{◌≡◌, ◌*◌, ◌<◌, All, IfOk, OnOk, map};
 ghost use Rattle.std.specs.Prelude.{string_bytes};
 ghost use Rattle.sixel_base.specs.CallFault.{FailsBy};
 ghost use Rattle.sixel_encoder.specs.Encoding.{source_value};

@@ -1,6 +1,6 @@
 //! The segments of a band: pixels of one palette entry, close together.
 
-ghost use Rattle.std.specs.Prelude.{◌≡◌, ◌≢◌, ℕ, ◌+◌, ◌-◌, ◌*◌, ◌<◌, ◌^◌, ◌++◌, IfOk, OnOk};
+ghost use Rattle.std.specs.Prelude.{◌≡◌, ◌≢◌, ◌+◌, ◌-◌, ◌*◌, ◌<◌, ◌^◌, ◌++◌, IfOk, OnOk};
 ghost use Rattle.std.specs.Prelude.{length, true, false};
 ghost use Rattle.sixel_encoder.specs.Segments.{band_segments, drawn_segments, gap_of, passes};
 ghost use Rattle.sixel_encoder.specs.Segments.{in_pass, after_pass};
