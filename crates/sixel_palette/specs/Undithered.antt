@@ -102,6 +102,8 @@ cheapest u column row =
 
 -- an opaque pixel has the cheapest entry, a transparent one the index 0
 pub record IsChosen (u : Undithered) (column row : ℕ) : Type 0 where
+  pub entry : IsOpaque u.pixels (pixel_of u column row)
+      → slice_index u.chosen (pixel_of u column row) < length u.colors
   pub opaque : IsOpaque u.pixels (pixel_of u column row)
       → slice_index u.chosen (pixel_of u column row) ≡ cheapest u column row
   pub hidden : slice_index u.pixels (4 * pixel_of u column row + 3) < 128

@@ -112,6 +112,7 @@ AreChosen-alike u q alike near other are = record {
             (λ i j li lower. entry-alike u.pixels q u.chosen u.chosen (pixel_of u i j) alike
             (λ _ _. refl))) in
             record {
+              entry = λ _. is.entry light;
               opaque = λ _. is.opaque light ∙ same;
               hidden = λ dark. absurd (omega (arith, there.0, dark));
             }

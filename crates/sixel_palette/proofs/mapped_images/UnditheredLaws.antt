@@ -1,14 +1,14 @@
 -- What follows for indices without dithering: they are entries, the nearest ones at no price, and
 -- the summed error is bounded.
-use Rattle.std.proofs.Common.{◌≡◌, ℕ, zero, suc, ◌+◌, ◌-◌, ◌*◌, ◌<◌, ◌≤◌, List, arith, refl}
+use Rattle.std.proofs.Common.{◌≡◌, ℕ, ◌+◌, ◌*◌, ◌<◌, ◌≤◌, arith}
 use Rattle.std.proofs.Common.{length, inl, inr, ap, ◌∙◌, []}
 use Rattle.std.specs.Prelude.{◌/◌, ◌%◌, All, None, Option, Some, slice_index}
-use Rattle.std.proofs.lemmas.Bool.{cases_eq, cases_lt}
+use Rattle.std.proofs.lemmas.Bool.{cases_lt}
 use Rattle.std.proofs.lemmas.Bool.Decides.{nat_tests}
 use Rattle.std.proofs.lemmas.List.{get_or_past}
 use Rattle.std.proofs.lemmas.Nat.{div-add-mod', mod_below, mul-le}
 use Rattle.sixel_palette.specs.Palette.{AreIndices, IsOpaque, color_at, entry_distance}
-use Rattle.sixel_palette.specs.Palette.{entry_of, nearest}
+use Rattle.sixel_palette.specs.Palette.{nearest}
 use Rattle.sixel_palette.specs.Refined.{opaque_number, opaque_pixels, summed_error}
 use Rattle.sixel_palette.specs.Dithering.{index_error, pixel_index_error}
 use Rattle.sixel_palette.specs.Undithered.{AreChosen, IsChosen, Undithered, cheaper, cheapest, cost}
@@ -19,31 +19,11 @@ use Rattle.sixel_palette.proofs.colors.Colors.{IsColor, distance-lt}
 use Rattle.sixel_palette.proofs.colors.Shown.{IsColor-color_at}
 use Rattle.sixel_palette.proofs.mapped_images.KeptEntries.{nearest-distance}
 use Rattle.sixel_palette.proofs.mapped_images.PaletteError.{number-light, sum_to-more_le}
-use Rattle.sixel_palette.proofs.mapped_images.Undithered.{cheapest-free, entry_of-past}
-use Rattle.sixel_palette.proofs.mapped_images.UnditheredVisits.{above-place}
+use Rattle.sixel_palette.proofs.mapped_images.Undithered.{cheapest-free}
 
 -- ---- entries of the palette
 
--- the entry of an opaque pixel is its index
-entry_of-some : (pixels indices : List ℕ) (pixel entry : ℕ)
-    → entry_of pixels indices pixel ≡ Some entry
-    → IsOpaque pixels pixel × (slice_index indices pixel ≡ entry)
-entry_of-some pixels indices pixel entry is =
-    elim (cases_lt (slice_index pixels (4 * pixel + 3)) 128) [
-      | inl dark ↦ grind (arith, nat_tests)
-      | inr light ↦ grind (arith, nat_tests)
-    ]
-
--- the cheaper one of two is one of them
-cheaper-below : (u : Undithered) (column row first : ℕ) (second : Option ℕ)
-    → first < length u.colors → ((entry : ℕ) → second ≡ Some entry → entry < length u.colors)
-    → cheaper u column row first second < length u.colors
-cheaper-below u column row first None own other = own
-cheaper-below u column row first (Some second) own other =
-    let inside = other second refl in
-    grind (arith, nat_tests)
-
--- it costs at most the first, and so much as two columns lack it
+-- the cheaper one of two costs at most the first, and so much as two columns lack it
 cheaper-le : (u : Undithered) (column row first : ℕ) (second : Option ℕ)
     → cost u column row (cheaper u column row first second) ≤ cost u column row first
 cheaper-le u column row first None = omega arith
@@ -70,58 +50,6 @@ lacking-le u column row entry =
     omega (arith, mul-le u.price (lacking u column row entry) u.price 2 (omega arith) few)
 
 module _ (u : Undithered) (are : AreChosen u) (near : AreIndices u.pixels u.colors u.nearest) where
-  -- a nearest entry, and the entry of an opaque pixel that is visited before, are inside
-  own-below : (pixel entry : ℕ) → entry_of u.pixels u.nearest pixel ≡ Some entry
-      → entry < length u.colors
-  own-below pixel entry is =
-      let some = entry_of-some u.pixels u.nearest pixel entry is in
-      elim (cases_lt pixel (length u.pixels / 4)) [
-        | inl inside ↦ rw some.1 at (near.opaque pixel inside some.0).entry
-        | inr past ↦ absurd (grind (arith, nat_tests, entry_of-past))
-      ]
-
-  -- the entry of an opaque pixel is inside, if those visited before are
-  entry-next : (x y : ℕ) → x < u.width → pixel_of u x y < length u.pixels / 4
-      → IsOpaque u.pixels (pixel_of u x y)
-      → ((i j : ℕ) → 6 * i + j % 6 < 6 * x + y % 6 → i < u.width
-      → pixel_of u i j < length u.pixels / 4 → IsOpaque u.pixels (pixel_of u i j)
-      → slice_index u.chosen (pixel_of u i j) < length u.colors)
-      → slice_index u.chosen (pixel_of u x y) < length u.colors
-  entry-next x y l inside light lower =
-      rw ((are.each x y l inside).opaque light) (cheaper-below u x y _ _
-      (cheaper-below u x y _ _
-      (cheaper-below u x y _ _ (near.opaque (pixel_of u x y) inside light).entry before)
-      above)
-      (λ entry is. grind (arith, nat_tests, own-below)))
-    where
-      before : (entry : ℕ) → entry_before u x y ≡ Some entry → entry < length u.colors
-      before entry is =
-          elim (cases_eq x 0) [
-            | inl first ↦ absurd (grind (arith, nat_tests))
-            | inr later ↦
-                let place : pixel_of u x y - 1 ≡ pixel_of u (x - 1) y = omega arith in
-                let own = lower (x - 1) y in
-                grind (arith, nat_tests, entry_of-some)
-          ]
-
-      above : (entry : ℕ) → entry_above u x y ≡ Some entry → entry < length u.colors
-      above entry is =
-          elim (cases_eq (y % 6) 0) [
-            | inl first ↦ absurd (grind (arith, nat_tests))
-            | inr later ↦
-                let place = above-place u.width x y (omega (arith, later)) in
-                let own = lower x (y - 1) in
-                grind (arith, nat_tests, entry_of-some)
-          ]
-
-  entry-below : (n x y : ℕ) → 6 * x + y % 6 < n → x < u.width
-      → pixel_of u x y < length u.pixels / 4 → IsOpaque u.pixels (pixel_of u x y)
-      → slice_index u.chosen (pixel_of u x y) < length u.colors
-  entry-below zero x y less l inside light = absurd (omega (arith, less))
-  entry-below (suc n) x y less l inside light =
-      entry-next x y l inside light (λ i j lower li within lit.
-      entry-below n i j (omega (arith, less, lower)) li within lit)
-
   module _ (wide : 0 < u.width) where
     -- each pixel is visited
     chosen-pixel : (pixel : ℕ) → pixel < length u.pixels / 4
@@ -137,11 +65,8 @@ module _ (u : Undithered) (are : AreChosen u) (near : AreIndices u.pixels u.colo
     pub chosen-below : (pixel : ℕ) → pixel < length u.pixels / 4 → IsOpaque u.pixels pixel
         → slice_index u.chosen pixel < length u.colors
     chosen-below pixel inside light =
-        let place = div-add-mod' pixel u.width in
-        let below =
-        entry-below (suc (6 * (pixel % u.width) + pixel / u.width % 6)) (pixel % u.width)
-        (pixel / u.width) (omega arith) (mod_below pixel u.width wide) in
-        grind (arith, nat_tests)
+        let (is, place) = chosen-pixel pixel inside in
+        grind (arith, nat_tests, is.entry)
 
     -- each index is that of an entry
     AreEntries-chosen : 0 < length u.colors → AreEntries u.colors u.chosen
@@ -227,5 +152,6 @@ AreChosen-free u entries free are same = record {
   each = λ column row across inside.
       let own = cheapest-free u column row are in
       let hidden = are.hidden (pixel_of u column row) inside in
+      let entry = entries (pixel_of u column row) in
       grind (arith, nat_tests);
 }

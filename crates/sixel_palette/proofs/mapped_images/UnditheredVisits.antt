@@ -205,6 +205,7 @@ module _ (u : Undithered) (column row index : ℕ) (across : column < u.width)
       omega (arith, place.0, place.1, earlier band) in
       let kept = get_or-set_other u.chosen (pixel_of u column row) (pixel_of u x y) index 0 apart in
       record {
+        entry = λ light. omega (arith, kept, is.entry light);
         opaque = λ light. kept ∙ (is.opaque light ∙ same);
         hidden = λ dark. kept ∙ is.hidden dark;
       }
@@ -238,6 +239,7 @@ module _ (u : Undithered) (column row index : ℕ) (across : column < u.width)
                         let i : x ≡ column = omega (arith, most, last.1) in
                         let j : y ≡ row = omega (arith, most, last.0, last.1) in
                         rw (i, j) (record {
+                          entry = λ light. omega (arith, new, entry);
                           opaque = λ light. new ∙ (opaque light ∙ same);
                           hidden = λ dark. new ∙ hidden dark;
                         })

@@ -2,7 +2,7 @@
 
 ghost use Rattle.std.specs.Prelude.{◌≡◌, ◌+◌, ◌*◌, ◌/◌, ◌<◌, ◌≤◌, ℕ, IfOk, List, OnOk, Option};
 ghost use Rattle.std.specs.Prelude.{Some, length};
-ghost use Rattle.sixel_palette.specs.Palette.{IsNearest, color_at, entry_of, nearest};
+ghost use Rattle.sixel_palette.specs.Palette.{color_at, entry_of};
 ghost use Rattle.sixel_palette.specs.inside.PaletteKeys.{IsSearchOf};
 ghost use Rattle.sixel_palette.specs.Dithering.{IsIndex, column_of_step, entry_above};
 ghost use Rattle.sixel_palette.specs.Dithering.{entry_before, neighbor_of};
@@ -12,7 +12,6 @@ ghost use Rattle.sixel_palette.specs.inside.Mapped.{IsPlace, kept_value, mapped_
 use crate::palette::colors::is_opaque;
 use crate::palette::distance::distance;
 use crate::palette::nearest::Search;
-use crate::palette::nearest_entry::NearestEntry;
 use std::alloc::AllocError;
 
 /// An image that is mapped to a palette.
@@ -97,9 +96,7 @@ impl MappedImage<'_> {
         [self.pixels[at], self.pixels[at + 1], self.pixels[at + 2]]
     }
 
-    /// Returns the palette index for a target, which is searched unless an entry is kept.
-    ///
-    /// An entry nearer than the tolerance needs no search.
+    /// Returns the palette index for a target: that of the entry that is kept, or of the nearest one.
     #[inline(always)]
     pub fn index_of(
         &self,
@@ -114,30 +111,12 @@ impl MappedImage<'_> {
             → IsIndex (mapped_value self.now) target neighbor index) }
         ensures search { OnOk result (IsSearchOf self.now.colors.now search.new) }
     {
-        if kept.squared < self.tolerance {
-            return Ok(kept.index);
-        }
         let near = search.nearest_to(target)?;
         if self.tolerance == 0 {
             return Ok(near.index);
         }
-        Ok(self.chosen(kept, near))
-    }
-
-    /// Returns the index of the entry that is kept, or the nearest one.
-    #[inline(always)]
-    pub fn chosen(&self, kept: Kept, near: NearestEntry) -> u8
-        ensures { (target : List ℕ) (neighbor : Option ℕ)
-            → IsNearest self.now.colors.now target near.index
-            → near.squared ≡ nearest self.now.colors.now target
-            → IsKept (mapped_value self.now) target neighbor kept
-            → IsIndex (mapped_value self.now) target neighbor result }
-    {
-        if kept.squared < near.squared.saturating_add(self.tolerance) {
-            kept.index
-        } else {
-            near.index
-        }
+        let is_kept = kept.squared < near.squared.saturating_add(self.tolerance);
+        Ok(if is_kept { kept.index } else { near.index })
     }
 
     /// Returns the entries of the pixels before and above. Without a tolerance there are none.
