@@ -171,7 +171,7 @@ class TestPrograms(ProgramTest):
                         self.assertEqual(list(pixels[:12:4]), drawn)
                 ordered = [
                     self.drawn(program, f"-p {file.name} -d ordered {it}", picture)
-                    for it in ("", f"-t {error} -s {levels}", f"-t {error} -s {levels + 1}")
+                    for it in ("", f"-t {2 * error} -s {levels}", f"-t {2 * error} -s {levels + 1}")
                 ]
                 self.assertEqual(ordered[0], ordered[1])
                 self.assertNotEqual(ordered[0], ordered[2])
