@@ -1,8 +1,8 @@
--- Palette indices of an image's pixels in a given palette. Undithered pixels have chosen entries, and
--- so have those of ordered dithering, whose colors are moved first. By error diffusion, an opaque
--- pixel has the entry that is nearest to its target, its color with the errors that it receives, or
--- it keeps the entry of a neighbor that is hardly farther. This diffusion is that of R. W. Floyd and
--- L. Steinberg, "An adaptive algorithm for spatial greyscale", Proceedings of the Society for
+-- Palette indices of an image's pixels in a given palette. Undithered pixels have chosen entries.
+-- So have those of ordered dithering, whose colors are moved first. By error diffusion, an opaque
+-- pixel has the entry that is nearest to its target, its color with the errors that it receives,
+-- or it keeps the entry of a neighbor that is hardly farther. This diffusion is that of R. W. Floyd
+-- and L. Steinberg, "An adaptive algorithm for spatial greyscale", Proceedings of the Society for
 -- Information Display 17 (1976), 75-77, in serpentine order and in whole sixteenths. The pattern of
 -- ordered dithering is that of Ø. Kolås, "a dither" (2013).
 use Rattle.std.specs.Prelude.{◌≡◌, ℕ, zero, suc, ◌+◌, ◌-◌, ◌*◌, ◌/◌, ◌%◌, ◌<◌, ◌≤◌, ◌==◌, nat_le}
@@ -47,8 +47,8 @@ indices_fault bytes width colors =
 
 -- ---- the order of visits
 
--- an image that is mapped to a palette: `strength` eighths of each error are passed on, and an entry
--- may be farther than the nearest one by the tolerance
+-- an image that is mapped to a palette: `strength` eighths of each error are passed on, and an
+-- entry may be farther than the nearest one by the tolerance
 pub record Mapped : Type 0 where
   pub width : ℕ
   pub pixels : List ℕ
@@ -144,7 +144,8 @@ moved_pixel amplitude width pixels pixel =
 
 -- the pixels of an image whose colors are moved
 abbrev pub moved_pixels : ℕ → ℕ → List ℕ → List ℕ
-moved_pixels amplitude width pixels = joined (moved_pixel amplitude width pixels) (length pixels / 4)
+moved_pixels amplitude width pixels =
+    joined (moved_pixel amplitude width pixels) (length pixels / 4)
 
 -- the same mapping of other pixels
 abbrev pub with_pixels : Mapped → List ℕ → Mapped

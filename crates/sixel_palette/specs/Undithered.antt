@@ -1,8 +1,8 @@
 -- Palette indices without dithering, or of colors that the pattern has moved. In a band of six rows
 -- an entry costs most bytes where a run of its columns begins or ends. So an opaque pixel has the
--- cheapest of four entries, by distance and by the columns beside it that lack the entry. The visits
--- go from band to band, from column to column, from the top: earlier pixels count with chosen
--- entries, later ones with nearest entries.
+-- cheapest of four entries, by distance and by the columns beside it that lack the entry. The
+-- visits go from band to band, from column to column, from the top: earlier pixels count with
+-- chosen entries, later ones with nearest entries.
 use Rattle.std.specs.Prelude.{◌≡◌, ℕ, zero, suc, ◌+◌, ◌-◌, ◌*◌, ◌/◌, ◌%◌, ◌<◌, ◌==◌, nat_lt, Bool}
 use Rattle.std.specs.Prelude.{false, ◌||◌, if◌then◌else◌, List, length, slice_index, Option}
 use Rattle.std.specs.Prelude.{Some, None}

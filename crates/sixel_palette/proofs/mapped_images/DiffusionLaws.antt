@@ -7,7 +7,8 @@ use Rattle.std.proofs.lemmas.List.{get_or_default, get_or_past}
 use Rattle.std.proofs.lemmas.List.Elements.{All-cons, All-nil}
 use Rattle.sixel_palette.specs.Palette.{AreIndices, IsNearest, IsOpaque, color_at, distance}
 use Rattle.sixel_palette.proofs.colors.Distance.{below_three, distance_self, same_from_distance}
-use Rattle.sixel_palette.specs.Dithering.{AreDiffused, Mapped, error_above, error_back, error_before}
+use Rattle.sixel_palette.specs.Dithering.{AreDiffused, Mapped, error_above, error_back}
+use Rattle.sixel_palette.specs.Dithering.{error_before}
 use Rattle.sixel_palette.specs.Dithering.{error_behind, error_beyond, errors_of, no_error}
 use Rattle.sixel_palette.specs.Dithering.{opaque_error, passed_on, received, serpentine, sixteenths}
 use Rattle.sixel_palette.specs.Dithering.{target_of_visit, visit_error}

@@ -96,7 +96,7 @@ impl MappedImage<'_> {
         [self.pixels[at], self.pixels[at + 1], self.pixels[at + 2]]
     }
 
-    /// Returns the palette index for a target: that of the entry that is kept, or of the nearest one.
+    /// Returns the palette index for a target: of the entry that is kept, or of the nearest one.
     #[inline(always)]
     pub fn index_of(
         &self,

@@ -20,10 +20,13 @@ loop-pixel-preserved c =
       c.threshold-in-loop-pixel.ensures.value,
       c.threshold-in-loop-pixel-2.ensures.value,
     ) refl in
+    let moved = c.loop-pixel.moved in
     let four : length c.copy_from_slice.new.self ≡ 4 = ap length own in
-    let inside : 4 * n + 4 ≤ length c.loop-pixel.moved = omega (arith, c.loop-pixel.invariant.1, c.loop-pixel-test.true) in
+    let inside : 4 * n + 4 ≤ length moved =
+    omega (arith, c.loop-pixel.invariant.1, c.loop-pixel-test.true) in
     let next : n + 1 ≡ suc n = omega arith in (
-      take-put_mid (4 * n) _ c.loop-pixel.moved c.copy_from_slice.new.self (4 * (n + 1)) (omega (arith, four)) (omega (arith, inside))
-          ∙ (rw (c.loop-pixel.invariant.0, own, next) refl),
+      take-put_mid (4 * n) _ moved c.copy_from_slice.new.self (4 * (n + 1))
+          (omega (arith, four)) (omega (arith, inside))
+          ∙ rw (c.loop-pixel.invariant.0, own, next) refl,
       grind (arith, nat_tests, four, inside),
     )
