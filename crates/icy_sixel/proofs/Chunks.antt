@@ -1,7 +1,6 @@
 -- What is known of the bytes of an image once a beginning of them was fed.
 use Rattle.std.proofs.Common.{◌≡◌, ℕ, ◌≤◌, true, List, [], ◌++◌, refl, ap, sym, ⊎_elim, arith}
-use Rattle.std.specs.Prelude.{◌&&◌, nat_lt, length, Result, Ok}
-use Rattle.std.specs.Prelude.{IfErr}
+use Rattle.std.specs.Prelude.{◌&&◌, nat_lt, length, Result, Ok, IfErr}
 use Rattle.std.proofs.lemmas.List.{append-nil, append_assoc}
 use Rattle.std.proofs.lemmas.Bool.Decides.{nat_tests}
 use Rattle.sixel_base.specs.declared.error.SixelError.{SixelError}

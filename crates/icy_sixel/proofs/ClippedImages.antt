@@ -1,11 +1,9 @@
 -- An image under a clip is the part of the image inside the clip.
-use Rattle.std.proofs.Common.{◌≡◌, ℕ, ◌≤◌, List, [], ◌∷◌, refl, sym, ap, subst, ◌∙◌, None, arith}
-use Rattle.std.proofs.Common.{min}
+use Rattle.std.proofs.Common.{◌≡◌, ℕ, ◌≤◌, List, [], ◌∷◌, refl, ◌∙◌, None, arith}
 use Rattle.std.proofs.lemmas.Bool.Decides.{nat_tests}
 use Rattle.sixel_base.specs.Bytes.{front}
 use Rattle.sixel_base.specs.Clip.{clipped_width}
 use Rattle.sixel_base.specs.Decoder.{clip_side_of, origin_of, with_clip}
-use Rattle.sixel_base.specs.DrawnHeight.{image_drawn_height}
 use Rattle.sixel_base.specs.History.{History, history_of}
 use Rattle.sixel_base.specs.IgnoredCommands.{payload_ignored}
 use Rattle.sixel_base.specs.Limits.{side_limit}
@@ -19,7 +17,7 @@ use Rattle.sixel_base.specs.Stroke.{Origin, pixel}
 use Rattle.sixel_base.specs.declared.state.DecoderState.{DecoderState}
 use Rattle.sixel_base.proofs.ToleratedTokens.{effective-fault, registers-effective}
 use Rattle.sixel_canvas.proofs.Pictures.{picture_same}
-use Rattle.sixel_decoder.specs.Report.{Report, found_report, raster_size, report_of}
+use Rattle.sixel_decoder.specs.Report.{found_report}
 use Rattle.sixel_decoder.proofs.drawing.RowExtents.{cropped_height-most, sides-fit}
 use Rattle.icy_sixel.specs.ClippedImages.{HasNoClip, IsInsideClip, IsPartInside, IsWholeImage}
 use Rattle.icy_sixel.specs.ClippedImages.{part_report, whole_image, whole_pixel}
@@ -90,51 +88,15 @@ pub part_is : (decoder : DecoderState) (columns rows : ℕ) (payload : Found) (i
     → IsFoundImage (with_clip decoder columns rows) payload part
     → IsPartInside (whole_pixel decoder payload) columns rows image part
 part_is decoder columns rows (Payload settings bytes) image part inside is is_part =
-    let own : History = tokens decoder.pixel_limit bytes in
-    rw (is, is_part)
-    (subst (λ (h : History). IsPartInside (pixel (origin_of decoder settings) own) columns rows
-    (image_of (origin_of decoder settings) own)
-    (image_of (origin_of (with_clip decoder columns rows) settings) h))
-    (sym (tokens_stay decoder columns rows bytes))
-    (part_of decoder columns rows settings own inside))
+    rw (is, is_part, tokens_stay decoder columns rows bytes)
+    (part_of decoder columns rows settings (tokens decoder.pixel_limit bytes) inside)
 part_is decoder columns rows (NoPayload fault) image part inside is is_part = absurd is
-
--- a report of these tokens
-abbrev report_with : History → ℕ → ℕ → Report
-report_with h ignored drawn = record {
-  drawn_height = drawn;
-  raster = raster_size h;
-  ignored = ignored;
-}
-
--- the report of the part
-report_part : (decoder : DecoderState) (columns rows : ℕ) (settings : Settings) (h : History)
-    (ignored : ℕ) → IsInsideClip decoder columns rows
-    → report_of (origin_of (with_clip decoder columns rows) settings) h ignored
-    ≡ part_report (report_of (origin_of decoder settings) h ignored) rows
-report_part decoder columns rows settings h ignored inside =
-    let low :
-    image_drawn_height (with_clip decoder columns rows).pixel_limit decoder.raster_crop h
-    ≡ min (image_drawn_height decoder.pixel_limit decoder.raster_crop h) (clip_side_of rows) =
-    omega (arith, inside.rows) in
-    ap (report_with h ignored) low
-
-none_drawn : (n : ℕ) → 0 ≡ min 0 n
-none_drawn n = omega arith
 
 pub report_is : (decoder : DecoderState) (columns rows : ℕ) (payload : Found)
     → IsInsideClip decoder columns rows → found_report (with_clip decoder columns rows) payload
     ≡ part_report (found_report decoder payload) rows
-report_is decoder columns rows (Payload settings bytes) inside =
-    let part : Origin = origin_of (with_clip decoder columns rows) settings in
-    let own : History = tokens decoder.pixel_limit bytes in
-    let count : ℕ = payload_ignored part.pixel_limit bytes in
-    ap (λ (h : History). report_of part h count) (tokens_stay decoder columns rows bytes)
-    ∙ ap (report_of part own) (ignored_stay decoder columns rows bytes)
-    ∙ report_part decoder columns rows settings own (payload_ignored decoder.pixel_limit bytes)
-    inside
-report_is decoder columns rows (NoPayload fault) inside =
-    ap (report_with [] 0) (none_drawn (clip_side_of rows))
+report_is decoder columns rows payload inside =
+    grind (arith, nat_tests, tokens_stay, ignored_stay)
 
 -- ---- faults
 

@@ -1,11 +1,12 @@
 -- The headline: what outcomes are is decided by the steps, whatever their cuts; and what the text of
 -- an image is.
-use Rattle.std.proofs.Common.{◌≡◌, ◌<◌, ℕ, List, [], ◌∷◌, refl, sym, ap, ◌∙◌, arith}
-use Rattle.std.specs.Prelude.{All, None, Option, Bool}
+use Rattle.std.proofs.Common.{◌≡◌, ◌<◌, ℕ, List, [], ◌∷◌, refl, sym, ap, ◌∙◌, arith, subst}
+use Rattle.std.specs.Prelude.{All, None, Option, Bool, IfErr, IfOk, MatchOption, OnOk, Result, Ok}
+use Rattle.std.specs.Prelude.{Err, Some}
 use Rattle.std.proofs.lemmas.Bool.Decides.{nat_tests}
 use Rattle.sixel_base.proofs.Histories.{history_unique, some_history}
 use Rattle.sixel_base.specs.Bytes.{front}
-use Rattle.sixel_base.specs.Decoder.{new_decoder}
+use Rattle.sixel_base.specs.Decoder.{new_decoder, IsSetAs}
 use Rattle.sixel_base.specs.Limits.{whole_limit}
 use Rattle.sixel_base.specs.Payload.{Image}
 use Rattle.sixel_palette.proofs.traversal.Order.{bound_from_order}
@@ -17,14 +18,10 @@ use Rattle.sixel_encoder.specs.Text.{Drawing, row_of, text_of}
 use Rattle.sixel_encoder.proofs.plain_text.Text.{IsOneString-text, text-trip}
 use Rattle.sixel_encoder.proofs.band_rows.ShortestRows.{shortest, spells}
 use Rattle.sixel_encoder.proofs.round_trip.TripLimits.{CanRead-drawn, CanRead-new, IsWritable-drawn}
-use Rattle.std.proofs.Common.{subst}
-use Rattle.std.specs.Prelude.{IfErr, IfOk, MatchOption, OnOk, Result, Ok, Err}
-use Rattle.std.specs.Prelude.{Some}
 use Rattle.std.proofs.lemmas.List.Elements.{All-tail}
 use Rattle.sixel_base.specs.declared.error.SixelError.{SixelError}
 use Rattle.sixel_base.specs.declared.error.SixelError.TheVariants.{OutOfMemory}
 use Rattle.sixel_base.specs.declared.state.DecoderState.{DecoderState}
-use Rattle.sixel_base.specs.Decoder.{IsSetAs}
 use Rattle.sixel_base.specs.Fault.{Fault, Faults, IsFault}
 use Rattle.sixel_base.specs.OneShot.{AreFoundRegisters, Found, IsFoundImage, NoPayload, Payload}
 use Rattle.sixel_base.specs.OneShot.{found}
@@ -38,8 +35,7 @@ use Rattle.icy_sixel.specs.declared.script.End.TheVariants.{Abort, Finish}
 use Rattle.icy_sixel.specs.declared.script.Step.{Step}
 use Rattle.icy_sixel.specs.declared.script.Step.TheVariants as steps
 use Rattle.icy_sixel.specs.declared.script.Outcome.{Outcome}
-use Rattle.icy_sixel.specs.declared.script.Outcome.TheVariants.{Aborted, Decoded, Failed}
-use Rattle.icy_sixel.specs.declared.script.Outcome.TheVariants.{Finished}
+use Rattle.icy_sixel.specs.declared.script.Outcome.TheVariants.{Decoded, Failed, Finished}
 
 -- ---- the text of an image
 
@@ -153,28 +149,16 @@ failed-one error also wants found supplied and faults too =
 session-one : (before a b : DecoderState) (bytes : Meaning) (ending : End) (x y : Outcome)
     → IsSupplied x → IsSupplied y → IsSessionOutcome before bytes ending x a
     → IsSessionOutcome before bytes ending y b → IsSameOutcome x y × (b ≡ a)
-session-one before a b bytes Abort (Aborted m s) (Aborted n t) supplied and is also = (cc, cc)
-session-one before a b bytes Abort (Aborted m s) (Failed e) supplied and is also =
-    absurd (sound-fault e bytes.grows bytes.fed_fault is.0 and also.0)
-session-one before a b bytes Abort (Failed e) (Aborted n t) supplied and is also =
-    absurd (sound-fault e bytes.grows bytes.fed_fault also.0 supplied is.0)
 session-one before a b bytes Abort (Failed e) (Failed f) supplied and is also =
     (failed-one e f bytes.grows bytes.fed_fault supplied and is.0 also.0, also.1 ∙ sym is.1)
 session-one before a b bytes Finish (Finished m s i) (Finished n t j) supplied and is also = (
   (j, cc, image-one before bytes.drawn _ _ is.3 also.3),
   decoder-one before bytes.drawn a b is.4 also.4 is.5 also.5,
 )
-session-one before a b bytes Finish (Finished m s i) (Failed e) supplied and is also =
-    absurd (sound-fault e _ bytes.end_fault is.0 and also.0)
-session-one before a b bytes Finish (Failed e) (Finished n t j) supplied and is also =
-    absurd (sound-fault e _ bytes.end_fault also.0 supplied is.0)
 session-one before a b bytes Finish (Failed e) (Failed f) supplied and is also =
     (failed-one e f _ bytes.end_fault supplied and is.0 also.0, also.1 ∙ sym is.1)
-session-one before a b bytes Abort (Aborted m s) y supplied and is also = absurd also
-session-one before a b bytes Abort (Failed e) y supplied and is also = absurd also
-session-one before a b bytes Finish (Finished m s i) y supplied and is also = absurd also
-session-one before a b bytes Finish (Failed e) y supplied and is also = absurd also
-session-one before a b bytes ending x y supplied and is also = absurd is
+session-one before a b bytes ending x y supplied and is also =
+    grind (arith, nat_tests, sound-fault)
 
 decoding-one : (before a b : DecoderState) (payload : Found) (x y : Outcome)
     → IsSupplied x → IsSupplied y → IsDecoding before payload x a → IsDecoding before payload y b
@@ -183,26 +167,12 @@ decoding-one before a b payload (Decoded i) (Decoded j) supplied and is also = (
   (j, refl, image-one before payload _ _ is.1 also.1),
   decoder-one before payload a b is.2 also.2 is.3 also.3,
 )
-decoding-one before a b payload (Decoded i) (Failed e) supplied and is also =
-    absurd (sound-fault e _ _ is.0 and also.0)
-decoding-one before a b payload (Failed e) (Decoded j) supplied and is also =
-    absurd (sound-fault e _ _ also.0 supplied is.0)
 decoding-one before a b payload (Failed e) (Failed f) supplied and is also =
     (failed-one e f _ _ supplied and is.0 also.0, also.1 ∙ sym is.1)
-decoding-one before a b payload (Decoded i) y supplied and is also = absurd also
-decoding-one before a b payload (Failed e) y supplied and is also = absurd also
-decoding-one before a b payload x y supplied and is also = absurd is
+decoding-one before a b payload x y supplied and is also = grind (arith, nat_tests, sound-fault)
 
 step-one : (before a b : DecoderState) (step : Step) (x y : Outcome) → IsSupplied x → IsSupplied y
     → IsOutcome before step x a → IsOutcome before step y b → IsSameOutcome x y × (b ≡ a)
-step-one before a b steps.Reset x y supplied and is also =
-    rw (is.0, also.0) (refl, also.1 ∙ sym is.1)
-step-one before a b (steps.RasterCrop on) x y supplied and is also =
-    rw (is.0, also.0) (refl, also.1 ∙ sym is.1)
-step-one before a b (steps.PixelLimit pixels) x y supplied and is also =
-    rw (is.0, also.0) (refl, also.1 ∙ sym is.1)
-step-one before a b (steps.Clip width height) x y supplied and is also =
-    rw (is.0, also.0) (refl, also.1 ∙ sym is.1)
 step-one before a b (steps.Frame settings bytes cuts ending) x y supplied and is also =
     session-one before a b (frame_meaning before.pixel_limit settings bytes.now) ending x y
     supplied and is also
@@ -213,6 +183,7 @@ step-one before a b (steps.Decode bytes) x y supplied and is also =
     decoding-one before a b (found bytes.now) x y supplied and is also
 step-one before a b (steps.DecodeFromDcs bytes settings) x y supplied and is also =
     decoding-one before a b (Payload settings bytes.now) x y supplied and is also
+step-one before a b step x y supplied and is also = grind (arith, nat_tests)
 
 -- the outcomes of the same steps are the same, and so is the decoder after them
 headline-one : (before a b : DecoderState) (steps : List Step) (xs ys : List Outcome)

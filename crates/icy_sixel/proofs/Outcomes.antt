@@ -1,7 +1,6 @@
 -- What a step comes to, by what the calls that it makes ensure.
 use Rattle.std.proofs.Common.{◌≡◌, ℕ, ◌++◌, List, None, arith}
 use Rattle.std.proofs.lemmas.List.{append-nil}
-use Rattle.std.proofs.Common.{None}
 use Rattle.std.specs.Prelude.{nat_lt, ◌||◌, if◌then◌else◌, is_none, Result, Ok, Err}
 use Rattle.std.specs.Prelude.{MatchResult, IfOk, IfErr, OnOk, OnErr}
 use Rattle.sixel_base.specs.declared.error.SixelError.{SixelError}

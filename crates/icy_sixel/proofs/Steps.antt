@@ -1,10 +1,9 @@
 -- A run of steps goes on with one step more.
-use Rattle.std.proofs.Common.{List, [], ◌∷◌, ◌++◌}
+use Rattle.std.proofs.Common.{List, [], ◌∷◌, ◌++◌, arith}
 use Rattle.sixel_base.specs.declared.state.DecoderState.{DecoderState}
 use Rattle.icy_sixel.specs.declared.script.Step.{Step}
 use Rattle.icy_sixel.specs.declared.script.Outcome.{Outcome}
 use Rattle.icy_sixel.specs.Script.{IsOutcome, AreOutcomes}
-use Rattle.std.proofs.Common.{arith}
 use Rattle.std.proofs.lemmas.Bool.Decides.{nat_tests}
 
 pub AreOutcomes-push : (before between after : DecoderState) (steps : List Step)

@@ -1,20 +1,17 @@
 -- What the calls of an image do whose first error is stored, by what they do to one that stores
 -- none, as in a session.
-use Rattle.std.proofs.Common.{◌≡◌, ◌≢◌, ℕ, Bool, true, false, List, [], ◌∷◌, None, Some, Option}
-use Rattle.std.proofs.Common.{Ok, Err}
-use Rattle.std.proofs.Common.{arith, refl}
+use Rattle.std.proofs.Common.{◌≡◌, ◌≢◌, ℕ, Bool, true, false, List, [], ◌∷◌, None, Some, Option, Ok}
+use Rattle.std.proofs.Common.{Err, arith, refl}
 use Rattle.std.specs.Option.{option_map}
 use Rattle.std.specs.Prelude.{MatchBool, if◌then◌else◌, is_some}
 use Rattle.std.proofs.lemmas.Bool.Decides.{nat_tests}
 use Rattle.sixel_base.specs.Fault.{Fault, Faults, Incomplete, IsFault, MissingCommand}
-use Rattle.sixel_base.specs.Dcs.{Introduced, Waiting, Absent, Entered, can_finish, introduced}
+use Rattle.sixel_base.specs.Dcs.{Introduced, can_finish, introduced}
 use Rattle.sixel_base.specs.Dcs.{stage_after, stage_by, stage_fault}
-use Rattle.sixel_base.specs.Header.{Headed, Begun, Faulty, headed, headed_by, header_rest}
-use Rattle.sixel_base.specs.Header as headers
-use Rattle.sixel_base.specs.History.{History, Token, history_of}
+use Rattle.sixel_base.specs.Header.{Headed, Faulty, headed_by}
+use Rattle.sixel_base.specs.History.{History, Token}
 use Rattle.sixel_base.specs.Limits.{Limit}
-use Rattle.sixel_base.specs.Bytes.{front}
-use Rattle.sixel_base.specs.Payload.{fault_of, first_fault, settled}
+use Rattle.sixel_base.specs.Payload.{fault_of, first_fault}
 use Rattle.sixel_base.specs.declared.error.SixelError.{SixelError}
 use Rattle.sixel_decoder.specs.FedImages.{IsFed, fault}
 use Rattle.sixel_decoder.specs.FinishedImages.{IsAgain, IsStored, end_fault, failed}
@@ -78,43 +75,33 @@ payload_other limit (token ∷ older) =
     let last = token_other limit token older in
     grind (arith, nat_tests)
 
-branch_other : (test : Bool) (found : Option Fault) → found ≢ Some MissingCommand
-    → (if test then None else found) ≢ Some MissingCommand
-branch_other test found other = grind (arith, nat_tests)
-
 headed_other : (rest : List ℕ) → headed_by rest ≢ Faulty MissingCommand
 headed_other [] = grind (arith, nat_tests)
 headed_other (byte ∷ rest) = grind (arith, nat_tests)
 
 after_other : (limit : Limit) (rest : List ℕ) (head : Headed) → head ≢ Faulty MissingCommand
     → stage_fault limit (stage_after rest head) ≢ Some MissingCommand
-after_other limit rest headers.Open other = grind (arith, nat_tests)
-after_other limit rest (Begun payload) other =
-    branch_other limit.lenient _ (payload_other limit (settled payload))
-after_other limit rest (Faulty fault) other = grind (arith, nat_tests)
+after_other limit rest head other = grind (arith, nat_tests, payload_other)
 
 stage_other : (limit : Limit) (introduced : Introduced)
     → stage_fault limit (stage_by introduced) ≢ Some MissingCommand
-stage_other limit Waiting = grind (arith, nat_tests)
-stage_other limit Absent = grind (arith, nat_tests)
-stage_other limit (Entered rest) =
-    after_other limit rest (headed rest) (headed_other (header_rest rest))
+stage_other limit introduced = grind (arith, nat_tests, after_other, headed_other)
 
 feed_other : (limit : Limit) (form : Form) (bytes : List ℕ)
     → fault limit form bytes ≢ Some MissingCommand
 feed_other limit Nothing bytes = grind (arith, nat_tests)
-feed_other limit (OfPayload settings) bytes =
-    branch_other limit.lenient _ (payload_other limit (settled bytes))
+feed_other limit (OfPayload settings) bytes = grind (arith, nat_tests, payload_other)
 feed_other limit OfString bytes = stage_other limit (introduced bytes)
+
+unfinished_other : (test : Bool) → (if test then None else Some Incomplete) ≢ Some MissingCommand
+unfinished_other test = grind (arith, nat_tests)
 
 -- nor does the end
 pub end_other : (limit : Limit) (form : Form) (bytes : List ℕ)
     → end_fault limit form bytes ≢ Some MissingCommand
 end_other limit Nothing bytes = grind (arith, nat_tests)
-end_other limit (OfPayload settings) bytes =
-    branch_other limit.lenient _ (payload_other limit (history_of (front bytes)))
-end_other limit OfString bytes =
-    branch_other (can_finish limit bytes) (Some Incomplete) (grind (arith, nat_tests))
+end_other limit (OfPayload settings) bytes = grind (arith, nat_tests, payload_other)
+end_other limit OfString bytes = unfinished_other (can_finish limit bytes)
 
 -- the error is stored
 error_stored : (was_refused may : Bool) (now : Option (Option Fault)) (form : Form)

@@ -15,8 +15,7 @@ use Rattle.sixel_decoder.specs.OneShotCalls as one_shot
 use Rattle.sixel_decoder.specs.declared.received.Received.{Received}
 use Rattle.icy_sixel.specs.ReceivedRows.{pixel_so_far}
 use Rattle.icy_sixel.specs.ReceivedImages.{found_report, left_value, received_report, whole_value}
-use Rattle.icy_sixel.specs.Receiver.{AreSettingsKept, Form, Receiver, Reception, no_image}
-use Rattle.icy_sixel.specs.Receiver.{start_of}
+use Rattle.icy_sixel.specs.Receiver.{AreSettingsKept, Form, Receiver, Reception, no_image, start_of}
 use Rattle.icy_sixel.specs.Receiver as receivers
 use Rattle.icy_sixel.specs.declared.receiver.FailedFeed.{FailedFeed}
 use Rattle.icy_sixel.specs.declared.receiver.received_image.ReceivedImage.{ReceivedImage}

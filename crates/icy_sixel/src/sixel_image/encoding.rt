@@ -57,6 +57,7 @@ impl SixelImage {
     /// image. [`image_trip`](sixel_encoder::laws::image_trip) states how decoders with other
     /// settings read it, and [`second_trip`](sixel_encoder::laws::second_trip) that a second round
     /// trip changes nothing.
+    #[tactic(auto, using(std::proofs::lemmas::Bool::Decides::nat_tests))]
     pub fn encode_with(&self, alloc: Global, options: &EncodeOptions) -> Result<String>
         ensures refused { MatchOption (image_fault (image_value self.now))
             (IfErr result (λ e. e ≡ SixelError.OutOfMemory))

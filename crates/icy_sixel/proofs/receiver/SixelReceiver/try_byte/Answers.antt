@@ -1,4 +1,4 @@
-use Rattle.std.proofs.Common.{◌∷◌, [], Bool, Ok, refl}
+use Rattle.std.proofs.Common.{◌∷◌, [], Bool, Ok, refl, arith}
 use Rattle.std.specs.Bool.{then_some}
 use Rattle.std.specs.Option.{option_map}
 use Rattle.std.specs.Prelude.{IfSome, IsTrue}
@@ -9,7 +9,6 @@ use Rattle.icy_sixel.proofs.Chunks.{fed_counted}
 use Rattle.icy_sixel.proofs.StoredErrors.{fed_ok}
 use Rattle.icy_sixel.proofs.receiver.SixelReceiver.try_byte.Goals as goal
 use Rattle.icy_sixel.proofs.receiver.SixelReceiver.try_byte.Goals.{in-Payload, in-ControlString}
-use Rattle.std.proofs.Common.{arith}
 use Rattle.std.proofs.lemmas.Bool.Decides.{nat_tests}
 
 -- the byte was read

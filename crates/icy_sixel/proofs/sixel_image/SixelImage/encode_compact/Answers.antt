@@ -8,8 +8,7 @@ use Rattle.sixel_encoder.specs.declared.form.TextForm.TheVariants.{Compact}
 use Rattle.sixel_encoder.specs.Encoding.{image_fault}
 use Rattle.icy_sixel.specs.ImageView.{image_value}
 use Rattle.sixel_encoder.proofs.drawings.EncodedText.{hidden-written, one_string-written}
-use Rattle.sixel_encoder.proofs.drawings.EncodedText.{read_back-written}
-use Rattle.sixel_encoder.proofs.drawings.EncodedText.{short-written}
+use Rattle.sixel_encoder.proofs.drawings.EncodedText.{read_back-written, short-written}
 use Rattle.icy_sixel.proofs.sixel_image.SixelImage.encode_compact.Goals as goal
 use Rattle.std.proofs.lemmas.Bool.Decides.{nat_tests}
 
@@ -26,12 +25,6 @@ told : (c : goal.After-encode_source)
     → Encoded string_bytes c.encode_source.result c.args.options.now.max_colors
     (image_value c.args.self.now)
 told c = grind (arith, nat_tests)
-
-pub returns-clause-refused : goal.returns-clause-refused
-returns-clause-refused c = (told c).refused
-
-pub returns-clause-text : goal.returns-clause-text
-returns-clause-text c = (told c).text
 
 pub returns-clause-hidden : goal.returns-clause-hidden
 returns-clause-hidden c = λ other bytes same also.

@@ -44,6 +44,3 @@ returns-clause-at_most c =
       settled-area session.origin.pixel_limit session.bytes,
       c.canvas_writes-writes.ensures.at_most,
     )
-
-pub returns-clause-counted : goal.returns-clause-counted
-returns-clause-counted c = grind (arith, nat_tests)
