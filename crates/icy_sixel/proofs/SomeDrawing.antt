@@ -17,8 +17,8 @@ use Rattle.sixel_palette.specs.GainCut.{first_greatest}
 use Rattle.sixel_palette.specs.Palette.{IsFarthest, IsFarthestFirst, IsNearest, IsOpaque}
 use Rattle.sixel_palette.specs.Palette.{IsPalette, IsShown, color_at, distance, nearest}
 use Rattle.sixel_palette.specs.Palette.{palette_room, rank}
-use Rattle.sixel_palette.specs.inside.PaletteCodes.{AreShownCodes, HasPixel, IsListed, code_count}
-use Rattle.sixel_palette.specs.inside.PaletteCodes.{color_of}
+use Rattle.sixel_palette.specs.inside.Codes.{AreShownCodes, HasPixel, IsListed, code_count}
+use Rattle.sixel_palette.specs.inside.Codes.{color_of}
 use Rattle.sixel_palette.proofs.refinement.BestBox.{first_greatest-le}
 use Rattle.sixel_palette.proofs.traversal.Choices.{size_from_codes}
 use Rattle.sixel_palette.proofs.colors.Colors.{rank-color_of, rank-lt}

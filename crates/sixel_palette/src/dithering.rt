@@ -21,7 +21,7 @@ ghost use Rattle.sixel_palette.specs.Gray.{is_gray, maps_grays, source_pixels};
 ghost use Rattle.sixel_palette.specs.GrayDiffusion.{AreGrays, level_gap};
 ghost use Rattle.sixel_palette.specs.inside.Mapped.{IsMappable, IsWhole};
 ghost use Rattle.sixel_palette.specs.declared.palette.refined.RefinedPalette.{RefinedPalette};
-ghost use Rattle.sixel_palette.specs.inside.PaletteError.{HasNearest};
+ghost use Rattle.sixel_palette.specs.inside.Error.{HasNearest};
 
 mod diffusion;
 mod gray;

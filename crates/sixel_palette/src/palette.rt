@@ -9,7 +9,7 @@ ghost use Rattle.sixel_palette.specs.Palette.{IsNearest, AreIndices, IsError, Ar
 ghost use Rattle.sixel_palette.specs.PaletteBound.{AreApart, NoListIsBetter};
 ghost use Rattle.sixel_palette.specs.Refined.{IsRefined, opaque_pixels};
 ghost use Rattle.sixel_palette.specs.declared.palette.refined.RefinedPalette.{RefinedPalette};
-ghost use Rattle.sixel_palette.specs.inside.PaletteChosen.{IsChosen};
+ghost use Rattle.sixel_palette.specs.inside.Chosen.{IsChosen};
 
 mod assignment;
 mod bins;

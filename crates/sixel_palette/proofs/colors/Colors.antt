@@ -6,7 +6,7 @@ use Rattle.std.proofs.lemmas.Bool.{cases_lt}
 use Rattle.std.proofs.lemmas.Grind.{same_number_lists}
 use Rattle.std.specs.Int.{abs_diff}
 use Rattle.sixel_palette.specs.Palette.{distance, square_gap, nearest, rank, no_entry}
-use Rattle.sixel_palette.specs.inside.PaletteCodes.{color_of, code_count}
+use Rattle.sixel_palette.specs.inside.Codes.{color_of, code_count}
 use Rattle.sixel_palette.proofs.colors.Distance.{same_from_distance, below_three, square-le}
 use Rattle.std.proofs.lemmas.Bool.Decides.{nat_tests}
 

@@ -8,8 +8,8 @@ use Rattle.sixel_palette.specs.declared.palette.nearest.Span.{Span}
 use Rattle.sixel_palette.specs.declared.palette.nearest_entry.Entry.{Entry}
 use Rattle.sixel_palette.specs.declared.palette.nearest_entry.NearestEntry.{NearestEntry}
 use Rattle.sixel_palette.specs.Palette.{distance, no_entry}
-use Rattle.sixel_palette.specs.inside.PaletteNearest.{IsNearestEntry}
-use Rattle.sixel_palette.specs.inside.PaletteKeys.{key_of, least_key, AreNumbered, IsInCube}
+use Rattle.sixel_palette.specs.inside.Nearest.{IsNearestEntry}
+use Rattle.sixel_palette.specs.inside.Keys.{key_of, least_key, AreNumbered, IsInCube}
 use Rattle.sixel_palette.proofs.nearest_entries.NearestEntry.{near_none, near_taken, near_kept}
 use Rattle.std.proofs.lemmas.Bool.Decides.{nat_tests}
 

@@ -3,8 +3,8 @@ use Rattle.std.proofs.Common.{◌≡◌, ℕ, ◌+◌, ◌<◌, ◌≤◌, List,
 use Rattle.std.proofs.lemmas.List.{get_or_append_left, get_or_at, get_or_push, length_push}
 use Rattle.sixel_palette.specs.declared.palette.nearest_entry.NearestEntry.{NearestEntry}
 use Rattle.sixel_palette.specs.Palette.{distance, no_entry}
-use Rattle.sixel_palette.specs.inside.PaletteCodes.{color_of}
-use Rattle.sixel_palette.specs.inside.PaletteNearest.{IsNearestEntry, AreNearest, nearest_at}
+use Rattle.sixel_palette.specs.inside.Codes.{color_of}
+use Rattle.sixel_palette.specs.inside.Nearest.{IsNearestEntry, AreNearest, nearest_at}
 use Rattle.sixel_palette.proofs.nearest_entries.Nearest.{nearest-nil, nearest-push, nearest-le}
 use Rattle.std.proofs.lemmas.Bool.Decides.{nat_tests}
 

@@ -11,8 +11,8 @@ use Rattle.sixel_palette.specs.declared.palette.gain_cut.Cut.{Cut}
 use Rattle.sixel_palette.specs.ColorSums.{Pixels}
 use Rattle.sixel_palette.specs.GainCut.{Box, best_box, best_cut, box_at, boxes_after, cut_at}
 use Rattle.sixel_palette.specs.GainCut.{first_greatest, gain_at, is_final}
-use Rattle.sixel_palette.specs.inside.PaletteBoxes.{AreBoxes, range_of}
-use Rattle.sixel_palette.specs.inside.PaletteSums.{AreBinsOf}
+use Rattle.sixel_palette.specs.inside.Boxes.{AreBoxes, range_of}
+use Rattle.sixel_palette.specs.inside.Sums.{AreBinsOf}
 
 -- ---- the greatest gain
 

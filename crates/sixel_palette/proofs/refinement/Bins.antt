@@ -16,10 +16,10 @@ use Rattle.sixel_palette.specs.ColorSums.{Pixels, share, sums_of}
 use Rattle.sixel_palette.specs.GainCut.{corner}
 use Rattle.sixel_palette.specs.Lloyd.{is_corner}
 use Rattle.sixel_palette.specs.Refined.{sum_to}
-use Rattle.sixel_palette.specs.inside.PaletteBins.{IsTable, slot, corners_of}
-use Rattle.sixel_palette.specs.inside.PaletteCodes.{color_of}
-use Rattle.sixel_palette.specs.inside.PaletteSums.{AreBinsOf, IsWholeBin, binned_sums, channels}
-use Rattle.sixel_palette.specs.inside.PaletteSums.{first_counted, total}
+use Rattle.sixel_palette.specs.inside.Bins.{IsTable, slot, corners_of}
+use Rattle.sixel_palette.specs.inside.Codes.{color_of}
+use Rattle.sixel_palette.specs.inside.Sums.{AreBinsOf, IsWholeBin, binned_sums, channels}
+use Rattle.sixel_palette.specs.inside.Sums.{first_counted, total}
 use Rattle.sixel_palette.proofs.refinement.Sums.{sum_by_zero, sum_to-more}
 
 -- ---- equal corners

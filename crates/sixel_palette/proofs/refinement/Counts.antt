@@ -11,13 +11,13 @@ use Rattle.sixel_palette.specs.Palette.{nearest, color_at, no_entry, IsShown}
 use Rattle.sixel_palette.specs.Refined.{sum_to, pixel_error, opaque_bins, opaque_number}
 use Rattle.sixel_palette.specs.Refined.{summed_error}
 use Rattle.sixel_palette.specs.GainCut.{bin_step}
-use Rattle.sixel_palette.specs.inside.PaletteCodes.{color_of, IsPixelWord}
-use Rattle.sixel_palette.specs.inside.PaletteSums.{counted_pixels}
-use Rattle.sixel_palette.specs.inside.PaletteCounts.{dot, AreCounts, counted_error}
+use Rattle.sixel_palette.specs.inside.Codes.{color_of, IsPixelWord}
+use Rattle.sixel_palette.specs.inside.Sums.{counted_pixels}
+use Rattle.sixel_palette.specs.inside.Counts.{dot, AreCounts, counted_error}
 use Rattle.sixel_palette.specs.Spread.{near_number}
-use Rattle.sixel_palette.specs.inside.PaletteAssignment.{IsWeighed}
-use Rattle.sixel_palette.specs.inside.PaletteRefinement.{near_count}
-use Rattle.sixel_palette.specs.inside.PaletteNearest.{AreNearest}
+use Rattle.sixel_palette.specs.inside.Assignment.{IsWeighed}
+use Rattle.sixel_palette.specs.inside.Refinement.{near_count}
+use Rattle.sixel_palette.specs.inside.Nearest.{AreNearest}
 use Rattle.sixel_palette.proofs.nearest_entries.Nearest.{nearest-cap}
 pub use Rattle.sixel_palette.proofs.refinement.Sums.{sum_to-more}
 use Rattle.sixel_palette.proofs.refinement.Sums.{sum_to-part, sum_to-run, sum_to-same, sum_to-set}

@@ -12,7 +12,7 @@ use Rattle.std.proofs.lemmas.List.Sums.{sum_by_more, sum_by_push, sum_by-cons, s
 use Rattle.sixel_palette.specs.declared.palette.bins.Bin.{Bin}
 use Rattle.sixel_palette.specs.declared.palette.gain_cut.Channel.{Channel}
 use Rattle.sixel_palette.specs.GainCut.{side}
-use Rattle.sixel_palette.specs.inside.PaletteBoxes.{high_part, low_part, range_of}
+use Rattle.sixel_palette.specs.inside.Boxes.{high_part, low_part, range_of}
 
 -- ---- swaps
 

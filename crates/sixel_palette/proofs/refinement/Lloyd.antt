@@ -17,10 +17,10 @@ use Rattle.sixel_palette.specs.ColorSums.{Pixels, mean_or, sums_of}
 use Rattle.sixel_palette.specs.GainCut.{corner}
 use Rattle.sixel_palette.specs.Lloyd.{has_entry, improved_entries, mean_bytes}
 use Rattle.sixel_palette.specs.Lloyd.{moved_entries, nearest_index}
-use Rattle.sixel_palette.specs.inside.PaletteCounts.{counted_error}
-use Rattle.sixel_palette.specs.inside.PaletteNearest.{IsNearestEntry}
-use Rattle.sixel_palette.specs.inside.PaletteSums.{AreBinsOf, AreIndicesBy, IsWholeBin}
-use Rattle.sixel_palette.specs.inside.PaletteSums.{counted_pixels, entry_sums, total}
+use Rattle.sixel_palette.specs.inside.Counts.{counted_error}
+use Rattle.sixel_palette.specs.inside.Nearest.{IsNearestEntry}
+use Rattle.sixel_palette.specs.inside.Sums.{AreBinsOf, AreIndicesBy, IsWholeBin}
+use Rattle.sixel_palette.specs.inside.Sums.{counted_pixels, entry_sums, total}
 use Rattle.sixel_palette.proofs.refinement.Sums.{mean_or-same}
 
 -- ---- the nearest entry

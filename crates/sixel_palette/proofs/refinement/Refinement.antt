@@ -14,9 +14,9 @@ use Rattle.sixel_palette.specs.Palette.{AreIndices, IsShown, color_at, nearest, 
 use Rattle.sixel_palette.specs.Refined.{IsRefined, IsRegisterColor, base_entries, cut_entries}
 use Rattle.sixel_palette.specs.Refined.{opaque_bins, opaque_pixels, register_color, summed_error}
 use Rattle.sixel_palette.specs.Spread.{spread_entries}
-use Rattle.sixel_palette.specs.inside.PaletteCodes.{AreShownCodes, IsListed, color_of}
-use Rattle.sixel_palette.specs.inside.PaletteNearest.{AreIndicesTo, AreNearest, IsIndex}
-use Rattle.sixel_palette.specs.inside.PaletteRefinement.{HasEntries, IsRefinement}
+use Rattle.sixel_palette.specs.inside.Codes.{AreShownCodes, IsListed, color_of}
+use Rattle.sixel_palette.specs.inside.Nearest.{AreIndicesTo, AreNearest, IsIndex}
+use Rattle.sixel_palette.specs.inside.Refinement.{HasEntries, IsRefinement}
 use Rattle.sixel_palette.proofs.traversal.Choices.{members_from_codes, IsColor-shown}
 use Rattle.sixel_palette.proofs.refinement.Counts.{pixels_from_counts}
 use Rattle.sixel_palette.proofs.traversal.Farthest.{nearest_from_entry}

@@ -11,8 +11,8 @@ use Rattle.sixel_palette.specs.declared.palette.bins.Bin.{Bin}
 use Rattle.sixel_palette.specs.ColorSums.{Pixels, mean_or, sums_of}
 use Rattle.sixel_palette.specs.GainCut.{Box, box_sums, corner, gain, mean_gap}
 use Rattle.sixel_palette.specs.Refined.{sum_to}
-use Rattle.sixel_palette.specs.inside.PaletteBoxes.{binned_pixels}
-use Rattle.sixel_palette.specs.inside.PaletteSums.{AreBinsOf, total}
+use Rattle.sixel_palette.specs.inside.Boxes.{binned_pixels}
+use Rattle.sixel_palette.specs.inside.Sums.{AreBinsOf, total}
 
 -- ---- sums of sequences
 

@@ -11,8 +11,8 @@ use Rattle.std.proofs.lemmas.List.Elements.{All-push, All-nil}
 use Rattle.sixel_base.specs.Color.{byte_of}
 use Rattle.sixel_palette.specs.Palette.{distance, nearest, square_gap}
 use Rattle.sixel_palette.specs.Refined.{AreOnTop, IsFarOff, percentage, register_color}
-use Rattle.sixel_palette.specs.inside.PaletteCodes.{color_of, IsListed}
-use Rattle.sixel_palette.specs.inside.PaletteCounts.{counted_error}
+use Rattle.sixel_palette.specs.inside.Codes.{color_of, IsListed}
+use Rattle.sixel_palette.specs.inside.Counts.{counted_error}
 use Rattle.sixel_palette.proofs.colors.Colors.{IsColor}
 use Rattle.sixel_palette.proofs.refinement.Sums.{sum_to-le}
 use Rattle.sixel_palette.proofs.nearest_entries.Nearest.{nearest-append, nearest-le}

@@ -12,8 +12,8 @@ use Rattle.sixel_palette.specs.declared.palette.PaletteChoice.{PaletteChoice}
 use Rattle.sixel_palette.specs.Palette.{nearest, IsShown, HasSize, IsFarthest, IsFarthestFirst}
 use Rattle.sixel_palette.specs.Palette.{AreMembers, IsError, AreWitnesses, no_entry}
 use Rattle.sixel_palette.specs.PaletteBound.{AreApart, NoListIsBetter}
-use Rattle.sixel_palette.specs.inside.PaletteCodes.{color_of, IsListed}
-use Rattle.sixel_palette.specs.inside.PaletteChosen.{IsChosen}
+use Rattle.sixel_palette.specs.inside.Codes.{color_of, IsListed}
+use Rattle.sixel_palette.specs.inside.Chosen.{IsChosen}
 use Rattle.sixel_palette.proofs.colors.Colors.{IsColor, rank-color_of, distance-lt}
 use Rattle.sixel_palette.proofs.nearest_entries.Nearest.{nearest-le}
 use Rattle.sixel_palette.proofs.colors.Shown.{IsColor-color_at}

@@ -11,8 +11,8 @@ use Rattle.std.proofs.lemmas.Simd.{get_or-put_chunk_at, get_or-put_chunk_above}
 use lib.Lanes.{Each1, put_chunk, sel_l, top, zip2}
 use Rattle.sixel_palette.specs.declared.palette.nearest_entry.NearestEntry.{NearestEntry}
 use Rattle.sixel_palette.specs.Palette.{distance}
-use Rattle.sixel_palette.specs.inside.PaletteNearest.{IsNearestEntry, nearest_at}
-use Rattle.sixel_palette.specs.inside.PaletteBuckets.{IsGreatestIn}
+use Rattle.sixel_palette.specs.inside.Nearest.{IsNearestEntry, nearest_at}
+use Rattle.sixel_palette.specs.inside.Buckets.{IsGreatestIn}
 use Rattle.sixel_palette.proofs.nearest_entries.NearestEntry.{near_taken, near_kept}
 
 -- all ones where the first number is smaller

@@ -6,10 +6,10 @@ use Rattle.std.proofs.lemmas.List.{get_or-set_same, get_or-set_other, length-set
 use Rattle.sixel_palette.specs.declared.palette.buckets.Bucket.{Bucket}
 use Rattle.sixel_palette.specs.declared.palette.nearest_entry.NearestEntry.{NearestEntry}
 use Rattle.sixel_palette.specs.Palette.{distance}
-use Rattle.sixel_palette.specs.inside.PaletteCodes.{color_of}
-use Rattle.sixel_palette.specs.inside.PaletteNearest.{IsNearestEntry, AreNearest, nearest_at}
-use Rattle.sixel_palette.specs.inside.PaletteBuckets.{IsInBox, IsInBucket, IsGreatestIn, IsBucket}
-use Rattle.sixel_palette.specs.inside.PaletteBuckets.{AreBuckets, AreNearestIn, IsSameOutside}
+use Rattle.sixel_palette.specs.inside.Codes.{color_of}
+use Rattle.sixel_palette.specs.inside.Nearest.{IsNearestEntry, AreNearest, nearest_at}
+use Rattle.sixel_palette.specs.inside.Buckets.{IsInBox, IsInBucket, IsGreatestIn, IsBucket}
+use Rattle.sixel_palette.specs.inside.Buckets.{AreBuckets, AreNearestIn, IsSameOutside}
 use Rattle.sixel_palette.proofs.nearest_entries.NearestEntry.{near_kept}
 use Rattle.std.proofs.lemmas.Bool.Decides.{nat_tests}
 

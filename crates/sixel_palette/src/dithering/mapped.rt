@@ -3,7 +3,7 @@
 ghost use Rattle.std.specs.Prelude.{◌≡◌, ◌+◌, ◌*◌, ◌/◌, ◌<◌, ◌≤◌, ℕ, IfOk, List, OnOk, Option};
 ghost use Rattle.std.specs.Prelude.{Some, length};
 ghost use Rattle.sixel_palette.specs.Palette.{color_at, entry_of};
-ghost use Rattle.sixel_palette.specs.inside.PaletteKeys.{IsSearchOf};
+ghost use Rattle.sixel_palette.specs.inside.Keys.{IsSearchOf};
 ghost use Rattle.sixel_palette.specs.Dithering.{IsIndex, column_of_step, entry_above};
 ghost use Rattle.sixel_palette.specs.Dithering.{entry_before, neighbor_of};
 ghost use Rattle.sixel_palette.specs.inside.Mapped.{AreEntries, IsInside, IsKept, IsMappable};

@@ -2,7 +2,7 @@
 
 ghost use Rattle.std.specs.Prelude.{IfOk};
 ghost use Rattle.sixel_palette.specs.Palette.{AreIndices};
-ghost use Rattle.sixel_palette.specs.inside.PaletteError.{HasNearest};
+ghost use Rattle.sixel_palette.specs.inside.Error.{HasNearest};
 
 use crate::dithering::mapped::MappedImage;
 use crate::palette::refined::Refinement;

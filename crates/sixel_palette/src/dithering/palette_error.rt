@@ -6,7 +6,7 @@ ghost use Rattle.sixel_palette.specs.Refined.{opaque_pixels, summed_error};
 ghost use Rattle.sixel_palette.specs.Dithering.{amplitude_of, refined_dither, root, tolerance_of};
 ghost use Rattle.sixel_palette.specs.Gray.{measured_pixels};
 ghost use Rattle.sixel_palette.specs.inside.Mapped.{IsMappable};
-ghost use Rattle.sixel_palette.specs.inside.PaletteError.{HasNearest, IsErrorOf};
+ghost use Rattle.sixel_palette.specs.inside.Error.{HasNearest, IsErrorOf};
 
 use crate::dither::{Amplitude, Dither};
 use crate::dithering::gray::{are_gray, gray_pixels};

@@ -1,12 +1,12 @@
 //! The nearest entry of each color: the assignment step of Lloyd's algorithm.
 
 ghost use Rattle.std.specs.Prelude.{◌≡◌, ◌+◌, ◌*◌, ◌<◌, ◌≤◌, ℕ, List, map, length, All, IfOk, OnOk};
-ghost use Rattle.sixel_palette.specs.inside.PaletteCodes.{AreColorCodes, code_count};
-ghost use Rattle.sixel_palette.specs.inside.PaletteCounts.{dot, counted_error};
-ghost use Rattle.sixel_palette.specs.inside.PaletteAssignment.{IsAssignment, IsWeighed};
-ghost use Rattle.sixel_palette.specs.inside.PaletteKeys.{AreNumbered, IsSearch};
-ghost use Rattle.sixel_palette.specs.inside.PaletteNearest.{AreNearest};
-ghost use Rattle.sixel_palette.specs.inside.PaletteTraversal.{IsTraversal, HasRelaxed};
+ghost use Rattle.sixel_palette.specs.inside.Codes.{AreColorCodes, code_count};
+ghost use Rattle.sixel_palette.specs.inside.Counts.{dot, counted_error};
+ghost use Rattle.sixel_palette.specs.inside.Assignment.{IsAssignment, IsWeighed};
+ghost use Rattle.sixel_palette.specs.inside.Keys.{AreNumbered, IsSearch};
+ghost use Rattle.sixel_palette.specs.inside.Nearest.{AreNearest};
+ghost use Rattle.sixel_palette.specs.inside.Traversal.{IsTraversal, HasRelaxed};
 
 use crate::palette::farthest::Traversal;
 use crate::palette::nearest::{CUBES, Search};

@@ -4,14 +4,14 @@ ghost use Rattle.std.specs.Prelude.{◌≡◌, ◌+◌, ◌*◌, ◌/◌, ◌<�
 ghost use Rattle.std.specs.Prelude.{OnOk, Bool, true, slice_index, if◌then◌else◌};
 ghost use Rattle.std.specs.List.Sorted.{IsStrictlyIncreasing};
 ghost use Rattle.sixel_base.specs.Limits.{area_limit};
-ghost use Rattle.sixel_palette.specs.inside.PaletteAssignment.{IsWeighed};
-ghost use Rattle.sixel_palette.specs.inside.PaletteBoxes.{binned_pixels};
+ghost use Rattle.sixel_palette.specs.inside.Assignment.{IsWeighed};
+ghost use Rattle.sixel_palette.specs.inside.Boxes.{binned_pixels};
 ghost use Rattle.sixel_palette.specs.GainCut.{corner};
 ghost use Rattle.sixel_palette.specs.Lloyd.{is_corner};
-ghost use Rattle.sixel_palette.specs.inside.PaletteBins.{IsTable, corners_of};
-ghost use Rattle.sixel_palette.specs.inside.PaletteCodes.{AreColorCodes};
-ghost use Rattle.sixel_palette.specs.inside.PaletteSums.{AreBinsOf, IsWholeBin, binned_sums};
-ghost use Rattle.sixel_palette.specs.inside.PaletteSums.{counted_pixels, first_counted, total};
+ghost use Rattle.sixel_palette.specs.inside.Bins.{IsTable, corners_of};
+ghost use Rattle.sixel_palette.specs.inside.Codes.{AreColorCodes};
+ghost use Rattle.sixel_palette.specs.inside.Sums.{AreBinsOf, IsWholeBin, binned_sums};
+ghost use Rattle.sixel_palette.specs.inside.Sums.{counted_pixels, first_counted, total};
 
 use crate::palette::color_sums::ColorSums;
 use crate::palette::colors::color_of;

@@ -9,12 +9,12 @@ ghost use Rattle.std.specs.Prelude.{◌≡◌, ◌<◌, ◌≤◌, ◌*◌, ℕ,
 ghost use Rattle.std.specs.Prelude.{All, IfOk, IsTrue, slice_index};
 ghost use Rattle.std.specs.Int.{abs_diff};
 ghost use Rattle.sixel_palette.specs.Palette.{distance};
-ghost use Rattle.sixel_palette.specs.inside.PaletteNearest.{AreNearest};
-ghost use Rattle.sixel_palette.specs.inside.PaletteBuckets.{IsInInterval, IsInBox, IsBucket};
-ghost use Rattle.sixel_palette.specs.inside.PaletteBuckets.{AreBuckets};
-ghost use Rattle.sixel_palette.specs.inside.PaletteBuckets.{IsGreatestIn, IsFirstGreatest};
-ghost use Rattle.sixel_palette.specs.inside.PaletteBuckets.{channel};
-ghost use Rattle.sixel_palette.specs.inside.PaletteCodes.{AreColorCodes};
+ghost use Rattle.sixel_palette.specs.inside.Nearest.{AreNearest};
+ghost use Rattle.sixel_palette.specs.inside.Buckets.{IsInInterval, IsInBox, IsBucket};
+ghost use Rattle.sixel_palette.specs.inside.Buckets.{AreBuckets};
+ghost use Rattle.sixel_palette.specs.inside.Buckets.{IsGreatestIn, IsFirstGreatest};
+ghost use Rattle.sixel_palette.specs.inside.Buckets.{channel};
+ghost use Rattle.sixel_palette.specs.inside.Codes.{AreColorCodes};
 
 use crate::palette::distance::wrapped_gap;
 use crate::palette::nearest_entry::Entry;

@@ -3,9 +3,9 @@
 ghost use Rattle.std.specs.Prelude.{◌≡◌, ◌+◌, ◌*◌, ◌/◌, ◌<◌, ◌≤◌, length, IfOk};
 ghost use Rattle.std.specs.List.{sum};
 ghost use Rattle.sixel_base.specs.Limits.{area_limit};
-ghost use Rattle.sixel_palette.specs.inside.PaletteCodes.{IsPixelWord};
-ghost use Rattle.sixel_palette.specs.inside.PaletteCounts.{AreCounts, HasPosition};
-ghost use Rattle.sixel_palette.specs.inside.PaletteRanks.{IsColorSetOf};
+ghost use Rattle.sixel_palette.specs.inside.Codes.{IsPixelWord};
+ghost use Rattle.sixel_palette.specs.inside.Counts.{AreCounts, HasPosition};
+ghost use Rattle.sixel_palette.specs.inside.Ranks.{IsColorSetOf};
 
 use crate::palette::color_set::ColorSet;
 use crate::palette::colors::{are_four_of, four_words, pixel_word};

@@ -6,7 +6,7 @@ ghost use Rattle.sixel_palette.specs.ColorSums.{share, mean_or, mean_percent};
 ghost use Rattle.sixel_palette.specs.GainCut.{fine_mean, gain, mean_gap};
 ghost use Rattle.sixel_palette.specs.Lloyd.{mean_bytes};
 ghost use Rattle.sixel_palette.specs.Refined.{IsRegisterColor};
-ghost use Rattle.sixel_palette.specs.inside.PaletteCodes.{code_count, color_of};
+ghost use Rattle.sixel_palette.specs.inside.Codes.{code_count, color_of};
 
 use crate::palette::register_color::percent_color;
 
@@ -24,7 +24,7 @@ pub struct ColorSums {
 }
 
 impl ColorSums {
-    ghost use Rattle.sixel_palette.specs.inside.PaletteSums.{total};
+    ghost use Rattle.sixel_palette.specs.inside.Sums.{total};
 
     /// The sums of no pixel.
     pub fn none() -> ColorSums

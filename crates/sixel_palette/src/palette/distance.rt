@@ -3,7 +3,7 @@
 ghost use Rattle.std.specs.Prelude.{◌≡◌, ◌*◌, ◌<◌, ◌≤◌};
 ghost use Rattle.std.specs.Int.{abs_diff};
 ghost use Rattle.sixel_palette.specs.Palette.{distance, no_entry};
-ghost use Rattle.sixel_palette.specs.inside.PaletteCodes.{color_of, code_count};
+ghost use Rattle.sixel_palette.specs.inside.Codes.{color_of, code_count};
 
 /// The squared distance of two colors.
 #[tactic(auto, unfolding(crate::specs::Palette::distance, crate::specs::Palette::square_gap))]

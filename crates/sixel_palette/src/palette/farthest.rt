@@ -8,10 +8,10 @@ ghost use Rattle.std.specs.Prelude.{◌≡◌, ◌<◌, ◌≤◌, min, ℕ, Lis
 ghost use Rattle.std.specs.Prelude.{All, IfOk, slice_index};
 ghost use Rattle.std.specs.List.Sorted.{IsStrictlyIncreasing};
 ghost use Rattle.sixel_palette.specs.Palette.{nearest, IsFarthest, IsFarthestFirst};
-ghost use Rattle.sixel_palette.specs.inside.PaletteCodes.{color_of, IsListed, AreColorCodes};
-ghost use Rattle.sixel_palette.specs.inside.PaletteNearest.{AreNearest};
-ghost use Rattle.sixel_palette.specs.inside.PaletteBuckets.{IsFirstGreatest};
-ghost use Rattle.sixel_palette.specs.inside.PaletteTraversal.{IsTraversal, HasRelaxed};
+ghost use Rattle.sixel_palette.specs.inside.Codes.{color_of, IsListed, AreColorCodes};
+ghost use Rattle.sixel_palette.specs.inside.Nearest.{AreNearest};
+ghost use Rattle.sixel_palette.specs.inside.Buckets.{IsFirstGreatest};
+ghost use Rattle.sixel_palette.specs.inside.Traversal.{IsTraversal, HasRelaxed};
 
 use crate::palette::buckets::{Bucket, buckets_of, farthest_of, relax_buckets};
 use crate::palette::colors::color_of;

@@ -3,9 +3,9 @@
 ghost use Rattle.std.specs.Prelude.{◌≡◌, ◌<◌, ◌≤◌, ◌++◌, ◌∷◌, [], ℕ, List, length, All, IfOk, OnOk};
 ghost use Rattle.std.specs.List.Sorted.{IsStrictlyIncreasing};
 ghost use Rattle.sixel_palette.specs.Refined.{IsRegisterColor, AreOnTop};
-ghost use Rattle.sixel_palette.specs.inside.PaletteCodes.{AreColorCodes, IsListed};
-ghost use Rattle.sixel_palette.specs.inside.PaletteAssignment.{IsAssignment};
-ghost use Rattle.sixel_palette.specs.inside.PaletteTraversal.{IsTraversal, HasRelaxed};
+ghost use Rattle.sixel_palette.specs.inside.Codes.{AreColorCodes, IsListed};
+ghost use Rattle.sixel_palette.specs.inside.Assignment.{IsAssignment};
+ghost use Rattle.sixel_palette.specs.inside.Traversal.{IsTraversal, HasRelaxed};
 
 use crate::palette::assignment::Assignment;
 use crate::palette::colors::color_of;

@@ -10,9 +10,9 @@ ghost use Rattle.std.specs.List.Sorted.{IsPermutation};
 ghost use Rattle.sixel_base.specs.Limits.{area_limit};
 ghost use Rattle.sixel_palette.specs.declared.palette.bins.Bin.{Bin};
 ghost use Rattle.sixel_palette.specs.Refined.{IsRegisterColor};
-ghost use Rattle.sixel_palette.specs.inside.PaletteBoxes.{AreRanges, AreWithin, binned_pixels};
-ghost use Rattle.sixel_palette.specs.inside.PaletteBoxes.{high_part, low_part, range_of};
-ghost use Rattle.sixel_palette.specs.inside.PaletteBoxes.{summed_pixels};
+ghost use Rattle.sixel_palette.specs.inside.Boxes.{AreRanges, AreWithin, binned_pixels};
+ghost use Rattle.sixel_palette.specs.inside.Boxes.{high_part, low_part, range_of};
+ghost use Rattle.sixel_palette.specs.inside.Boxes.{summed_pixels};
 ghost use Rattle.sixel_base.specs.Color.{rgb};
 ghost use Rattle.sixel_palette.specs.ColorSums.{Pixels, mean_or};
 ghost use Rattle.sixel_palette.specs.GainCut.{Box, best_along, best_cut, best_to, box_at};
@@ -20,9 +20,9 @@ ghost use Rattle.sixel_palette.specs.GainCut.{box_colors, box_sums, boxes_after}
 ghost use Rattle.sixel_palette.specs.GainCut.{cut_at, first_greatest, is_final, side};
 ghost use Rattle.sixel_palette.specs.declared.palette.gain_cut.ColorBox.{ColorBox};
 ghost use Rattle.sixel_palette.specs.declared.palette.color_sums.ColorSums.{ColorSums};
-ghost use Rattle.sixel_palette.specs.inside.PaletteBoxes.{AreBoxes, AreGains};
-ghost use Rattle.sixel_palette.specs.inside.PaletteSums.{AreBinsOf, prefix_sums, suffix_sums};
-ghost use Rattle.sixel_palette.specs.inside.PaletteSums.{total};
+ghost use Rattle.sixel_palette.specs.inside.Boxes.{AreBoxes, AreGains};
+ghost use Rattle.sixel_palette.specs.inside.Sums.{AreBinsOf, prefix_sums, suffix_sums};
+ghost use Rattle.sixel_palette.specs.inside.Sums.{total};
 
 use crate::palette::bins::Bin;
 use crate::palette::color_sums::ColorSums;

@@ -3,11 +3,11 @@
 ghost use Rattle.std.specs.Prelude.{◌≡◌, ℕ, ◌+◌, ◌*◌, ◌/◌, ◌%◌, ◌<◌, ◌≤◌, List, length};
 ghost use Rattle.std.specs.Prelude.{slice_index, Contains, IfOk};
 ghost use Rattle.sixel_palette.specs.Palette.{nearest, IsShown, AreIndices, no_entry};
-ghost use Rattle.sixel_palette.specs.inside.PaletteCodes.{color_of, IsPixelWord};
-ghost use Rattle.sixel_palette.specs.inside.PaletteNearest.{AreNearest, IsIndexOf};
-ghost use Rattle.sixel_palette.specs.inside.PaletteNearest.{IsIndex, AreIndicesTo};
-ghost use Rattle.sixel_palette.specs.inside.PaletteLookUp.{HasColorsOf, FindsNearest};
-ghost use Rattle.sixel_palette.specs.inside.PaletteRanks.{IsColorSet, IsColorSetOf};
+ghost use Rattle.sixel_palette.specs.inside.Codes.{color_of, IsPixelWord};
+ghost use Rattle.sixel_palette.specs.inside.Nearest.{AreNearest, IsIndexOf};
+ghost use Rattle.sixel_palette.specs.inside.Nearest.{IsIndex, AreIndicesTo};
+ghost use Rattle.sixel_palette.specs.inside.LookUp.{HasColorsOf, FindsNearest};
+ghost use Rattle.sixel_palette.specs.inside.Ranks.{IsColorSet, IsColorSetOf};
 
 use crate::palette::color_set::ColorSet;
 use crate::palette::colors::{are_four_of, four_words, pixel_word};

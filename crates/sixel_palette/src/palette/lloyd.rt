@@ -11,12 +11,12 @@ ghost use Rattle.sixel_palette.specs.declared.palette.color_sums.ColorSums.{Colo
 ghost use Rattle.sixel_palette.specs.ColorSums.{Pixels, mean_or};
 ghost use Rattle.sixel_palette.specs.Lloyd.{improved_entries, mean_bytes, moved_entries};
 ghost use Rattle.sixel_palette.specs.Refined.{IsRegisterColor};
-ghost use Rattle.sixel_palette.specs.inside.PaletteBoxes.{binned_pixels, summed_pixels};
-ghost use Rattle.sixel_palette.specs.inside.PaletteCodes.{AreColorCodes, color_of};
-ghost use Rattle.sixel_palette.specs.inside.PaletteCounts.{counted_error};
-ghost use Rattle.sixel_palette.specs.inside.PaletteAssignment.{IsAssignment, IsWeighed};
-ghost use Rattle.sixel_palette.specs.inside.PaletteSums.{AreBinsOf, AreIndicesBy, IsWholeBin};
-ghost use Rattle.sixel_palette.specs.inside.PaletteSums.{counted_pixels, entry_sums, total};
+ghost use Rattle.sixel_palette.specs.inside.Boxes.{binned_pixels, summed_pixels};
+ghost use Rattle.sixel_palette.specs.inside.Codes.{AreColorCodes, color_of};
+ghost use Rattle.sixel_palette.specs.inside.Counts.{counted_error};
+ghost use Rattle.sixel_palette.specs.inside.Assignment.{IsAssignment, IsWeighed};
+ghost use Rattle.sixel_palette.specs.inside.Sums.{AreBinsOf, AreIndicesBy, IsWholeBin};
+ghost use Rattle.sixel_palette.specs.inside.Sums.{counted_pixels, entry_sums, total};
 
 use crate::palette::assignment::{Assignment, assign};
 use crate::palette::bins::Bin;

@@ -8,13 +8,13 @@ ghost use Rattle.std.specs.Prelude.{◌≡◌, ◌+◌, ◌*◌, ◌/◌, ◌%�
 ghost use Rattle.sixel_palette.specs.declared.palette.nearest_entry.Entry.{Entry};
 ghost use Rattle.std.specs.Prelude.{IfOk, OnOk, slice_index};
 ghost use Rattle.sixel_palette.specs.Palette.{IsNearest, distance, nearest};
-ghost use Rattle.sixel_palette.specs.inside.PaletteBuckets.{IsInInterval};
-ghost use Rattle.sixel_palette.specs.inside.PaletteCodes.{color_of, code_count};
-ghost use Rattle.sixel_palette.specs.inside.PaletteNearest.{IsNearestEntry};
-ghost use Rattle.sixel_palette.specs.inside.PaletteKeys.{least_key, IsInCube};
-ghost use Rattle.sixel_palette.specs.inside.PaletteKeys.{Appends, AreNumbered, HasNearest};
-ghost use Rattle.sixel_palette.specs.inside.PaletteKeys.{AreLists, IsSearch, IsSearchOf};
-ghost use Rattle.sixel_palette.specs.inside.PaletteKeys.{cube_position, group_position};
+ghost use Rattle.sixel_palette.specs.inside.Buckets.{IsInInterval};
+ghost use Rattle.sixel_palette.specs.inside.Codes.{color_of, code_count};
+ghost use Rattle.sixel_palette.specs.inside.Nearest.{IsNearestEntry};
+ghost use Rattle.sixel_palette.specs.inside.Keys.{least_key, IsInCube};
+ghost use Rattle.sixel_palette.specs.inside.Keys.{Appends, AreNumbered, HasNearest};
+ghost use Rattle.sixel_palette.specs.inside.Keys.{AreLists, IsSearch, IsSearchOf};
+ghost use Rattle.sixel_palette.specs.inside.Keys.{cube_position, group_position};
 
 mod cube;
 

@@ -2,7 +2,7 @@
 
 ghost use Rattle.std.specs.Prelude.{◌≡◌, ℕ, List, [], ◌∷◌, ◌++◌, length};
 ghost use Rattle.sixel_palette.specs.Palette.{distance, nearest};
-ghost use Rattle.sixel_palette.specs.inside.PaletteNearest.{IsNearestEntry};
+ghost use Rattle.sixel_palette.specs.inside.Nearest.{IsNearestEntry};
 
 use crate::palette::distance::distance;
 

@@ -9,12 +9,12 @@ ghost use Rattle.sixel_base.specs.Fault.{IsFault, TooLarge};
 ghost use Rattle.sixel_palette.specs.PaletteBound.{IsLeastApart};
 ghost use Rattle.sixel_palette.specs.Palette.{AreIndices};
 ghost use Rattle.sixel_palette.specs.Refined.{IsRegisterColor, register_color, IsRefined};
-ghost use Rattle.sixel_palette.specs.inside.PaletteAssignment.{IsStart, IsWeighed};
-ghost use Rattle.sixel_palette.specs.inside.PaletteBoxes.{binned_pixels};
-ghost use Rattle.sixel_palette.specs.inside.PaletteSums.{AreBinsOf, IsWholeBin, counted_pixels};
-ghost use Rattle.sixel_palette.specs.inside.PaletteCounts.{counted_error};
-ghost use Rattle.sixel_palette.specs.inside.PaletteCodes.{color_of, AreColorCodes};
-ghost use Rattle.sixel_palette.specs.inside.PaletteRefinement.{AreRefinedEntries, IsRefinement};
+ghost use Rattle.sixel_palette.specs.inside.Assignment.{IsStart, IsWeighed};
+ghost use Rattle.sixel_palette.specs.inside.Boxes.{binned_pixels};
+ghost use Rattle.sixel_palette.specs.inside.Sums.{AreBinsOf, IsWholeBin, counted_pixels};
+ghost use Rattle.sixel_palette.specs.inside.Counts.{counted_error};
+ghost use Rattle.sixel_palette.specs.inside.Codes.{color_of, AreColorCodes};
+ghost use Rattle.sixel_palette.specs.inside.Refinement.{AreRefinedEntries, IsRefinement};
 
 use crate::palette::assignment::{Assignment, assign, summed};
 use crate::palette::bins::{Bin, bins_of};

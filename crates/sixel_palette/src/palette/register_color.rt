@@ -4,7 +4,7 @@ ghost use Rattle.std.specs.Prelude.{◌≡◌, ◌≤◌, ◌↔◌, ℕ, List, 
 ghost use Rattle.sixel_base.specs.Color.{byte_of, rgb};
 ghost use Rattle.sixel_palette.specs.Palette.{HasSize, IsShown};
 ghost use Rattle.sixel_palette.specs.Refined.{IsRegisterColor, percentage, register_color};
-ghost use Rattle.sixel_palette.specs.inside.PaletteCodes.{AreColorCodes, IsListed};
+ghost use Rattle.sixel_palette.specs.inside.Codes.{AreColorCodes, IsListed};
 
 use crate::palette::color_set::ColorSet;
 use crate::palette::colors::{code_of, color_of};

@@ -3,10 +3,10 @@
 ghost use Rattle.std.specs.Prelude.{◌≡◌, ◌⊎◌, ◌<◌, ◌≤◌, ◌+◌, ◌*◌, ℕ, List, [], ◌∷◌, ◌++◌, length};
 ghost use Rattle.std.specs.Prelude.{slice_index};
 ghost use Rattle.sixel_palette.specs.Palette.{distance};
-ghost use Rattle.sixel_palette.specs.inside.PaletteNearest.{IsNearestEntry, nearest_at};
-ghost use Rattle.sixel_palette.specs.inside.PaletteBuckets.{AreNearestIn, IsSameOutside};
-ghost use Rattle.sixel_palette.specs.inside.PaletteBuckets.{IsGreatestIn};
-ghost use Rattle.sixel_palette.specs.inside.PaletteCodes.{color_of, AreColorCodes};
+ghost use Rattle.sixel_palette.specs.inside.Nearest.{IsNearestEntry, nearest_at};
+ghost use Rattle.sixel_palette.specs.inside.Buckets.{AreNearestIn, IsSameOutside};
+ghost use Rattle.sixel_palette.specs.inside.Buckets.{IsGreatestIn};
+ghost use Rattle.sixel_palette.specs.inside.Codes.{color_of, AreColorCodes};
 
 use crate::palette::buckets::BUCKET;
 use crate::palette::distance::distance_to;

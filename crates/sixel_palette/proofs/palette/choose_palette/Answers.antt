@@ -1,7 +1,7 @@
 use Rattle.std.proofs.Common.{arith, rules}
 use Rattle.std.proofs.lemmas.List.{get_or_default}
 use Rattle.sixel_palette.specs.Palette.{palette_room, IsShown}
-use Rattle.sixel_palette.specs.inside.PaletteChosen.{IsChosen}
+use Rattle.sixel_palette.specs.inside.Chosen.{IsChosen}
 use Rattle.sixel_palette.proofs.traversal.Choices as chosen
 use Rattle.sixel_palette.proofs.traversal.Order.{members_from_order}
 use Rattle.sixel_palette.proofs.palette.choose_palette.Goals as goal

@@ -1,6 +1,6 @@
 use Rattle.std.proofs.Common.{arith}
 use Rattle.std.specs.Prelude.{slice_index}
-use Rattle.sixel_palette.specs.inside.PaletteCodes.{color_of}
+use Rattle.sixel_palette.specs.inside.Codes.{color_of}
 use Rattle.sixel_palette.proofs.traversal.Choices.{chosen_near}
 use Rattle.sixel_palette.proofs.palette.palette_of.Goals as goal
 

@@ -6,9 +6,9 @@
 ghost use Rattle.std.specs.Prelude.{◌≡◌, ◌+◌, ◌*◌, ◌/◌, ◌%◌, ◌<◌, ◌≤◌, ℕ, List, length};
 ghost use Rattle.std.specs.Prelude.{slice_index};
 ghost use Rattle.sixel_palette.specs.Palette.{distance, no_entry};
-ghost use Rattle.sixel_palette.specs.inside.PaletteCodes.{color_of, code_count};
-ghost use Rattle.sixel_palette.specs.inside.PaletteKeys.{entry_at, key_of, least_key, IsInCube};
-ghost use Rattle.sixel_palette.specs.inside.PaletteKeys.{cube_position, group_position};
+ghost use Rattle.sixel_palette.specs.inside.Codes.{color_of, code_count};
+ghost use Rattle.sixel_palette.specs.inside.Keys.{entry_at, key_of, least_key, IsInCube};
+ghost use Rattle.sixel_palette.specs.inside.Keys.{cube_position, group_position};
 
 use crate::palette::buckets::Interval;
 use crate::palette::nearest_entry::{Entry, NO_ENTRY};
@@ -79,7 +79,7 @@ impl Cube {
 }
 
 /// The cube that the color of a code is in.
-#[tactic(auto, unfolding(crate::specs::inside::PaletteCodes::color_of))]
+#[tactic(auto, unfolding(crate::specs::inside::Codes::color_of))]
 pub fn cube_around(code: u32) -> Cube
     requires { code < code_count }
     ensures { (other : ℕ) → other < code_count → cube_position other ≡ cube_position code
@@ -93,7 +93,7 @@ pub fn cube_around(code: u32) -> Cube
 }
 
 /// The group that the color of a code is in.
-#[tactic(auto, unfolding(crate::specs::inside::PaletteCodes::color_of))]
+#[tactic(auto, unfolding(crate::specs::inside::Codes::color_of))]
 pub fn group_around(code: u32) -> Cube
     requires { code < code_count }
     ensures { (other : ℕ) → other < code_count → group_position other ≡ group_position code

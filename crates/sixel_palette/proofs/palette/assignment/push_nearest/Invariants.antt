@@ -1,7 +1,7 @@
 use Rattle.std.proofs.Common.{◌≡◌, ℕ, List, ◌<◌, length, get_or}
-use Rattle.sixel_palette.specs.inside.PaletteCodes.{color_of}
-use Rattle.sixel_palette.specs.inside.PaletteKeys.{AreNumbered, IsSearch}
-use Rattle.sixel_palette.specs.inside.PaletteNearest.{IsNearestEntry, nearest_at}
+use Rattle.sixel_palette.specs.inside.Codes.{color_of}
+use Rattle.sixel_palette.specs.inside.Keys.{AreNumbered, IsSearch}
+use Rattle.sixel_palette.specs.inside.Nearest.{IsNearestEntry, nearest_at}
 use Rattle.sixel_palette.proofs.palette.assignment.push_nearest.Given as goal
 
 abbrev pub invariant-loop-code : goal.invariant-loop-code

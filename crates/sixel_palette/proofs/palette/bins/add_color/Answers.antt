@@ -4,7 +4,7 @@ use Rattle.std.proofs.Math.Seq.{map-set_same}
 use Rattle.sixel_palette.specs.declared.palette.bins.Bin.{Bin}
 use Rattle.sixel_palette.specs.GainCut.{corner}
 use Rattle.sixel_palette.specs.Lloyd.{is_corner}
-use Rattle.sixel_palette.specs.inside.PaletteBins.{slot, corners_of}
+use Rattle.sixel_palette.specs.inside.Bins.{slot, corners_of}
 use Rattle.sixel_palette.proofs.refinement.Bins.{not_found, sums_more, table_more}
 use Rattle.sixel_palette.proofs.palette.bins.add_color.Goals as goal
 

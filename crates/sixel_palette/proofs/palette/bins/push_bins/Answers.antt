@@ -2,8 +2,8 @@ use Rattle.std.proofs.Common.{◌≡◌, refl, get_or, length, sym, ◌∙◌, a
 use Rattle.std.proofs.lemmas.List.{nil_from_length}
 use Rattle.std.proofs.lemmas.List.Sums.{sum_by_more}
 use Rattle.sixel_palette.specs.GainCut.{corner}
-use Rattle.sixel_palette.specs.inside.PaletteCodes.{color_of}
-use Rattle.sixel_palette.specs.inside.PaletteSums.{first_counted}
+use Rattle.sixel_palette.specs.inside.Codes.{color_of}
+use Rattle.sixel_palette.specs.inside.Sums.{first_counted}
 use Rattle.sixel_palette.proofs.refinement.Bins.{counted_more, counted_none, red-le, table_none}
 use Rattle.sixel_palette.proofs.refinement.Bins.{whole_bins}
 use Rattle.sixel_palette.proofs.colors.Lists.{increasing-le}

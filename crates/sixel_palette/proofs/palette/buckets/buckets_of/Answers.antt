@@ -1,6 +1,6 @@
 use Rattle.std.proofs.Common.{arith}
 use Rattle.std.proofs.lemmas.List.{length_push}
-use Rattle.sixel_palette.specs.inside.PaletteBuckets.{IsBucket}
+use Rattle.sixel_palette.specs.inside.Buckets.{IsBucket}
 use Rattle.sixel_palette.proofs.colors.Lists.{each_push}
 use Rattle.sixel_palette.proofs.palette.buckets.buckets_of.Goals as goal
 

@@ -1,5 +1,5 @@
 use Rattle.std.proofs.Common.{ℕ, ◌-◌, ◌*◌, ◌<◌, ◌≤◌, length, get_or}
-use Rattle.sixel_palette.specs.inside.PaletteBuckets.{IsInBucket}
+use Rattle.sixel_palette.specs.inside.Buckets.{IsInBucket}
 use Rattle.sixel_palette.proofs.traversal.Buckets.{none}
 use Rattle.sixel_palette.proofs.traversal.Relaxation.{IsGreatestOf}
 use Rattle.sixel_palette.proofs.palette.buckets.farthest_of.Given as goal

@@ -1,5 +1,5 @@
 use Rattle.std.proofs.Common.{ℕ, ◌<◌, ◌≤◌, get_or}
-use Rattle.sixel_palette.specs.inside.PaletteBuckets.{channel}
+use Rattle.sixel_palette.specs.inside.Buckets.{channel}
 use Rattle.sixel_palette.proofs.palette.buckets.interval_of.Given as goal
 
 abbrev pub invariant-loop-code : goal.invariant-loop-code

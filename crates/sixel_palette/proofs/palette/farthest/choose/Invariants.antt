@@ -1,7 +1,7 @@
 use Rattle.std.proofs.Common.{◌≡◌, ◌<◌, length, get_or}
 use Rattle.sixel_palette.specs.Palette.{IsFarthest, IsFarthestFirst}
-use Rattle.sixel_palette.specs.inside.PaletteCodes.{color_of, IsListed}
-use Rattle.sixel_palette.specs.inside.PaletteTraversal.{IsTraversal, HasRelaxed}
+use Rattle.sixel_palette.specs.inside.Codes.{color_of, IsListed}
+use Rattle.sixel_palette.specs.inside.Traversal.{IsTraversal, HasRelaxed}
 use Rattle.sixel_palette.proofs.palette.farthest.choose.Given as goal
 
 abbrev pub invariant-loop-index : goal.invariant-loop-index

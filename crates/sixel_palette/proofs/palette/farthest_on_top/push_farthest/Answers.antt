@@ -3,7 +3,7 @@ use Rattle.std.proofs.Common.{append_assoc, append-nil, inl, inr, arith}
 use Rattle.std.proofs.lemmas.List.{get_or_read, length_push, map_push}
 use Rattle.std.proofs.lemmas.List.Elements.{All-push}
 use Rattle.sixel_palette.specs.Refined.{IsFarOff, IsRegisterColor, register_color}
-use Rattle.sixel_palette.specs.inside.PaletteCodes.{IsListed, color_of}
+use Rattle.sixel_palette.specs.inside.Codes.{IsListed, color_of}
 use Rattle.sixel_palette.proofs.traversal.Farthest.{farthest_from_position}
 use Rattle.sixel_palette.proofs.refinement.Refined.{register_color-shown}
 use Rattle.sixel_palette.proofs.refinement.Tops.{far_off_more}

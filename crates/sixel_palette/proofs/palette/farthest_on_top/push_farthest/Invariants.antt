@@ -2,8 +2,8 @@ use Rattle.std.proofs.Common.{◌≡◌, ℕ, ◌<◌, ◌++◌, List, length, m
 use Rattle.std.specs.List.{All}
 use Rattle.sixel_palette.specs.Palette.{IsFarthest, nearest}
 use Rattle.sixel_palette.specs.Refined.{IsFarOff, IsRegisterColor, register_color}
-use Rattle.sixel_palette.specs.inside.PaletteCodes.{IsListed, color_of}
-use Rattle.sixel_palette.specs.inside.PaletteTraversal.{IsTraversal, HasRelaxed}
+use Rattle.sixel_palette.specs.inside.Codes.{IsListed, color_of}
+use Rattle.sixel_palette.specs.inside.Traversal.{IsTraversal, HasRelaxed}
 use Rattle.sixel_palette.proofs.palette.farthest_on_top.push_farthest.Given as goal
 
 abbrev pub invariant-loop-index : goal.invariant-loop-index

@@ -4,7 +4,7 @@ use Rattle.sixel_base.specs.Color.{rgb}
 use Rattle.sixel_palette.specs.ColorSums.{Pixels, mean_or}
 use Rattle.sixel_palette.specs.GainCut.{Box, box_at, box_sums}
 use Rattle.sixel_palette.specs.Refined.{IsRegisterColor}
-use Rattle.sixel_palette.specs.inside.PaletteBoxes.{AreBoxes}
+use Rattle.sixel_palette.specs.inside.Boxes.{AreBoxes}
 use Rattle.sixel_palette.proofs.palette.gain_cut.box_colors.Given as goal
 
 abbrev pub invariant-loop-position : goal.invariant-loop-position

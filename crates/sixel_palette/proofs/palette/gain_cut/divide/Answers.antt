@@ -5,7 +5,7 @@ use Rattle.std.proofs.lemmas.List.Sorted.{IsPermutation-trans, sum_by-IsPermutat
 use Rattle.std.proofs.lemmas.List.Sums.{sum_by-take-drop}
 use Rattle.sixel_palette.specs.declared.palette.bins.Bin.{Bin}
 use Rattle.sixel_palette.specs.GainCut.{side}
-use Rattle.sixel_palette.specs.inside.PaletteBoxes.{low_part, range_of}
+use Rattle.sixel_palette.specs.inside.Boxes.{low_part, range_of}
 use Rattle.sixel_palette.proofs.refinement.Divide.{low_above, low_below, range_after, range_more}
 use Rattle.sixel_palette.proofs.refinement.Divide.{sums_of_parts, swap_back, swap_front, swap_taken}
 use Rattle.sixel_palette.proofs.palette.gain_cut.divide.Goals as goal

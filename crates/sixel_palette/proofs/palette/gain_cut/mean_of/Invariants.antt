@@ -1,6 +1,6 @@
 use Rattle.std.proofs.Common.{◌≡◌, ℕ, take}
 use Rattle.std.specs.List.{sum_by}
-use Rattle.sixel_palette.specs.inside.PaletteSums.{total}
+use Rattle.sixel_palette.specs.inside.Sums.{total}
 use Rattle.sixel_palette.proofs.palette.gain_cut.mean_of.Given as goal
 
 abbrev pub invariant-loop-bin : goal.invariant-loop-bin

@@ -1,6 +1,6 @@
 use Rattle.std.proofs.Common.{◌≡◌, ℕ, ◌+◌, ◌<◌, ◌≤◌, get_or, length}
 use Rattle.sixel_palette.specs.declared.palette.color_sums.ColorSums.{ColorSums}
-use Rattle.sixel_palette.specs.inside.PaletteSums.{suffix_sums, total}
+use Rattle.sixel_palette.specs.inside.Sums.{suffix_sums, total}
 use Rattle.sixel_palette.proofs.palette.gain_cut.sum_above.Given as goal
 
 abbrev pub invariant-loop-value : goal.invariant-loop-value

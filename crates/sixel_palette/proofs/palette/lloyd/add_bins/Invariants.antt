@@ -1,8 +1,8 @@
 use Rattle.std.proofs.Common.{◌≡◌, ℕ, ◌<◌, get_or, length, take}
 use Rattle.sixel_palette.specs.declared.palette.bins.Bin.{Bin}
 use Rattle.sixel_palette.specs.declared.palette.color_sums.ColorSums.{ColorSums}
-use Rattle.sixel_palette.specs.inside.PaletteBoxes.{binned_pixels, summed_pixels}
-use Rattle.sixel_palette.specs.inside.PaletteSums.{AreIndicesBy, entry_sums, total}
+use Rattle.sixel_palette.specs.inside.Boxes.{binned_pixels, summed_pixels}
+use Rattle.sixel_palette.specs.inside.Sums.{AreIndicesBy, entry_sums, total}
 use Rattle.sixel_palette.proofs.palette.lloyd.add_bins.Given as goal
 
 abbrev pub invariant-loop-position : goal.invariant-loop-position

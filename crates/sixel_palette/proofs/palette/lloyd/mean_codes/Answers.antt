@@ -3,8 +3,8 @@ use Rattle.std.proofs.lemmas.List.{get_or_default, length_push}
 use Rattle.std.proofs.lemmas.List.Elements.{All-push}
 use Rattle.sixel_palette.specs.declared.palette.bins.Bin.{Bin}
 use Rattle.sixel_palette.specs.Lloyd.{mean_bytes}
-use Rattle.sixel_palette.specs.inside.PaletteCodes.{code_count, color_of}
-use Rattle.sixel_palette.specs.inside.PaletteSums.{total}
+use Rattle.sixel_palette.specs.inside.Codes.{code_count, color_of}
+use Rattle.sixel_palette.specs.inside.Sums.{total}
 use Rattle.sixel_palette.proofs.colors.Lists.{each_push}
 use Rattle.sixel_palette.proofs.palette.lloyd.mean_codes.Goals as goal
 

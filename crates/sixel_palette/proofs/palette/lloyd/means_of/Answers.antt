@@ -4,7 +4,7 @@ use Rattle.std.proofs.lemmas.List.Elements.{All-push}
 use Rattle.sixel_palette.specs.declared.palette.color_sums.ColorSums.{ColorSums}
 use Rattle.sixel_palette.specs.ColorSums.{mean_or}
 use Rattle.sixel_palette.specs.Refined.{IsRegisterColor}
-use Rattle.sixel_palette.specs.inside.PaletteSums.{total}
+use Rattle.sixel_palette.specs.inside.Sums.{total}
 use Rattle.sixel_palette.proofs.colors.Lists.{each_push}
 use Rattle.sixel_palette.proofs.refinement.Sums.{mean_or-same}
 use Rattle.sixel_palette.proofs.palette.lloyd.means_of.Goals as goal

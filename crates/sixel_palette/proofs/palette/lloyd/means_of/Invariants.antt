@@ -3,7 +3,7 @@ use Rattle.std.specs.List.{All}
 use Rattle.sixel_palette.specs.declared.palette.color_sums.ColorSums.{ColorSums}
 use Rattle.sixel_palette.specs.ColorSums.{mean_or}
 use Rattle.sixel_palette.specs.Refined.{IsRegisterColor}
-use Rattle.sixel_palette.specs.inside.PaletteSums.{total}
+use Rattle.sixel_palette.specs.inside.Sums.{total}
 use Rattle.sixel_palette.proofs.palette.lloyd.means_of.Given as goal
 
 abbrev pub invariant-loop-position : goal.invariant-loop-position

@@ -4,7 +4,7 @@ use Rattle.std.proofs.lemmas.Bool.Decides.{leb_tells, nat_tests}
 use Rattle.std.proofs.lemmas.List.{take_more, take_more_set, take-set-le, length-set}
 use Rattle.sixel_palette.proofs.nearest_entries.Keys.{none, pushed_taken, pushed_skipped}
 use Rattle.sixel_palette.proofs.nearest_entries.Keys.{AreLeastKeys}
-use Rattle.sixel_palette.specs.inside.PaletteKeys.{key_of, IsInCube}
+use Rattle.sixel_palette.specs.inside.Keys.{key_of, IsInCube}
 use Rattle.sixel_palette.proofs.palette.nearest.push_nearest.Goals as goal
 
 -- the key of the entry at the position

@@ -2,7 +2,7 @@ use Rattle.std.proofs.Common.{◌≡◌, ◌+◌, ◌-◌, ◌<◌, ℕ, length,
 use Rattle.std.proofs.Common.{refl, ap, cond, nat_lt, sym, ◌∙◌, arith}
 use Rattle.std.proofs.lemmas.Simd.{length-chunk, get_or-chunk, length-replicate, get_or-replicate}
 use Rattle.sixel_palette.specs.Palette.{distance}
-use Rattle.sixel_palette.specs.inside.PaletteCodes.{color_of}
+use Rattle.sixel_palette.specs.inside.Codes.{color_of}
 use Rattle.sixel_palette.proofs.traversal.Lanes.{length-chosen, length-smaller, stored_outside}
 use Rattle.sixel_palette.proofs.traversal.Lanes.{length-narrow, stored_at, mask_each, least_at}
 use Rattle.sixel_palette.proofs.traversal.Lanes.{narrow_chosen, near_stored, stored_here}

@@ -1,8 +1,8 @@
 use Rattle.std.proofs.Common.{◌≡◌, ℕ, ◌<◌, ◌++◌, [], ◌∷◌, List, length, get_or, arith}
 use Rattle.std.proofs.lemmas.List.{get_or-set_same}
-use Rattle.sixel_palette.specs.inside.PaletteCodes.{color_of}
-use Rattle.sixel_palette.specs.inside.PaletteNearest.{IsNearestEntry}
-use Rattle.sixel_palette.specs.inside.PaletteBuckets.{AreNearestIn}
+use Rattle.sixel_palette.specs.inside.Codes.{color_of}
+use Rattle.sixel_palette.specs.inside.Nearest.{IsNearestEntry}
+use Rattle.sixel_palette.specs.inside.Buckets.{AreNearestIn}
 use Rattle.sixel_palette.proofs.traversal.Relaxation.{get_or-set_before, greatest_more, old_more}
 use Rattle.sixel_palette.proofs.traversal.Relaxation.{relaxed_more}
 use Rattle.sixel_palette.proofs.palette.relaxation.relax_last_bucket.Goals as goal

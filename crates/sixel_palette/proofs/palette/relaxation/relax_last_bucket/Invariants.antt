@@ -1,5 +1,5 @@
 use Rattle.std.proofs.Common.{◌≡◌, ℕ, ◌*◌, List, [], ◌∷◌, ◌++◌, length, get_or}
-use Rattle.sixel_palette.specs.inside.PaletteBuckets.{AreNearestIn}
+use Rattle.sixel_palette.specs.inside.Buckets.{AreNearestIn}
 use Rattle.sixel_palette.proofs.traversal.Relaxation.{AreRelaxedIn, AreOld, IsGreatestOf}
 use Rattle.sixel_palette.proofs.palette.relaxation.relax_last_bucket.Given as goal
 

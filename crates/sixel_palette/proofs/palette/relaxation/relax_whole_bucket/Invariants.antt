@@ -1,5 +1,5 @@
 use Rattle.std.proofs.Common.{◌≡◌, ℕ, ◌+◌, ◌*◌, List, [], ◌∷◌, ◌++◌, length}
-use Rattle.sixel_palette.specs.inside.PaletteBuckets.{AreNearestIn}
+use Rattle.sixel_palette.specs.inside.Buckets.{AreNearestIn}
 use Rattle.sixel_palette.proofs.traversal.Relaxation.{AreRelaxedIn, AreOld}
 use Rattle.sixel_palette.proofs.traversal.Lanes.{AreGreatestLanes}
 use Rattle.sixel_palette.proofs.palette.relaxation.relax_whole_bucket.Given as goal

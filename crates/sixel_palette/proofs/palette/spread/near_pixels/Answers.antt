@@ -1,7 +1,7 @@
 use Rattle.std.proofs.Common.{◌≡◌, ◌+◌, get_or, take, arith}
 use Rattle.std.proofs.lemmas.List.Sums.{sum_by_more}
 use Rattle.std.specs.List.{sum}
-use Rattle.sixel_palette.specs.inside.PaletteRefinement.{near_count}
+use Rattle.sixel_palette.specs.inside.Refinement.{near_count}
 use Rattle.sixel_palette.proofs.refinement.Sums.{sum_to-more}
 use Rattle.sixel_palette.proofs.palette.spread.near_pixels.Goals as goal
 

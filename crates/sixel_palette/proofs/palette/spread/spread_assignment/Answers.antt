@@ -3,7 +3,7 @@ use Rattle.std.proofs.lemmas.List.{length-map, with_items_is}
 use Rattle.sixel_palette.specs.ColorSums.{share}
 use Rattle.sixel_palette.specs.Lloyd.{mean_bytes}
 use Rattle.sixel_palette.specs.Spread.{spread_color}
-use Rattle.sixel_palette.specs.inside.PaletteSums.{counted_pixels}
+use Rattle.sixel_palette.specs.inside.Sums.{counted_pixels}
 use Rattle.sixel_palette.proofs.palette.spread.spread_assignment.Goals as goal
 
 pub returns-clause-colors : goal.returns-clause-colors

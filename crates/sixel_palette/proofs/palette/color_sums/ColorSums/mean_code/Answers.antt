@@ -1,6 +1,6 @@
 use Rattle.std.proofs.Common.{arith}
 use Rattle.sixel_palette.specs.Lloyd.{mean_bytes}
-use Rattle.sixel_palette.specs.inside.PaletteCodes.{color_of}
+use Rattle.sixel_palette.specs.inside.Codes.{color_of}
 use Rattle.sixel_palette.proofs.palette.color_sums.ColorSums.mean_code.Goals as goal
 use Rattle.std.proofs.lemmas.Bool.Decides.{nat_tests}
 

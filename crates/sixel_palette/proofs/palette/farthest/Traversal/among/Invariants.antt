@@ -1,5 +1,5 @@
 use Rattle.std.proofs.Common.{take}
-use Rattle.sixel_palette.specs.inside.PaletteTraversal.{IsTraversal, HasRelaxed}
+use Rattle.sixel_palette.specs.inside.Traversal.{IsTraversal, HasRelaxed}
 use Rattle.sixel_palette.proofs.palette.farthest.Traversal.among.Given as goal
 
 abbrev pub invariant-loop-index : goal.invariant-loop-index

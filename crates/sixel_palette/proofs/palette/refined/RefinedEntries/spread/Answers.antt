@@ -10,8 +10,8 @@ use Rattle.sixel_palette.specs.Lloyd.{mean_bytes}
 use Rattle.sixel_palette.specs.Refined.{IsRegisterColor}
 use Rattle.sixel_palette.specs.Spread.{spread_color}
 use Rattle.sixel_palette.specs.declared.palette.refined.RefinedEntries.{RefinedEntries}
-use Rattle.sixel_palette.specs.inside.PaletteRefinement.{AreRefinedEntries, AreSpreadEntries}
-use Rattle.sixel_palette.specs.inside.PaletteSums.{counted_pixels}
+use Rattle.sixel_palette.specs.inside.Refinement.{AreRefinedEntries, AreSpreadEntries}
+use Rattle.sixel_palette.specs.inside.Sums.{counted_pixels}
 use Rattle.sixel_palette.proofs.palette.refined.RefinedEntries.spread.Goals.{then-amount-eq0-via-then-amount-eq0}
 use Rattle.sixel_palette.proofs.palette.refined.RefinedEntries.spread.Goals.{then-amount-eq0-via-else-amount-eq0+then-self}
 use Rattle.sixel_palette.proofs.palette.refined.RefinedEntries.spread.Goals as goal

@@ -1,5 +1,5 @@
 use Rattle.std.proofs.Common.{ℕ, ◌≤◌, List, take}
-use Rattle.sixel_palette.specs.inside.PaletteKeys.{least_key, IsInCube}
+use Rattle.sixel_palette.specs.inside.Keys.{least_key, IsInCube}
 use Rattle.sixel_palette.proofs.palette.nearest.cube.Cube.greatest_key.Given as goal
 
 abbrev pub invariant-loop-entry : goal.invariant-loop-entry

@@ -4,8 +4,8 @@ use Rattle.std.specs.Prelude.{◌≡◌, ◌⊎◌, ℕ, ◌+◌, ◌*◌, ◌/�
 use Rattle.std.specs.Prelude.{slice_index_or}
 use Rattle.sixel_palette.specs.declared.palette.buckets.Interval.{Interval}
 use Rattle.sixel_palette.specs.declared.palette.buckets.Bucket.{Bucket}
-use Rattle.sixel_palette.specs.inside.PaletteCodes.{color_of}
-use Rattle.sixel_palette.specs.inside.PaletteNearest.{IsNearestEntry, nearest_at}
+use Rattle.sixel_palette.specs.inside.Codes.{color_of}
+use Rattle.sixel_palette.specs.inside.Nearest.{IsNearestEntry, nearest_at}
 
 -- a channel of a code, by the number that one step of it counts
 abbrev pub channel : ℕ → ℕ → ℕ

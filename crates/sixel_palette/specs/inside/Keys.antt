@@ -9,8 +9,8 @@ use Rattle.sixel_palette.specs.declared.palette.nearest.Search.{Search}
 use Rattle.sixel_palette.specs.declared.palette.nearest.Span.{Span}
 use Rattle.sixel_palette.specs.declared.palette.nearest_entry.Entry.{Entry}
 use Rattle.sixel_palette.specs.Palette.{distance, nearest, no_entry}
-use Rattle.sixel_palette.specs.inside.PaletteBuckets.{IsInInterval}
-use Rattle.sixel_palette.specs.inside.PaletteCodes.{color_of, code_count}
+use Rattle.sixel_palette.specs.inside.Buckets.{IsInInterval}
+use Rattle.sixel_palette.specs.inside.Codes.{color_of, code_count}
 
 -- the key of an entry for a color
 unfoldable pub key_of : Entry → List ℕ → ℕ

@@ -8,7 +8,7 @@ use Rattle.sixel_palette.specs.ColorSums.{Pixels, sums_of}
 use Rattle.sixel_palette.specs.GainCut.{Box, bin_step, corner}
 use Rattle.sixel_palette.specs.Lloyd.{is_corner}
 use Rattle.sixel_palette.specs.Refined.{sum_to}
-use Rattle.sixel_palette.specs.inside.PaletteCodes.{color_of}
+use Rattle.sixel_palette.specs.inside.Codes.{color_of}
 
 -- the sums as a sequence
 abbrev pub total : ColorSums → ℕ → ℕ

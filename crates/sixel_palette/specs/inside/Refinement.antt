@@ -11,11 +11,11 @@ use Rattle.sixel_palette.specs.PaletteBound.{IsLeastApart}
 use Rattle.sixel_palette.specs.Refined.{AreOnTop, IsRegisterColor, base_entries, cut_entries}
 use Rattle.sixel_palette.specs.Refined.{register_color}
 use Rattle.sixel_palette.specs.Spread.{is_flat, spread_entries}
-use Rattle.sixel_palette.specs.inside.PaletteCodes.{IsListed, color_of}
-use Rattle.sixel_palette.specs.inside.PaletteCounts.{AreCounts, counted_error}
-use Rattle.sixel_palette.specs.inside.PaletteNearest.{AreNearest}
-use Rattle.sixel_palette.specs.inside.PaletteRanks.{IsColorSetOf}
-use Rattle.sixel_palette.specs.inside.PaletteSums.{counted_pixels}
+use Rattle.sixel_palette.specs.inside.Codes.{IsListed, color_of}
+use Rattle.sixel_palette.specs.inside.Counts.{AreCounts, counted_error}
+use Rattle.sixel_palette.specs.inside.Nearest.{AreNearest}
+use Rattle.sixel_palette.specs.inside.Ranks.{IsColorSetOf}
+use Rattle.sixel_palette.specs.inside.Sums.{counted_pixels}
 
 -- the entries are refined for these codes and counts
 pub record AreRefinedEntries (codes counts : List ℕ) (room : ℕ) (entries : RefinedEntries)

@@ -3,7 +3,7 @@
 use Rattle.std.specs.Prelude.{◌≡◌, ℕ, ◌<◌, ◌≤◌, min, List, [], ◌∷◌, ◌++◌, length}
 use Rattle.sixel_palette.specs.declared.palette.PaletteChoice.{PaletteChoice}
 use Rattle.sixel_palette.specs.Palette.{nearest, IsFarthest, IsFarthestFirst}
-use Rattle.sixel_palette.specs.inside.PaletteCodes.{AreShownCodes, IsListed}
+use Rattle.sixel_palette.specs.inside.Codes.{AreShownCodes, IsListed}
 
 -- the entries are chosen among the image's colors, with this much room, and the error and the
 -- witnesses are theirs

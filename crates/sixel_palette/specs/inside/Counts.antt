@@ -2,7 +2,7 @@
 use Rattle.std.specs.Prelude.{◌≡◌, ℕ, ◌*◌, ◌/◌, ◌%◌, ◌<◌, ◌≤◌, List, length, slice_index}
 use Rattle.sixel_palette.specs.Palette.{nearest}
 use Rattle.sixel_palette.specs.Refined.{opaque_number, sum_to}
-use Rattle.sixel_palette.specs.inside.PaletteSums.{counted_pixels}
+use Rattle.sixel_palette.specs.inside.Sums.{counted_pixels}
 
 -- each code has the number of the first pixels that have its color: whatever number each color has,
 -- the sum over the codes is the sum over the pixels

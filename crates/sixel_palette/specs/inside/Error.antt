@@ -6,7 +6,7 @@ use Rattle.sixel_palette.specs.declared.dithering.mapped.MappedImage.{MappedImag
 use Rattle.sixel_palette.specs.declared.dithering.nearest.Nearest.{Nearest}
 use Rattle.sixel_palette.specs.declared.dithering.nearest.Nearest.TheVariants.{Found, Refined}
 use Rattle.sixel_palette.specs.declared.dithering.palette_error.PaletteError.{PaletteError}
-use Rattle.sixel_palette.specs.inside.PaletteRefinement.{IsRefinement}
+use Rattle.sixel_palette.specs.inside.Refinement.{IsRefinement}
 
 -- it is the summed error and the number of opaque pixels, each of which has a small error
 pub record IsErrorOf (colors : List (List ℕ)) (pixels : List ℕ) (error : PaletteError)

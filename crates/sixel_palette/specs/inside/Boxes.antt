@@ -9,7 +9,7 @@ use Rattle.sixel_palette.specs.declared.palette.gain_cut.ColorBox.{ColorBox}
 use Rattle.sixel_palette.specs.declared.palette.gain_cut.Sides.{Sides}
 use Rattle.sixel_palette.specs.ColorSums.{Pixels}
 use Rattle.sixel_palette.specs.GainCut.{Box, best_cut, box_at, gain, side}
-use Rattle.sixel_palette.specs.inside.PaletteSums.{AreBinsOf, prefix_sums, suffix_sums}
+use Rattle.sixel_palette.specs.inside.Sums.{AreBinsOf, prefix_sums, suffix_sums}
 
 -- the number of pixels in some sums
 abbrev pub summed_pixels : List ColorSums → ℕ

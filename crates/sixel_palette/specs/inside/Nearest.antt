@@ -4,7 +4,7 @@ use Rattle.std.specs.Prelude.{◌≡◌, ℕ, ◌+◌, ◌*◌, ◌/◌, ◌%◌
 use Rattle.std.specs.Prelude.{slice_index, slice_index_or}
 use Rattle.sixel_palette.specs.declared.palette.nearest_entry.NearestEntry.{NearestEntry}
 use Rattle.sixel_palette.specs.Palette.{distance, nearest, color_at, IsOpaque, IsNearest, no_entry}
-use Rattle.sixel_palette.specs.inside.PaletteCodes.{color_of}
+use Rattle.sixel_palette.specs.inside.Codes.{color_of}
 
 -- this is the nearest entry of the color, if there is an entry: the first of the nearest
 pub record IsNearestEntry (entries : List (List ℕ)) (c : List ℕ) (near : NearestEntry)

@@ -5,10 +5,10 @@ use Rattle.sixel_base.specs.Limits.{area_limit}
 use Rattle.sixel_palette.specs.declared.palette.assignment.Assignment.{Assignment}
 use Rattle.sixel_palette.specs.declared.palette.refined.Start.{Start}
 use Rattle.sixel_palette.specs.Refined.{IsRegisterColor, base_entries, cut_entries, register_color}
-use Rattle.sixel_palette.specs.inside.PaletteCodes.{color_of}
-use Rattle.sixel_palette.specs.inside.PaletteCounts.{counted_error}
-use Rattle.sixel_palette.specs.inside.PaletteSums.{counted_pixels}
-use Rattle.sixel_palette.specs.inside.PaletteTraversal.{IsTraversal, HasRelaxed}
+use Rattle.sixel_palette.specs.inside.Codes.{color_of}
+use Rattle.sixel_palette.specs.inside.Counts.{counted_error}
+use Rattle.sixel_palette.specs.inside.Sums.{counted_pixels}
+use Rattle.sixel_palette.specs.inside.Traversal.{IsTraversal, HasRelaxed}
 
 -- each code has a count, and there are no more pixels than the greatest image has
 pub record IsWeighed (codes counts : List ℕ) : Type 0 where
