@@ -1,6 +1,6 @@
--- What files add to the output: those before the ones that are left, and one more.
+-- What files add to the output: those before a file, and that one.
 use Rattle.std.proofs.Common.{◌≡◌, ◌++◌, ℕ, List, [], ◌∷◌, IfSome, Option, Some, None}
-use Rattle.std.proofs.Common.{Err, append_assoc, append-nil, arith, max, refl, inl, inr}
+use Rattle.std.proofs.Common.{Err, append_assoc, append-nil, arith, max, refl, sym, inl, inr}
 use Rattle.std.specs.Io.KnownBytes.{Appends}
 use Rattle.sixel.specs.Ending.{Ending, Done, Refused, Unreadable}
 use Rattle.sixel.specs.Files.{AreFileOutputs, IsFileOutput}
@@ -9,41 +9,27 @@ use Rattle.sixel.specs.declared.fault.Fault.TheVariants.{Sixel, Input, Output}
 use Rattle.sixel.specs.declared.fault.PictureFault.{PictureFault}
 use Rattle.sixel.specs.declared.fault.PictureFault.TheVariants.{Shared, Netpbm}
 
--- the files up to those that are left have added these bytes
-pub record AreLed (content : List ℕ → Option (List ℕ))
-    (IsText : List ℕ → List ℕ → Ending → Type 0) (names left : List (List ℕ)) (front : List ℕ)
-    (status : ℕ) : Type 0 where
-  pub led : (rest : List ℕ) (others : ℕ) → AreFileOutputs content IsText left rest others
-      → AreFileOutputs content IsText names (front ++ rest) (max status others)
-
-pub led_first : (content : List ℕ → Option (List ℕ))
-    (IsText : List ℕ → List ℕ → Ending → Type 0) (names : List (List ℕ))
-    → AreLed content IsText names names [] 0
-led_first content IsText names = record {
-  led = λ rest others is. let same : max 0 others ≡ others = omega arith in rw same is;
-}
-
-pub led_more : (content : List ℕ → Option (List ℕ))
-    (IsText : List ℕ → List ℕ → Ending → Type 0) (names left : List (List ℕ)) (name : List ℕ)
-    (front first : List ℕ) (status one now : ℕ)
-    → AreLed content IsText names (name ∷ left) front status
+-- one file more adds its bytes, and the greatest status goes on
+pub file_more : (content : List ℕ → Option (List ℕ)) (IsText : List ℕ → List ℕ → Ending → Type 0)
+    (names : List (List ℕ)) (name text first : List ℕ) (status one now : ℕ)
+    → AreFileOutputs content IsText names text status
     → IfSome (content name) (λ bytes. IsFileOutput (IsText bytes) first one)
-    → now ≡ max status one → AreLed content IsText names left (front ++ first) now
-led_more content IsText names left name front first status one now before adds is = record {
-  led = λ rest others after.
-      let same : max (max status one) others ≡ max status (max one others) = omega arith in
-      rw (append_assoc front first rest, is, same)
-      (before.led (first ++ rest) (max one others)
-      (first, rest, one, others, adds, after, refl, refl));
-}
-
-pub led_last : (content : List ℕ → Option (List ℕ))
-    (IsText : List ℕ → List ℕ → Ending → Type 0) (names : List (List ℕ)) (front : List ℕ)
-    (status : ℕ) → AreLed content IsText names [] front status
-    → AreFileOutputs content IsText names front status
-led_last content IsText names front status before =
-    let same : max status 0 ≡ status = omega arith in
-    rw (← append-nil front, ← same) (before.led [] 0 (refl, refl))
+    → now ≡ max status one
+    → AreFileOutputs content IsText (names ++ name ∷ []) (text ++ first) now
+file_more content IsText [] name text first status one now (none, zero) adds is =
+    (first, [], one, 0, adds, (refl, refl), rw none (sym (append-nil first)), omega arith)
+file_more content IsText (other ∷ names) name text first status one now
+    (before, rest, its, others, was, after, joined, greatest) adds is =
+    let more = max others one in (
+      before,
+      rest ++ first,
+      its,
+      more,
+      was,
+      file_more content IsText names name rest first others one more after adds refl,
+      rw joined (append_assoc before rest first),
+      omega arith,
+    )
 
 -- a file that is not read adds nothing
 pub adds_nothing : (content : Option (List ℕ)) (IsText : List ℕ → List ℕ → Ending → Type 0)

@@ -1,8 +1,8 @@
 -- The first arguments of a list, as they were read.
-use Rattle.std.proofs.Common.{◌≡◌, ◌≤◌, ◌<◌, ◌-◌, List, [], ◌∷◌, ℕ, arith, length}
+use Rattle.std.proofs.Common.{◌≡◌, ◌≤◌, ◌<◌, ◌+◌, ◌-◌, List, [], ◌∷◌, ◌++◌, ℕ, arith, length}
 use Rattle.std.proofs.Common.{get_or, take, drop, string_bytes, String}
 use Rattle.std.specs.declared.alloc.Global.{Global}
-use Rattle.std.proofs.lemmas.List.{take_all}
+use Rattle.std.proofs.lemmas.List.{map-append, take_all, take_more}
 use Rattle.sixel.specs.Words.{words_of}
 use Rattle.std.proofs.lemmas.Bool.Decides.{nat_tests}
 
@@ -25,3 +25,10 @@ pub only_word : (words : List (String Global)) (word : String Global) (read : Li
     → read ≡ string_bytes word → words_of words ≡ read ∷ []
 only_word words word read some few is_word is_read =
     grind (arith, nat_tests, first_word words word read some is_word is_read)
+
+-- one argument more than those before it
+pub one_more : (words : List (String Global)) (index : ℕ) (word : String Global) (read : List ℕ)
+    → index < length words → word ≡ get_or words index word → read ≡ string_bytes word
+    → words_of (take (index + 1) words) ≡ words_of (take index words) ++ read ∷ []
+one_more words index word read inside is_word is_read =
+    rw (take_more words index word inside, ← is_word, is_read) (map-append string_bytes _ _)

@@ -1,6 +1,5 @@
 pub mod FirstWords
 pub mod ByteCounts
-mod Chunks
 pub mod DcsSequences
 pub mod Drawings
 pub mod FileOutputs

@@ -2,8 +2,7 @@
 -- each, until one ends early or no byte is left. It follows from the meaning of DCS sequences, and
 -- does not mention chunks. The order is this program's own: each image is written before the next
 -- sequence is read, and stays written if that one is rejected.
-use Rattle.std.specs.Prelude.{◌≡◌, ◌<◌, ◌*◌, ℕ, true, List, [], ◌∷◌, ◌++◌, length, take, drop}
-use Rattle.std.specs.Prelude.{Option, None}
+use Rattle.std.specs.Prelude.{◌≡◌, ◌<◌, ℕ, true, List, [], ◌∷◌, ◌++◌, length, drop, Option, None}
 use Rattle.std.specs.Option.{option_or}
 use Rattle.sixel_base.specs.declared.error.SixelError.{SixelError}
 use Rattle.sixel_base.specs.Fault.{Fault, Faults}
@@ -11,7 +10,7 @@ use Rattle.sixel_base.specs.Payload.{Image}
 use Rattle.sixel_base.specs.Decoder.{IsSetAs}
 use Rattle.sixel_base.specs.declared.state.DecoderState.{DecoderState}
 use Rattle.sixel_base.specs.declared.status.SixelDcsFeedStatus.{SixelDcsFeedStatus}
-use Rattle.sixel_base.specs.declared.status.SixelDcsFeedStatus.TheVariants.{NeedMoreData, Complete}
+use Rattle.sixel_base.specs.declared.status.SixelDcsFeedStatus.TheVariants.{Complete}
 use Rattle.sixel_base.specs.Dcs.{dcs_status, dcs_count, dcs_fault, end_fault}
 use Rattle.sixel_base.specs.Limits.{Limit}
 use Rattle.sixel_base.specs.OneShot.{found, IsFoundImage, AreFoundRegisters}
@@ -24,16 +23,6 @@ abbrev pub sequence_fault : Limit → List ℕ → Option Fault
 sequence_fault limit [] = None
 sequence_fault limit (byte ∷ bytes) =
     option_or (dcs_fault limit (byte ∷ bytes)) (end_fault limit (byte ∷ bytes))
-
--- A sequence was fed in chunks of this length, counted from its own first byte, and in no more of
--- them than it took to end. The last chunk can be shorter if no byte is left. If the sequence has
--- not ended, all bytes were fed.
-pub record IsFedInChunks (chunk_len : ℕ) (bytes fed : List ℕ) : Type 0 where
-  pub chunks : ℕ
-  pub whole : fed ≡ take (chunks * chunk_len) bytes
-  pub needed : (fewer : ℕ) → fewer < chunks
-      → dcs_status (take (fewer * chunk_len) bytes) ≡ NeedMoreData
-  pub enough : dcs_status fed ≡ NeedMoreData → fed ≡ bytes
 
 -- The bytes after a sequence with this status: none if it ended before its terminator. One that has
 -- not ended has a fault, unless the decoder is lenient.

@@ -5,15 +5,16 @@ ghost use Rattle.std.specs.Prelude.{None, IfOk, OnOk, IfErr, OnErr};
 ghost use Rattle.std.specs.Io.KnownBytes.{Appends};
 ghost use Rattle.sixel_base.specs.Decoder.{new_decoder, IsSetAs};
 ghost use Rattle.sixel_base.specs.Fault.{Faults};
-ghost use Rattle.sixel_base.specs.Dcs.{dcs_status, dcs_count, dcs_fault, has_ended, IsSameString};
+ghost use Rattle.sixel_base.specs.Dcs.{dcs_status, dcs_count, dcs_fault};
 ghost use Rattle.sixel_base.specs.Payload.{Image};
 ghost use Rattle.sixel_base.specs.declared.status.SixelDcsFeedStatus.{SixelDcsFeedStatus};
 ghost use Rattle.icy_sixel.specs.ImageView.{image_value};
 ghost use Rattle.icy_sixel.specs.Receiver.{AreSettingsKept, OfString, start_of};
+ghost use Rattle.icy_sixel.specs.inside.Session.{IsWhole};
 ghost use Rattle.sixel_decoder.specs.declared.received.Status.TheVariants.{Dcs};
 ghost use Rattle.sixel_base.specs.OneShot.{found, IsFoundImage, AreFoundRegisters};
-ghost use Rattle.sixel.specs.Sequences.{HasEnded, IsFedInChunks, IsSequencesOutput, rest_by};
-ghost use Rattle.sixel.specs.Sequences.{rest_of, sequence_fault};
+ghost use Rattle.sixel.specs.Sequences.{HasEnded, IsSequencesOutput, rest_by, rest_of};
+ghost use Rattle.sixel.specs.Sequences.{sequence_fault};
 ghost use Rattle.sixel.specs.Form.{image_form};
 ghost use Rattle.sixel.specs.WorkOutput.{Serves};
 
@@ -132,13 +133,9 @@ fn feed_chunks(
     ensures released { OnOk result
         (receiver.new.image.released ≡ receiver.old.image.released) }
     ensures accepts { OnOk result (receiver.new.image.is_refused ≡ false) }
-    ensures chunks { OnOk result
-        (IsFedInChunks chunk_len bytes.now receiver.new.image.bytes) }
+    ensures whole { OnOk result (IsWhole OfString receiver.new.image.bytes bytes.now) }
     ensures consumed { IfOk result (λ fed. fed.consumed ≡ dcs_count receiver.new.image.bytes) }
     ensures status { IfOk result (λ fed. fed.status ≡ Dcs (dcs_status receiver.new.image.bytes)) }
-    ensures within { IfOk result (λ fed. fed.consumed ≤ length receiver.new.image.bytes) }
-    ensures over { IfOk result (λ fed. has_ended (dcs_status receiver.new.image.bytes) ≡ true
-        → IsSameString receiver.old.image.start.pixel_limit receiver.new.image.bytes bytes.now) }
     ensures faultless { OnOk result
         (dcs_fault receiver.old.image.start.pixel_limit receiver.new.image.bytes ≡ None) }
     ensures refused { IfErr result (λ error. Faults error true

@@ -1,10 +1,9 @@
--- The receiver was fed whole chunks of the sequence, without a fault. It is known how many of their
--- bytes are the sequence's own.
-use Rattle.std.proofs.Common.{◌≡◌, ◌≤◌, length, true, false, None}
-use Rattle.sixel_base.specs.Dcs.{dcs_status, dcs_count, dcs_fault, has_ended, IsSameString}
+-- The receiver was fed the bytes before the rest, without a fault. It is known how many of them are
+-- the sequence's own.
+use Rattle.std.proofs.Common.{◌≡◌, ◌++◌, length, false, None}
+use Rattle.sixel_base.specs.Dcs.{dcs_status, dcs_count, dcs_fault}
 use Rattle.icy_sixel.specs.Receiver.{AreSettingsKept, OfString}
 use Rattle.sixel_decoder.specs.declared.received.Status.TheVariants.{Dcs}
-use Rattle.sixel.proofs.Chunks.{Cut}
 use Rattle.sixel.proofs.sequences.feed_chunks.Given as goal
 
 abbrev pub invariant-chunks : goal.invariant-chunks
@@ -15,12 +14,9 @@ invariant-chunks l = record {
   start : l.receiver.image.start ≡ l.fn.receiver.image.start;
   released : l.receiver.image.released ≡ l.fn.receiver.image.released;
   accepted : l.receiver.image.is_refused ≡ false;
-  cut : Cut l.chunk_len l.bytes l.receiver.image.bytes l.rest;
+  joined : l.receiver.image.bytes ++ l.rest ≡ l.bytes;
   faultless : dcs_fault l.fn.receiver.image.start.pixel_limit l.receiver.image.bytes ≡ None;
   counted : l.fed.consumed ≡ dcs_count l.receiver.image.bytes;
-  within : l.fed.consumed ≤ length l.receiver.image.bytes;
-  over : has_ended (dcs_status l.receiver.image.bytes) ≡ true
-      → IsSameString l.fn.receiver.image.start.pixel_limit l.receiver.image.bytes l.bytes;
   known : l.fed.status ≡ Dcs (dcs_status l.receiver.image.bytes);
 }
 

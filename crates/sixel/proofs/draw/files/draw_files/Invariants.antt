@@ -1,15 +1,15 @@
 -- The files before this one are drawn.
-use Rattle.std.proofs.Common.{◌≤◌, ℕ, List, drop}
+use Rattle.std.proofs.Common.{◌≤◌, ℕ, List, take}
 use Rattle.std.specs.Io.KnownBytes.{Appends}
+use Rattle.sixel.specs.Files.{AreFileOutputs}
 use Rattle.sixel.specs.WorkOutput.{IsPictureOutput}
 use Rattle.sixel.specs.Words.{words_of}
 use Rattle.sixel.specs.declared.picture.PictureWord.TheVariants.{Draw}
-use Rattle.sixel.proofs.FileOutputs.{AreLed}
 use Rattle.sixel.proofs.draw.files.draw_files.Given as goal
 
 abbrev pub invariant-files : goal.invariant-files
 invariant-files g l =
     (front : List ℕ) × Appends (g.O.Write.contents l.fn.output) (g.O.Write.contents l.output) front
     × (l.status ≤ 1)
-    × AreLed (g.H.Host.content l.host) (IsPictureOutput (Draw l.drawing.options) l.palette)
-    (words_of l.name-items) (words_of (drop l.name-index l.name-items)) front l.status
+    × AreFileOutputs (g.H.Host.content l.host) (IsPictureOutput (Draw l.drawing.options) l.palette)
+    (words_of (take l.name-index l.name-items)) front l.status
