@@ -39,12 +39,12 @@ static const struct {
     uint32_t (*color)(size_t x, size_t y);
     size_t encoding, decoding, bands;
 } images[] = {
-    {"photograph", {320, 240}, photograph, 2439508, 473392, 25168},
-    {"chart", {640, 402}, chart, 2133412, 1424080, 41680},
-    {"icon", {48, 48}, stripes, 63728, 16576, 6424},
-    {"wide", {20000, 6}, stripes, 2133416, 1518136, 1518136},
-    {"tall", {6, 20004}, stripes, 2133416, 520840, 3520},
-    {"raster", {1000, 1002}, NULL, 2133388, 4010944, 2944},
+    {"photograph", {320, 240}, photograph, 3663150, 473392, 25168},
+    {"chart", {640, 402}, chart, 329640, 1424080, 41680},
+    {"icon", {48, 48}, stripes, 73428, 16576, 6424},
+    {"wide", {20000, 6}, stripes, 394060, 1518136, 1518136},
+    {"tall", {6, 20004}, stripes, 254126, 520840, 3520},
+    {"raster", {1000, 1002}, NULL, 1071276, 4010944, 2944},
 };
 
 static struct bytes make_pixels(size_t width, size_t height, uint32_t (*color)(size_t, size_t))
