@@ -1,13 +1,11 @@
 -- Lanes: what holds of each of four, and pixels that are chosen among two as numbers.
-use Rattle.std.proofs.Common.{◌≡◌, ℕ, ◌+◌, ◌/◌, ◌^◌, ◌%◌, ◌<◌, ◌≤◌, Bool}
+use Rattle.std.proofs.Common.{◌≡◌, ℕ, ◌+◌, ◌-◌, ◌/◌, ◌^◌, ◌%◌, ◌<◌, Bool}
 use Rattle.std.proofs.Common.{cond, List, [], ◌∷◌, ◌++◌, length, map, get_or, bit_and, refl}
 use Rattle.std.proofs.Common.{subst, arith}
-use Rattle.std.specs.Prelude.{slice_set, ◌==◌, if◌then◌else◌}
+use Rattle.std.specs.Prelude.{slice_set, nat_le, nat_lt, ◌==◌, ◌&&◌, if◌then◌else◌}
 use Rattle.std.specs.Int.{to_le_bytes, w32}
 use Rattle.std.proofs.lemmas.Grind.{and_numeral, get_or-set_at}
-use Rattle.std.proofs.lemmas.List.{get_or_append_left, get_or_default, get_or-set_other}
-use Rattle.std.proofs.lemmas.List.{length-set}
-use Rattle.sixel_canvas.specs.inside.Band.{mixed_at}
+use Rattle.std.proofs.lemmas.List.{get_or_append_left, get_or-set_other}
 use lib.Lanes.{sel_l, top, zip2}
 use Rattle.sixel_base.specs.Picture.{is_set}
 use Rattle.std.proofs.lemmas.Bool.Decides.{nat_tests}
@@ -56,7 +54,7 @@ chosen sixels bit new old =
     (1 ∷ 1 ∷ 1 ∷ 1 ∷ [])) (1 ∷ 1 ∷ 1 ∷ 1 ∷ [])))
     (new ∷ new ∷ new ∷ new ∷ []) old
 
-get_or-chosen : (sixels old : List ℕ) (bit new : ℕ) → length sixels ≡ 4 → length old ≡ 4 →
+pub get_or-chosen : (sixels old : List ℕ) (bit new : ℕ) → length sixels ≡ 4 → length old ≡ 4 →
     (k : ℕ) → k < 4 →
     get_or (chosen sixels bit new old) k 0
     ≡ (if is_set (get_or sixels k 0) bit then new else get_or old k 0)
@@ -73,33 +71,21 @@ get_or-chosen sixels old bit new four same =
     (chosen_lane (get_or sixels 3 0) bit new (get_or old 3 0))))
 
 -- the bytes of one of two numbers
-bytes_of : (hit : Bool) (n x y : ℕ) (color pixel : List ℕ) → n ≡ (if hit then x else y) →
+pub bytes_of : (hit : Bool) (n x y : ℕ) (color pixel : List ℕ) → n ≡ (if hit then x else y) →
     to_le_bytes w32 x ≡ color → to_le_bytes w32 y ≡ pixel →
     to_le_bytes w32 n ≡ (if hit then color else pixel)
 bytes_of hit n x y color pixel is new old = grind (arith, nat_tests)
 
--- the bytes of one of them
-abbrev pub lane : List ℕ → ℕ → ℕ → List ℕ → ℕ → List ℕ
-lane sixels bit new numbers k = to_le_bytes w32 (get_or (chosen sixels bit new numbers) k 0)
-
-pub lane_bytes : (sixels numbers color pixel : List ℕ) (bit new k : ℕ) → length sixels ≡ 4 →
-    length numbers ≡ 4 → k < 4 → to_le_bytes w32 new ≡ color →
-    to_le_bytes w32 (get_or numbers k 0) ≡ pixel →
-    lane sixels bit new numbers k ≡ (if is_set (get_or sixels k 0) bit then color else pixel)
-lane_bytes sixels numbers color pixel bit new k four same inside is old =
-    bytes_of (is_set (get_or sixels k 0) bit) _ new (get_or numbers k 0) color pixel
-    (get_or-chosen sixels numbers bit new four same k inside) is old
-
--- four pixels were mixed, one after another
-pub mixed_four :
-    (old : List (List ℕ)) (at bit : ℕ) (sixels color p q r s d : List ℕ) (i : ℕ) →
-    at + 4 ≤ length old →
-    p ≡ (if is_set (get_or sixels 0 0) bit then color else get_or old at []) →
-    q ≡ (if is_set (get_or sixels 1 0) bit then color else get_or old (at + 1) []) →
-    r ≡ (if is_set (get_or sixels 2 0) bit then color else get_or old (at + 2) []) →
-    s ≡ (if is_set (get_or sixels 3 0) bit then color else get_or old (at + 3) []) →
-    get_or (slice_set (slice_set (slice_set (slice_set old at p) (at + 1) q) (at + 2) r) (at + 3) s)
-    i d
-    ≡ mixed_at at sixels bit color i (get_or old i d)
-mixed_four old at bit sixels color p q r s d i inside first second third fourth =
-    grind (arith, nat_tests, get_or-set_at, get_or-set_other, get_or_default, length-set)
+-- one pixel more was mixed
+pub mixed_step :
+    (old mid : List (List ℕ)) (at j bit : ℕ) (sixels : List ℕ) (color pixel d : List ℕ) (i : ℕ) →
+    at + j < length mid →
+    pixel ≡ (if is_set (get_or sixels j 0) bit then color else get_or old (at + j) d) →
+    get_or mid i d
+    ≡ (if nat_le at i && nat_lt i (at + j) && is_set (get_or sixels (i - at) 0) bit then color
+    else get_or old i d) →
+    get_or (slice_set mid (at + j) pixel) i d
+    ≡ (if nat_le at i && nat_lt i (at + (j + 1)) && is_set (get_or sixels (i - at) 0) bit then color
+    else get_or old i d)
+mixed_step old mid at j bit sixels color pixel d i inside is before =
+    grind (arith, nat_tests, get_or-set_at, get_or-set_other)

@@ -1,8 +1,12 @@
-//! A row of pixels, drawn on by a run.
+//! A row of pixels, drawn on by a run or by four sixels at once.
 
-ghost use Rattle.std.specs.Prelude.{◌≡◌, ℕ, ◌+◌, ◌-◌, ◌≤◌, ◌<◌, List, [], length, slice_index_or};
+ghost use Rattle.std.specs.Prelude.{◌≡◌, ℕ, ◌+◌, ◌-◌, ◌≤◌, ◌<◌, List, [], length};
+ghost use Rattle.std.specs.Prelude.{slice_index, slice_index_or, if◌then◌else◌};
 ghost use Rattle.std.specs.Int.{to_le_bytes, w32};
-ghost use Rattle.sixel_canvas.specs.inside.Band.{filled};
+ghost use Rattle.sixel_base.specs.Picture.{is_set};
+ghost use Rattle.sixel_canvas.specs.inside.Band.{filled, mixed_at};
+
+use std::simd::prelude::*;
 
 /// Gives one color to the pixels from `from` up to before `to`.
 #[inline(always)]
@@ -37,9 +41,48 @@ pub fn fill_by_copy(pixels: &mut [[u8; 4]], source: usize, from: usize, to: usiz
     back[..count].copy_from_slice(&front[source..source + count]);
 }
 
+/// Gives one color to those of four pixels from `at` on whose sixel has the bit.
+#[inline(always)]
+pub fn mix(pixels: &mut [[u8; 4]], at: usize, sixels: [u8; 4], bit: usize, color: [u8; 4])
+    requires within { at + 4 ≤ length pixels.old }
+    requires six { bit < 6 }
+    ensures len { length pixels.new ≡ length pixels.old }
+    ensures mixed { (d : List ℕ) (i : ℕ) → slice_index_or pixels.new i d
+        ≡ mixed_at at sixels bit color i (slice_index_or pixels.old i d) }
+{
+    let old = [
+        number(pixels[at]),
+        number(pixels[at + 1]),
+        number(pixels[at + 2]),
+        number(pixels[at + 3]),
+    ];
+    let new = chosen(sixels, bit, number(color), old);
+    'mixed: for j in 0..4 {
+        pixels[at + j] = new[j].to_le_bytes();
+    }
+}
+
+/// Returns lane by lane the new number where the sixel has the bit, and else the old one.
+///
+/// Four lanes become a shift and a blend. LLVM makes two instructions more of eight, and a branch
+/// of a choice between arrays.
+#[inline(always)]
+fn chosen(sixels: [u8; 4], bit: usize, new: u32, old: [u32; 4]) -> [u32; 4]
+    requires { bit < 6 }
+    ensures { (k : ℕ) → k < 4 → slice_index result k
+        ≡ (if is_set (slice_index sixels k) bit then new else slice_index old k) }
+{
+    let lanes = u8x4::from_array(sixels).cast::<u32>();
+    let tests = (lanes >> u32x4::splat(bit as u32)) & u32x4::splat(1);
+    tests
+        .simd_eq(u32x4::splat(1))
+        .select(u32x4::splat(new), u32x4::from_array(old))
+        .to_array()
+}
+
 /// Returns the pixel as one number.
 #[inline(always)]
-pub fn number(pixel: [u8; 4]) -> u32
+fn number(pixel: [u8; 4]) -> u32
     ensures { to_le_bytes w32 result ≡ pixel }
 {
     u32::from_le_bytes(pixel)

@@ -6,7 +6,7 @@ ghost use Rattle.sixel_canvas.specs.inside.Band.{AreDrawn, AreSixRows, covers_fo
 ghost use Rattle.sixel_canvas.specs.inside.Band.{stored};
 ghost use Rattle.sixel_canvas.specs.inside.Drawn.{covers_eight};
 
-use crate::pixel_row::{fill, fill_by_copy, number};
+use crate::pixel_row::{fill, fill_by_copy, mix};
 use std::alloc::{AllocError, Global};
 use std::simd::prelude::*;
 
@@ -190,34 +190,14 @@ pub fn mix_rows(pixels: &mut [[u8; 4]], cap: usize, from: usize, sixels: [u8; 8]
 }
 
 /// Draws four sixels of one column each, from `from` on, in six rows.
-///
-/// Four lanes become a shift and a blend. LLVM makes two instructions more of eight, and a branch
-/// of a choice between arrays.
 #[inline(always)]
 fn mix_four(pixels: &mut [[u8; 4]], cap: usize, from: usize, sixels: [u8; 4], color: [u8; 4])
     requires within { from + 4 ≤ cap }
     requires rows { AreSixRows pixels.old cap }
     ensures { AreDrawn pixels.old pixels.new cap (covers_four from sixels) color }
 {
-    let lanes = u8x4::from_array(sixels).cast::<u32>();
-    let colors = u32x4::splat(number(color));
     'mixed: for bit in 0..6 {
-        let at = bit * cap + from;
-        let old = u32x4::from_array([
-            number(pixels[at]),
-            number(pixels[at + 1]),
-            number(pixels[at + 2]),
-            number(pixels[at + 3]),
-        ]);
-        let tests = (lanes >> u32x4::splat(bit as u32)) & u32x4::splat(1);
-        let row = tests
-            .simd_eq(u32x4::splat(1))
-            .select(colors, old)
-            .to_array();
-        pixels[at] = row[0].to_le_bytes();
-        pixels[at + 1] = row[1].to_le_bytes();
-        pixels[at + 2] = row[2].to_le_bytes();
-        pixels[at + 3] = row[3].to_le_bytes();
+        mix(pixels, bit * cap + from, sixels, bit, color);
     }
 }
 
