@@ -5,13 +5,14 @@ and assertions; with those of indices; and with no check of an index that the pr
 sanitizers of the code in C. They write what they write with the archive that the kit builds.
 """
 import platform
+import random
 import re
 import subprocess
 import tempfile
 import unittest
 from pathlib import Path
 
-from build import ARCHIVES, HEADERS, MEMORY, ROOT, needs, run
+from build import ARCHIVES, HEADERS, MEMORY, ROOT, instructions, needs, run
 from rust.test_program import build
 from rust.test_translator import CRATE
 from vectors import packed_vectors
@@ -69,6 +70,18 @@ class TestLibrary(unittest.TestCase):
         self.succeeds(*C11, *flags, "-g", "-O1", "-pthread", *sources, "-o", path)
         arguments = {"vectors": [self.folder / "all"], "random": [300, 1], "digests": []}
         return self.succeeds(path, *arguments.get(program, [self.folder]))
+
+    @needs("valgrind")
+    def test_index_checks(self):
+        """Index checks cost decoding less than 60 %, also on a processor without SSE4.1."""
+        noise, counts = random.Random(1), []
+        lines = ("".join(chr(63 + noise.randrange(1, 64)) for _ in range(640)) for _ in range(8))
+        band = "".join(f"#{color}{line}$" for color, line in enumerate(lines)) + "-"
+        for name in "default", "unchecked":
+            path = self.folder / f"feed.{name}"
+            self.succeeds(*C11, "-O1", ROOT / "tests/c/feed.c", MEMORY, self.archive(name), "-o", path)
+            counts.append(instructions(path, "4096", stdin=b"\x1bPq%b\x1b\\" % (20 * band.encode())))
+        self.assertLess(counts[0], 1.6 * counts[1])
 
     def test_programs(self):
         """Each test program passes with each build, and writes what it has to."""
