@@ -1,9 +1,8 @@
 -- The six rows of a band in one buffer of pixels: what a run, sixels of one column and a greater
 -- width do to a pixel.
-use Rattle.std.proofs.Common.{◌≡◌, ℕ, ◌+◌, ◌*◌, ◌<◌, ◌≤◌, Bool, true, false, List}
-use Rattle.std.proofs.Common.{◌++◌, length, get_or, take, drop, replicate, refl, ap}
-use Rattle.std.proofs.Common.{◌∙◌, length-take, get_or-take}
-use Rattle.std.proofs.Common.{get_or-drop, arith}
+use Rattle.std.proofs.Common.{◌≡◌, ℕ, ◌+◌, ◌*◌, ◌<◌, ◌≤◌, Bool, true, false, List, ◌++◌, length}
+use Rattle.std.proofs.Common.{get_or, take, drop, replicate, refl, ap, ◌∙◌, length-take}
+use Rattle.std.proofs.Common.{get_or-take, get_or-drop, arith}
 use Rattle.std.specs.Prelude.{nat_le, nat_lt, ◌==◌, ◌&&◌, ◌||◌, if◌then◌else◌}
 use Rattle.std.proofs.lemmas.Bool.{eqb-true}
 use Rattle.std.proofs.lemmas.Nat.{row_fits}
@@ -16,19 +15,12 @@ use Rattle.sixel_canvas.specs.inside.Band.{filled, stored}
 use Rattle.std.proofs.lemmas.Bool.Decides.{nat_tests}
 use Rattle.std.proofs.lemmas.Grind.{common_steps}
 
-leb_shift : (c a b : ℕ) → nat_le (c + a) (c + b) ≡ nat_le a b
-leb_shift c a b = grind arith
-
-ltb_shift : (c a b : ℕ) → nat_lt (c + a) (c + b) ≡ nat_lt a b
-ltb_shift c a b = grind arith
-
 -- a place lies between two columns of a row just where its row is that one, and its column is
 -- between them
 pub within_row : (wide from to bit column k : ℕ) → column < wide → from ≤ to → to ≤ wide →
     (nat_le (bit * wide + from) (k * wide + column) && nat_lt (k * wide + column) (bit * wide + to))
     ≡ (k == bit && (nat_le from column && nat_lt column to))
-within_row wide from to bit column k inside order within =
-    grind (arith, nat_tests, row_fits, leb_shift, ltb_shift)
+within_row wide from to bit column k inside order within = grind (arith, nat_tests, row_fits)
 
 -- what was drawn on the rows above one, and then on it
 pub more_rows : {X : Type 0} (hit above up here covered : Bool) (x y z color : X) →
@@ -36,10 +28,6 @@ pub more_rows : {X : Type 0} (hit above up here covered : Bool) (x y z color : X
     y ≡ (if above && covered then color else x) → up ≡ (above || here) →
     z ≡ (if up && covered then color else x)
 more_rows hit above up here covered x y z color at is before all = grind (arith, nat_tests)
-
--- a row is above the next one where it is above this one, or is this one
-pub rows_up : (k bit : ℕ) → nat_lt k (bit + 1) ≡ (nat_lt k bit || k == bit)
-rows_up k bit = grind arith
 
 if_here : (here between set : Bool) → (here ≡ true → set ≡ true) →
     (here && between) ≡ (here && (between && set))
@@ -62,7 +50,7 @@ pub struck_more :
     ≡ (if nat_lt k (bit + 1) && covers from to 0 bits column k then color
     else stored px wide d column k)
 struck_more px mid new wide from to bits bit color d column k inside six order within hit before
-    change = grind (arith, nat_tests, within_row, more_rows, rows_up, if_here, struck_here)
+    change = grind (arith, nat_tests, within_row, more_rows, if_here, struck_here)
 
 set_filled : (xs : List (List ℕ)) (place to i : ℕ) (color d : List ℕ) → place < length xs →
     to ≡ place + 1 →
@@ -167,8 +155,7 @@ pub copied_more :
     stored next wide background column k
     ≡ (if nat_lt column held then stored px held background column k else background)
 copied_more px new part mid next held wide row extra background more long joined cut filled before
-    column k inside up =
-    grind (
+    column k inside up = grind (
       arith,
       length-take,
       get_or-take,

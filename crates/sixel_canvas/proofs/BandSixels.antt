@@ -3,7 +3,7 @@ use Rattle.std.proofs.Common.{◌≡◌, ℕ, ◌+◌, ◌*◌, ◌<◌, ◌≤�
 use Rattle.std.proofs.Common.{length, get_or, refl, ap, ◌∙◌, arith}
 use Rattle.std.specs.Prelude.{nat_le, nat_lt, ◌&&◌, if◌then◌else◌}
 use Rattle.sixel_canvas.proofs.Lanes.{each_of_four, four_lanes, get_or-twice}
-use Rattle.sixel_canvas.specs.inside.Drawn.{covers_eight}
+use Rattle.sixel_canvas.specs.Drawn.{covers_eight}
 use Rattle.sixel_canvas.specs.inside.Band.{covers_four, mixed_at, stored}
 use Rattle.sixel_canvas.proofs.BandRows.{within_row}
 use Rattle.std.proofs.lemmas.Bool.Decides.{nat_tests}

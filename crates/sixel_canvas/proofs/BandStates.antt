@@ -1,15 +1,12 @@
 -- What a band shows once its columns were filled with background, or a part of a row with a color,
 -- and what its canvas shows then.
-use Rattle.std.proofs.Common.{◌≡◌, ℕ, zero, suc, ◌+◌, ◌-◌, ◌*◌, ◌<◌, ◌≤◌, Bool, true, false, List}
+use Rattle.std.proofs.Common.{◌≡◌, ℕ, zero, suc, ◌+◌, ◌-◌, ◌*◌, ◌<◌, ◌≤◌, Bool, true, List}
 use Rattle.std.proofs.Common.{length, get_or, refl, arith}
 use Rattle.std.specs.Prelude.{nat_le, nat_lt, ◌&&◌, ◌==◌, if◌then◌else◌}
 use Rattle.sixel_base.specs.Picture.{covers, is_set, is_struck}
 use Rattle.sixel_canvas.specs.inside.Band.{IsBand, band_state, cell, filled, stored}
 use Rattle.sixel_canvas.proofs.BandRows.{within_row}
 use Rattle.std.proofs.lemmas.Bool.Decides.{nat_tests}
-
-and_right_none : (a b s : Bool) → b ≡ false → (a && b && s) ≡ false
-and_right_none a b s is = grind (arith, nat_tests)
 
 pub all_set : (k : ℕ) → k < 6 → is_set 63 k ≡ true
 all_set zero six = refl
@@ -20,11 +17,6 @@ all_set (suc (suc (suc (suc zero)))) six = refl
 all_set (suc (suc (suc (suc (suc zero))))) six = refl
 all_set (suc (suc (suc (suc (suc (suc k)))))) six = absurd (omega (arith, six))
 
-stored_clean : (background : List ℕ) (pixels : List (List ℕ)) (cap extent : ℕ) →
-    IsBand (band_state background pixels cap extent) → (column k : ℕ) → extent ≤ column →
-    column < cap → k < 6 → stored pixels cap background column k ≡ background
-stored_clean background pixels cap extent is column k past inside six = grind (arith, nat_tests)
-
 -- a band whose columns up to its extent were drawn over in background shows nothing else
 pub cleared : (background : List ℕ) (pixels new : List (List ℕ)) (cap extent : ℕ) →
     IsBand (band_state background pixels cap extent) →
@@ -33,14 +25,10 @@ pub cleared : (background : List ℕ) (pixels new : List (List ℕ)) (cap extent
     ≡ (if covers 0 extent 0 63 column k then background else stored pixels cap background column k))
     →
     (column k : ℕ) → cell (band_state background new cap 0) column k ≡ background
-cleared background pixels new cap extent is drawn column k =
-    grind (arith, nat_tests, and_right_none, all_set, stored_clean)
+cleared background pixels new cap extent is drawn column k = grind (arith, nat_tests, all_set)
 
 turned : (a b c : Bool) → (c && (a && b)) ≡ (a && b && c)
 turned a b c = grind (arith, nat_tests)
-
-none_third : (a b c : Bool) → c ≡ false → (a && b && c) ≡ false
-none_third a b c is = grind (arith, nat_tests)
 
 -- one row was filled between two columns
 pub row_filled :
@@ -54,7 +42,7 @@ pub row_filled :
     ≡ (if nat_le from column && nat_lt column to && j == k then color
     else cell (band_state background pixels cap extent) column j)
 row_filled background pixels new cap extent k from to color six order within change column j =
-    grind (arith, nat_tests, within_row, and_right_none, turned, none_third)
+    grind (arith, nat_tests, within_row, turned)
 
 -- and the band stays one where the row was drawn on up to there
 pub is_filled :

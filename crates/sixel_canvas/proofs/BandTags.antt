@@ -1,6 +1,5 @@
 -- What a band with tags shows once the tags of a tile were painted, row by row.
-use Rattle.std.proofs.Common.{◌≡◌, ℕ, ◌+◌}
-use Rattle.std.proofs.Common.{false, arith}
+use Rattle.std.proofs.Common.{◌≡◌, ℕ, ◌+◌, false, arith}
 use Rattle.std.specs.Prelude.{if◌then◌else◌}
 use Rattle.sixel_base.specs.Picture.{covers}
 use Rattle.sixel_canvas.specs.inside.Band.{BandState, cell}

@@ -1,15 +1,13 @@
 -- Lanes: what holds of each of four, and pixels that are chosen among two as numbers.
-use Rattle.std.proofs.Common.{◌≡◌, ℕ, ◌+◌, ◌-◌, ◌/◌, ◌^◌, ◌%◌, ◌<◌, Bool}
-use Rattle.std.proofs.Common.{cond, List, [], ◌∷◌, ◌++◌, length, map, get_or, bit_and, refl}
-use Rattle.std.proofs.Common.{subst, arith}
-use Rattle.std.specs.Prelude.{slice_set, nat_le, nat_lt, ◌==◌, ◌&&◌, if◌then◌else◌}
+use Rattle.std.proofs.Common.{◌≡◌, ℕ, ◌+◌, ◌-◌, ◌/◌, ◌^◌, ◌%◌, ◌<◌, Bool, cond, List, [], ◌∷◌, ◌++◌}
+use Rattle.std.proofs.Common.{length, map, get_or, bit_and, refl, subst, arith}
+use Rattle.std.specs.Prelude.{◌==◌, if◌then◌else◌}
 use Rattle.std.specs.Int.{to_le_bytes, w32}
-use Rattle.std.proofs.lemmas.Grind.{and_numeral, get_or-set_at}
-use Rattle.std.proofs.lemmas.List.{get_or_append_left, get_or-set_other}
+use Rattle.std.proofs.lemmas.Grind.{and_numeral, common_steps}
+use Rattle.std.proofs.lemmas.List.{get_or_append_left}
 use lib.Lanes.{sel_l, top, zip2}
 use Rattle.sixel_base.specs.Picture.{is_set}
 use Rattle.std.proofs.lemmas.Bool.Decides.{nat_tests}
-use Rattle.std.proofs.lemmas.Grind.{common_steps}
 
 -- what holds of each of four
 pub each_of_four : (P : ℕ → Type 0) → P 0 → P 1 → P 2 → P 3 → (k : ℕ) → k < 4 → P k
@@ -75,17 +73,3 @@ pub bytes_of : (hit : Bool) (n x y : ℕ) (color pixel : List ℕ) → n ≡ (if
     to_le_bytes w32 x ≡ color → to_le_bytes w32 y ≡ pixel →
     to_le_bytes w32 n ≡ (if hit then color else pixel)
 bytes_of hit n x y color pixel is new old = grind (arith, nat_tests)
-
--- one pixel more was mixed
-pub mixed_step :
-    (old mid : List (List ℕ)) (at j bit : ℕ) (sixels : List ℕ) (color pixel d : List ℕ) (i : ℕ) →
-    at + j < length mid →
-    pixel ≡ (if is_set (get_or sixels j 0) bit then color else get_or old (at + j) d) →
-    get_or mid i d
-    ≡ (if nat_le at i && nat_lt i (at + j) && is_set (get_or sixels (i - at) 0) bit then color
-    else get_or old i d) →
-    get_or (slice_set mid (at + j) pixel) i d
-    ≡ (if nat_le at i && nat_lt i (at + (j + 1)) && is_set (get_or sixels (i - at) 0) bit then color
-    else get_or old i d)
-mixed_step old mid at j bit sixels color pixel d i inside is before =
-    grind (arith, nat_tests, get_or-set_at, get_or-set_other)

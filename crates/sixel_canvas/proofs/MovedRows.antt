@@ -5,9 +5,9 @@ use Rattle.std.specs.Prelude.{nat_lt, if◌then◌else◌}
 use Rattle.std.proofs.Math.Nat.{mul-le-mul_left, mul-le-mul_right}
 use Rattle.sixel_canvas.specs.inside.BandCanvas.{AreMoved, AreStored, BandCanvasState, IsLaidOut}
 use Rattle.sixel_canvas.specs.inside.BandCanvas.{least_width}
-use Rattle.sixel_canvas.specs.inside.Drawn.{Run, band_edge, least_moved, lowest_top, right_edge}
-use Rattle.sixel_canvas.specs.inside.Drawn.{rows_above, run, with_sixels}
-use Rattle.sixel_canvas.specs.inside.Paints.{counted}
+use Rattle.sixel_canvas.specs.Drawn.{Run, band_edge, least_moved, lowest_top, right_edge}
+use Rattle.sixel_canvas.specs.Drawn.{rows_above, run, with_sixels}
+use Rattle.sixel_canvas.specs.Paints.{counted}
 use Rattle.std.proofs.lemmas.Bool.Decides.{nat_tests}
 
 -- rows that were given at least twice their width
@@ -52,11 +52,12 @@ moved_more canvas named runs is above lowest many = grind (arith, nat_tests, mov
 pub least_moved-less : (named named' released released' : ℕ) (runs : List Run) → named ≤ named'
     → released ≤ released' → least_moved named' released' runs ≤ least_moved named released runs
 least_moved-less named named' released released' [] wide gone = omega arith
-least_moved-less named named' released released' (newest ∷ runs) wide gone =
-    let fewer : rows_above runs newest.top - released' ≤ rows_above runs newest.top - released =
-    omega (arith, gone) in
-    let rest = least_moved-less named named' released released' runs wide gone in
-    grind (arith, nat_tests, mul-le-mul_right newest.to fewer)
+least_moved-less named named' released released' (newest ∷ runs) wide gone = grind (
+  arith,
+  nat_tests,
+  mul-le-mul_right,
+  least_moved-less named named' released released' runs,
+)
 
 -- memory for `columns` was allocated, and a run up to `right` was drawn
 pub least_held : (old : BandCanvasState) (named right columns moved : ℕ) (runs : List Run)

@@ -1,9 +1,8 @@
 -- Pictures with the same pixels.
-use Rattle.std.proofs.Common.{◌≡◌, ℕ, List}
+use Rattle.std.proofs.Common.{◌≡◌, ℕ, List, arith}
 use Rattle.sixel_base.specs.Picture.{picture}
 use Rattle.sixel_base.proofs.PictureBytes.{joined-same}
 use Rattle.std.proofs.lemmas.Bool.Decides.{nat_tests}
-use Rattle.std.proofs.Common.{arith}
 
 pub picture_same : (p q : ℕ → ℕ → List ℕ) (width height : ℕ) →
     ((column row : ℕ) → p column row ≡ q column row) →

@@ -1,16 +1,14 @@
 -- What the bytes of a row are once those of one pixel more were written to it.
-use Rattle.std.proofs.Common.{◌≡◌, ℕ, ◌+◌, ◌*◌, ◌/◌, ◌%◌, ◌<◌, ◌≤◌, List, length, get_or, refl}
+use Rattle.std.proofs.Common.{◌≡◌, ℕ, ◌+◌, ◌*◌, ◌/◌, ◌%◌, ◌<◌, ◌≤◌, List, length, get_or}
 use Rattle.std.proofs.Common.{inl, inr, arith, [], ◌∷◌, ◌++◌, take}
-use Rattle.std.specs.Prelude.{slice_set}
+use Rattle.std.specs.Prelude.{slice_set, min, nat_lt, if◌then◌else◌}
 use Rattle.sixel_canvas.specs.Layout.{pixel_at}
-use Rattle.std.specs.Prelude.{min, nat_lt, if◌then◌else◌}
 use Rattle.std.proofs.lemmas.Bool.{cases_lt}
 use Rattle.std.proofs.lemmas.List.{get_or_append_left, get_or-append_right}
-use Rattle.sixel_canvas.proofs.RowBytes.{pixel_part}
-use Rattle.std.proofs.lemmas.Grind.{get_or-set_at}
 use Rattle.std.proofs.lemmas.List.{get_or-set_other, length-set}
+use Rattle.sixel_canvas.proofs.RowBytes.{pixel_part}
+use Rattle.std.proofs.lemmas.Grind.{get_or-set_at, common_steps}
 use Rattle.std.proofs.lemmas.Bool.Decides.{nat_tests}
-use Rattle.std.proofs.lemmas.Grind.{common_steps}
 
 -- four bytes are a pixel
 pub pixel_four : (bytes : List ℕ) (i : ℕ) → 4 * i + 4 ≤ length bytes →
@@ -28,22 +26,13 @@ put row at bytes =
 pub put_len : (row : List ℕ) (at : ℕ) (bytes : List ℕ) → length (put row at bytes) ≡ length row
 put_len row at bytes = grind (arith, nat_tests, length-set)
 
-byte_at : (bytes : List ℕ) (f : ℕ → List ℕ) (column i j : ℕ) → bytes ≡ f column → i / 4 ≡ column
-    → i % 4 ≡ j → get_or bytes j 0 ≡ get_or (f (i / 4)) (i % 4) 0
-byte_at bytes f column i j is quotient rest = rw (quotient, rest, is) refl
-
 -- the bytes of one pixel more
 pub put_more : (row bytes : List ℕ) (f : ℕ → List ℕ) (column : ℕ) → 4 * column + 4 ≤ length row
     → bytes ≡ f column → ((i : ℕ) → i < 4 * column → get_or row i 0 ≡ get_or (f (i / 4)) (i % 4) 0)
     → (i : ℕ) → i < 4 * (column + 1)
     → get_or (put row (4 * column) bytes) i 0 ≡ get_or (f (i / 4)) (i % 4) 0
 put_more row bytes f column fits is before i up =
-    grind (arith, nat_tests, get_or-set_at, get_or-set_other, length-set, byte_at)
-
--- bytes after those of the pixel
-pub put_past : (row : List ℕ) (at : ℕ) (bytes : List ℕ) (i : ℕ) → at + 4 ≤ i
-    → get_or (put row at bytes) i 0 ≡ get_or row i 0
-put_past row at bytes i past = grind (arith, nat_tests, get_or-set_other)
+    grind (arith, nat_tests, get_or-set_at, get_or-set_other, length-set)
 
 -- a pixel whose bytes are the same
 pub pixel_kept : (now old : List ℕ) (k : ℕ) → 4 * k + 4 ≤ length now → 4 * k + 4 ≤ length old

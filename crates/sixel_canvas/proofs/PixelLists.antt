@@ -2,9 +2,8 @@
 use Rattle.std.proofs.Common.{◌≡◌, ℕ, zero, suc, ◌+◌, ◌-◌, ◌*◌, ◌≤◌, List, [], ◌∷◌, ◌++◌}
 use Rattle.std.proofs.Common.{length, get_or, take, drop, replicate, refl, ap, ◌∙◌, arith}
 use Rattle.std.proofs.Common.{length-take, length-append, length-drop, sym}
-use Rattle.std.proofs.lemmas.Bool.Decides.{nat_tests}
 use Rattle.std.specs.List.{flat_map}
-use Rattle.sixel_canvas.specs.Row.{IsThrifty, room_for, row_state}
+use Rattle.sixel_canvas.specs.Row.{IsThrifty, row_state}
 use Rattle.sixel_base.specs.Picture.{joined}
 use Rattle.sixel_base.proofs.PictureBytes.{joined-front, length-joined}
 use Rattle.sixel_canvas.specs.inside.Pixels.{pixels_of}
@@ -141,7 +140,3 @@ thrifty_written background old new bytes room writes n same old_long new_long is
     let before = length-pixels_of old n old_long in
     let long = ap length same ∙ new_long in
     let after : length (pixels_of bytes) ≡ n = length-pixels_of bytes n long in grind (arith)
-
--- a row that grew has room for its columns
-pub room_for-enough : (columns room : ℕ) → columns ≤ room_for columns room
-room_for-enough columns room = grind (arith, nat_tests)

@@ -1,7 +1,6 @@
 -- What a canvas shows once rows were released: the bytes of each released row have its pixels.
-use Rattle.std.proofs.Common.{◌≡◌, ℕ, ◌+◌, ◌-◌, ◌*◌, ◌≤◌, List, []}
-use Rattle.std.proofs.Common.{ap, length, drop, get_or, inl, inr}
-use Rattle.std.proofs.Common.{length-take, length-drop, arith}
+use Rattle.std.proofs.Common.{◌≡◌, ℕ, ◌+◌, ◌-◌, ◌*◌, ◌≤◌, List, [], ap, length, drop, get_or, inl}
+use Rattle.std.proofs.Common.{inr, length-take, length-drop, arith}
 use Rattle.std.proofs.Math.Nat.{mul-le-mul_right}
 use Rattle.std.proofs.lemmas.Grind.{common_steps}
 use Rattle.std.specs.Prelude.{min, nat_lt, if◌then◌else◌}
@@ -10,7 +9,7 @@ use Rattle.std.proofs.lemmas.Nat.{row_fits}
 use Rattle.sixel_canvas.specs.Layout.{stored_pixel}
 use Rattle.sixel_canvas.specs.inside.RowsState.{RowsState, AreRows, final}
 use Rattle.sixel_canvas.specs.inside.ReleasedRows.{row_bytes, row_pixel}
-use Rattle.sixel_canvas.proofs.RowBytes.{and_false, pixel_part, products}
+use Rattle.sixel_canvas.proofs.RowBytes.{pixel_part, products}
 use Rattle.std.proofs.lemmas.Bool.Decides.{nat_tests}
 
 -- the bytes from row `n` on, below `free` others
@@ -49,7 +48,7 @@ held_released top released count rows rows' width room room' above is held more 
 pub released_row : (rows : RowsState) → AreRows rows → (column row : ℕ) →
     row_pixel (row_bytes rows row) rows.background column ≡ final rows column row
 released_row rows are column row =
-    grind (arith, nat_tests, length-take, length-drop, row_fits, and_false, pixel_part)
+    grind (arith, nat_tests, length-take, length-drop, row_fits, pixel_part)
 
 -- the rows above the band once some more were released
 pub above_released :

@@ -1,10 +1,8 @@
 -- A band of a canvas of rows that was drawn on: which rows of the canvas are its own.
-use Rattle.std.proofs.Common.{◌≡◌, ℕ, ◌+◌, ◌*◌, ◌/◌, ◌%◌, ◌<◌, List, []}
-use Rattle.std.proofs.Common.{length, get_or, set, ◌∙◌, arith}
+use Rattle.std.proofs.Common.{◌≡◌, ℕ, ◌*◌, ◌/◌, ◌%◌, ◌<◌, List, [], length, get_or, set, ◌∙◌, arith}
 use Rattle.std.specs.Prelude.{if◌then◌else◌}
 use Rattle.sixel_base.specs.Picture.{is_struck}
 use Rattle.sixel_canvas.specs.inside.RowBand.{line_in}
-use Rattle.sixel_canvas.specs.inside.RowCanvas.{RowCanvasState, band_line, row_len}
 use Rattle.sixel_canvas.specs.inside.TaggedRow.{TaggedRowState}
 use Rattle.sixel_canvas.proofs.RowCosts.{band_made}
 use Rattle.std.proofs.lemmas.List.{get_or_default}
@@ -17,11 +15,6 @@ pub band_read : (bands : List (List TaggedRowState)) (band : ℕ) (rows : List T
     → rows ≡ get_or bands band []
 band_read bands band rows some read =
     read ∙ get_or_default bands band rows [] (band_made bands band some)
-
--- a row of the band that is drawn on
-pub band_row : (canvas : RowCanvasState) (k : ℕ) → k < 6
-    → row_len canvas (6 * canvas.band + k) ≡ length (band_line canvas k).row.pixels
-band_row canvas k six = grind (arith, nat_tests)
 
 -- what is seen of each row, once a sixel was drawn on the rows of a band
 pub band_drawn : {X : Type 0} (see : TaggedRowState → X) (stroke : X → X)

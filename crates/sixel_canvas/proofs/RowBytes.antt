@@ -1,5 +1,5 @@
 -- The bytes of rows of pixels: which pixel stands at an index, and the picture that they are.
-use Rattle.std.proofs.Common.{get_or, Bool, false, ◌≡◌, ℕ, zero, suc, ◌+◌, ◌-◌, ◌*◌}
+use Rattle.std.proofs.Common.{get_or, ◌≡◌, ℕ, zero, suc, ◌+◌, ◌-◌, ◌*◌}
 use Rattle.std.proofs.Common.{◌<◌, ◌≤◌, List, [], ◌∷◌, ◌++◌, length, take, drop, refl, sym, ap, ◌∙◌}
 use Rattle.std.proofs.Common.{inl, inr, length-drop, length-take, length-append, take_all, arith}
 use Rattle.std.proofs.Math.Seq.{drop-append-add, take-append_seam}
@@ -203,9 +203,6 @@ row_copied old bytes part new background held width row rows kept least four ins
 
 pub products : (a b n : ℕ) → a ≤ b → b * n ≡ a * n + (b - a) * n
 products a b n le = grind (arith, nat_tests)
-
-pub and_false : (a : Bool) → (a && false) ≡ false
-and_false a = grind (arith, nat_tests)
 
 -- bytes cut to a height, and filled up with background, are the picture of what they show
 pub taken_len : (bytes cut new background : List ℕ) (width height rows : ℕ) →

@@ -1,13 +1,12 @@
 -- What a canvas of rows has cost, against the runs that were drawn on it.
-use Rattle.std.proofs.Common.{◌≡◌, ℕ, zero, suc, ◌+◌, ◌*◌, ◌/◌, ◌%◌, ◌<◌, ◌≤◌, List, []}
-use Rattle.std.proofs.Common.{◌∷◌, All, length, get_or, max, sym, ap, ◌∙◌}
-use Rattle.std.proofs.Common.{arith}
+use Rattle.std.proofs.Common.{◌≡◌, ℕ, zero, suc, ◌+◌, ◌*◌, ◌/◌, ◌%◌, ◌<◌, ◌≤◌, List, [], ◌∷◌, All}
+use Rattle.std.proofs.Common.{length, get_or, max, sym, ap, ◌∙◌, arith}
 use Rattle.std.specs.List.{sum_by}
 use Rattle.std.proofs.lemmas.List.Elements.{All-head, All-nil, All-tail}
 use Rattle.std.proofs.lemmas.List.Sums.{sum_by-cons, sum_by-le}
 use Rattle.std.proofs.lemmas.Bool.{cases_lt}
 use Rattle.sixel_base.specs.Picture.{total}
-use Rattle.sixel_canvas.specs.inside.Drawn.{Run}
+use Rattle.sixel_canvas.specs.Drawn.{Run}
 use Rattle.sixel_canvas.specs.inside.RowBand.{IsRowBand, least, line_in}
 use Rattle.sixel_canvas.specs.inside.RowCanvas.{RowCanvasState, HasCost, IsDrawnBy}
 use Rattle.sixel_canvas.specs.inside.RowCanvas.{IsRowCanvas, row_canvas_work, row_edge, row_len}
@@ -45,9 +44,7 @@ sum_by-times f g n (x ∷ xs) most =
 sum_bands : (f g : TaggedRowState → ℕ) (n : ℕ) (bands : List (List TaggedRowState))
     → All IsRowBand bands → ((line : TaggedRowState) → IsTaggedRow line → f line ≤ n * g line)
     → sum_by (sum_by f) bands ≤ n * sum_by (sum_by g) bands
-sum_bands f g n bands sound each =
-    sum_by-times (sum_by f) (sum_by g) n bands (λ k d l.
-    sum_by-times f g n _ (λ i e m. each _ ((sound k d l).rows i e m)))
+sum_bands f g n bands sound each = grind (arith, nat_tests, sum_by-times)
 
 -- a band has at most six rows
 pub six_rows : (rows : List TaggedRowState) → IsRowBand rows → length rows ≤ 6

@@ -1,8 +1,7 @@
 -- The pixels of a row that was painted or grown: how many, and which.
-use Rattle.std.proofs.Common.{◌≡◌, ℕ, ◌-◌, ◌<◌, ◌≤◌, ◌&&◌, max, List, ◌++◌}
-use Rattle.std.proofs.Common.{length, get_or, replicate}
-use Rattle.std.proofs.Common.{length-append, length-take, length-drop, get_or-take, get_or-drop}
-use Rattle.std.proofs.Common.{arith}
+use Rattle.std.proofs.Common.{◌≡◌, ℕ, ◌-◌, ◌<◌, ◌≤◌, ◌&&◌, max, List, ◌++◌, length, get_or}
+use Rattle.std.proofs.Common.{replicate, length-append, length-take, length-drop, get_or-take}
+use Rattle.std.proofs.Common.{get_or-drop, arith}
 use Rattle.std.specs.Prelude.{nat_lt, nat_le, if◌then◌else◌}
 use Rattle.std.proofs.lemmas.Bool.{lt-leb}
 use Rattle.std.proofs.lemmas.List.{length-replicate, get_or-replicate, get_or-append_right}
@@ -21,18 +20,17 @@ pub painted_pixel : (from to : ℕ) (color : List ℕ) (row : RowState) (column 
     → from ≤ to → to ≤ length row.pixels
     → get_or (painted from to color row).pixels column d
     ≡ (if nat_le from column && nat_lt column to then color else get_or row.pixels column d)
-painted_pixel from to color row column d order held =
-    grind (
-      arith,
-      length-append,
-      length-take,
-      get_or-take,
-      get_or-drop,
-      length-replicate,
-      get_or-replicate,
-      get_or-append_right,
-      get_or_append_left,
-    )
+painted_pixel from to color row column d order held = grind (
+  arith,
+  length-append,
+  length-take,
+  get_or-take,
+  get_or-drop,
+  length-replicate,
+  get_or-replicate,
+  get_or-append_right,
+  get_or_append_left,
+)
 
 -- outside the columns that were painted, and inside
 pub painted_left : (from to : ℕ) (color : List ℕ) (row : RowState) (column : ℕ) (d : List ℕ)
@@ -45,11 +43,6 @@ pub painted_right : (from to : ℕ) (color : List ℕ) (row : RowState) (column 
     → from ≤ to → to ≤ length row.pixels → to ≤ column
     → get_or (painted from to color row).pixels column d ≡ get_or row.pixels column d
 painted_right from to color row column d order held right = grind (arith, nat_tests, painted_pixel)
-
-pub painted_inside : (from to : ℕ) (color : List ℕ) (row : RowState) (column : ℕ) (d : List ℕ)
-    → from ≤ to → to ≤ length row.pixels → from ≤ column → column < to
-    → get_or (painted from to color row).pixels column d ≡ color
-painted_inside from to color row column d order held begun inside = grind (arith, painted_pixel)
 
 -- how many pixels a row has that was grown
 pub grown_length : (columns : ℕ) (row : RowState)

@@ -2,9 +2,9 @@
 use Rattle.std.proofs.Common.{◌≡◌, ℕ, ◌+◌, ◌*◌, ◌<◌, ◌≤◌, max, List, [], ◌∷◌}
 use Rattle.std.proofs.Common.{length, take, length-take, arith}
 use Rattle.sixel_canvas.specs.inside.BandCanvas.{IsPaid}
-use Rattle.sixel_canvas.specs.inside.Drawn.{Run, band_edge, drawn_columns, lowest_top, right_edge}
-use Rattle.sixel_canvas.specs.inside.Drawn.{rows_above, run, runs_cost, runs_paint, with_sixels}
-use Rattle.sixel_canvas.specs.inside.Paints.{counted}
+use Rattle.sixel_canvas.specs.Drawn.{Run, band_edge, drawn_columns, lowest_top, right_edge}
+use Rattle.sixel_canvas.specs.Drawn.{rows_above, run, runs_cost, runs_paint, with_sixels}
+use Rattle.sixel_canvas.specs.Paints.{counted}
 use Rattle.std.proofs.lemmas.Bool.Decides.{nat_tests}
 
 -- what sixels of one column each, drawn after some runs, make of their edges, rows and columns

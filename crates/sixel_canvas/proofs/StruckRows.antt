@@ -1,6 +1,5 @@
 -- Rows that a sixel sets pixels of, from the top: those that were drawn on so far.
-use Rattle.std.proofs.Common.{◌≡◌, ◌≢◌, ℕ, ◌+◌, ◌/◌, ◌%◌, ◌^◌, ◌<◌, Bool, true}
-use Rattle.std.proofs.Common.{◌&&◌, List, arith}
+use Rattle.std.proofs.Common.{◌≡◌, ◌≢◌, ℕ, ◌+◌, ◌/◌, ◌%◌, ◌^◌, ◌<◌, Bool, true, ◌&&◌, List, arith}
 use Rattle.std.specs.Prelude.{nat_lt, if◌then◌else◌}
 use Rattle.sixel_base.specs.Picture.{is_struck}
 use Rattle.std.proofs.lemmas.Bool.Decides.{nat_tests}

@@ -1,23 +1,15 @@
 -- What a row with tags shows once a tag was painted, a run was painted, or its tiles were tagged.
 use Rattle.std.proofs.Common.{◌≡◌, ℕ, ◌+◌, ◌*◌, ◌/◌, ◌%◌, ◌<◌, ◌≤◌, ◌⊎◌, ◌&&◌, min, max, true}
-use Rattle.std.proofs.Common.{false, List, length, get_or, refl, ap, ◌∙◌, arith}
+use Rattle.std.proofs.Common.{false, List, length, get_or, ap, ◌∙◌, arith}
 use Rattle.std.specs.Prelude.{nat_lt, nat_le, if◌then◌else◌}
 use Rattle.std.proofs.lemmas.List.{get_or_past}
 use Rattle.sixel_canvas.specs.Row.{RowState, IsThrifty, painted, reached_to}
 use Rattle.sixel_canvas.specs.inside.TaggedRow.{TaggedRowState, IsTaggedRow, tag_of, tagged_pixel}
 use Rattle.sixel_canvas.specs.inside.TaggedRow.{tagged_row_state}
 use Rattle.sixel_canvas.specs.inside.Tags.{is_tag, no_tag, under}
-use Rattle.sixel_canvas.proofs.RowPixels.{grown_length, grown_pixel, painted_inside, painted_left}
+use Rattle.sixel_canvas.proofs.RowPixels.{grown_length, grown_pixel, painted_left}
 use Rattle.sixel_canvas.proofs.RowPixels.{painted_length, painted_pixel, painted_right}
 use Rattle.std.proofs.lemmas.Bool.Decides.{nat_tests}
-
-pub under_nothing : (tag pixel : List ℕ) → is_tag tag ≡ false → under tag pixel ≡ pixel
-under_nothing tag pixel none = rw none refl
-
--- a tile with a tag has memory for it
-pub tagged_inside : (line : TaggedRowState) (tile : ℕ) → is_tag (tag_of line tile) ≡ true
-    → tile < length line.tags.pixels
-tagged_inside line tile is = grind (arith, nat_tests, get_or_past)
 
 -- a row that was grown shows what it showed
 pub tagged_grown : (columns : ℕ) (line : TaggedRowState) (column : ℕ)
@@ -25,12 +17,6 @@ pub tagged_grown : (columns : ℕ) (line : TaggedRowState) (column : ℕ)
     ≡ tagged_pixel line column
 tagged_grown columns line column =
     ap (under (tag_of line (column / 128))) (grown_pixel columns line.row column)
-
--- so does one that got memory for more tags
-pub tags_grown : (columns : ℕ) (line : TaggedRowState) (tile : ℕ)
-    → line.tags.background ≡ no_tag
-    → tag_of (record line { tags = reached_to columns line.tags }) tile ≡ tag_of line tile
-tags_grown columns line tile clear = grind (arith, nat_tests, grown_pixel)
 
 -- what a row shows that was painted over columns without a tag
 pub painted_untagged :
@@ -40,7 +26,7 @@ pub painted_untagged :
     → tagged_pixel (record line { row = painted from to color line.row }) column
     ≡ (if nat_le from column && nat_lt column to then color else tagged_pixel line column)
 painted_untagged line from to column color order held none =
-    grind (arith, nat_tests, painted_inside, painted_left, painted_right, under_nothing)
+    grind (arith, nat_tests, painted_pixel, painted_left, painted_right)
 
 -- what a row shows whose tiles were tagged, and whose two ends were painted
 pub tagged_tiles :
@@ -105,4 +91,4 @@ pub untagged_row :
     → IsUntagged line (tagged_row_state late tags line.appended) tile from to
 untagged_row line tag early late tags tile from to left right is visible tag_is order left_is
     right_is early_is late_is tags_are late_thrifty tags_thrifty =
-    grind (arith, painted_inside, painted_left, painted_length, painted_right, tagged_inside)
+    grind (arith, painted_pixel, painted_left, painted_length, painted_right, get_or_past)

@@ -1,9 +1,7 @@
 -- Definitions that private contracts cite. A reader of the public contracts can skip them.
 pub mod Band
 pub mod BandCanvas
-pub mod Drawn
 pub mod RowsState
-pub mod Paints
 pub mod Pixels
 pub mod ReleasedRows
 pub mod RowBand

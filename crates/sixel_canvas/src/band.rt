@@ -4,7 +4,7 @@ ghost use Rattle.std.specs.Prelude.{false, nat_le, nat_lt, ◌&&◌, ◌==◌, s
 ghost use Rattle.std.specs.Prelude.{IfOk, if◌then◌else◌};
 ghost use Rattle.sixel_base.specs.Picture.{covers};
 ghost use Rattle.sixel_canvas.specs.inside.Band.{cell, IsBand};
-ghost use Rattle.sixel_canvas.specs.inside.Drawn.{covers_eight};
+ghost use Rattle.sixel_canvas.specs.Drawn.{covers_eight};
 
 use crate::pixel_row::fill;
 use crate::six_rows::{draw_rows, fill_rows, mix_rows, widened};

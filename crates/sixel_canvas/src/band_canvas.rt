@@ -6,9 +6,9 @@ ghost use Rattle.sixel_canvas.specs.inside.Band.{cell};
 ghost use Rattle.sixel_canvas.specs.inside.BandCanvas.{above_band, band_canvas_held};
 ghost use Rattle.sixel_canvas.specs.inside.BandCanvas.{band_canvas_shown};
 ghost use Rattle.sixel_canvas.specs.inside.BandCanvas.{AreMoved, AreStored, HasColumns, IsPaid};
-ghost use Rattle.sixel_canvas.specs.inside.Drawn.{Run};
+ghost use Rattle.sixel_canvas.specs.Drawn.{Run};
 ghost use Rattle.sixel_canvas.specs.inside.RowsState.{final, stored_area};
-ghost use Rattle.sixel_canvas.specs.inside.Paints.{counted};
+ghost use Rattle.sixel_canvas.specs.Paints.{counted};
 ghost use Rattle.sixel_canvas.specs.inside.TaggedBand.{capacity, tagged_cell};
 
 use crate::channels::RowLayout;

@@ -3,8 +3,8 @@ ghost use Rattle.std.specs.Prelude.{◌≡◌, ℕ, ◌+◌, ◌-◌, ◌*◌, �
 ghost use Rattle.std.specs.Prelude.{true, max, take, slice_index_or, IfOk, OnOk, if◌then◌else◌};
 ghost use Rattle.sixel_base.specs.Limits.{area_limit, side_limit};
 ghost use Rattle.sixel_base.specs.Picture.{covers, picture};
-ghost use Rattle.sixel_canvas.specs.inside.Drawn.{Run, run, with_sixels, covers_eight};
-ghost use Rattle.sixel_canvas.specs.inside.Drawn.{Work, no_work};
+ghost use Rattle.sixel_canvas.specs.Drawn.{Run, run, with_sixels, covers_eight};
+ghost use Rattle.sixel_canvas.specs.Drawn.{Work, no_work};
 ghost use Rattle.sixel_canvas.specs.inside.Tags.{is_tag};
 
 use std::alloc::{AllocError, Global};

@@ -6,7 +6,7 @@ ghost use Rattle.sixel_base.specs.Picture.{joined, picture};
 ghost use Rattle.sixel_canvas.specs.Layout.{stored_pixel};
 ghost use Rattle.sixel_canvas.specs.inside.RowsState.{AreMovedWithin, AreRows, AreShrunk, final};
 ghost use Rattle.sixel_canvas.specs.inside.RowsState.{stored_area};
-ghost use Rattle.sixel_canvas.specs.inside.Paints.{counted};
+ghost use Rattle.sixel_canvas.specs.Paints.{counted};
 
 use crate::span::add_pixels;
 use crate::stored_rows::StoredRows;
@@ -98,9 +98,9 @@ impl FinalRows {
 
     /// Allocates memory for `rows` rows of at least `columns` columns.
     ///
-    /// Rows that are too narrow become at least twice as wide, so that they seldom move. Memory that
-    /// is too small grows by half of what the rows need: so they never take more than three times
-    /// the memory of a picture as wide as the columns that were allocated.
+    /// Rows that are too narrow become at least twice as wide, so that they seldom move. Memory
+    /// that is too small grows by half of what the rows need: so they never take more than three
+    /// times the memory of a picture as wide as the columns that were allocated.
     pub fn reserve(&mut self, columns: usize, rows: usize) -> Result<(), AllocError>
         requires narrow { columns ≤ 1000000 }
         requires few { rows ≤ 1000006 }

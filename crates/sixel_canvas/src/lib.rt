@@ -1,5 +1,5 @@
 //! The canvases of a SIXEL decoder: one of rows that grow, and one of a band.
-#![tactic(auto)]
+#![tactic(auto, using(std::proofs::lemmas::Bool::Decides::nat_tests))]
 
 pub mod band;
 pub mod band_canvas;

@@ -4,7 +4,7 @@ ghost use Rattle.std.specs.Prelude.{◌-◌, [], length, true, All, vec_len, vec
 ghost use Rattle.std.specs.Prelude.{slice_index_or, IfOk, IsOk, OnOk, if◌then◌else◌};
 ghost use Rattle.sixel_base.specs.Limits.{area_limit, side_limit};
 ghost use Rattle.sixel_base.specs.Picture.{covers, is_struck, joined, picture};
-ghost use Rattle.sixel_canvas.specs.inside.Paints.{counted, ends_and_tags, least_painted};
+ghost use Rattle.sixel_canvas.specs.Paints.{counted, ends_and_tags, least_painted};
 ghost use Rattle.sixel_canvas.specs.inside.RowBand.{IsRowBand, line_in};
 ghost use Rattle.sixel_canvas.specs.inside.RowCanvas.{AreFewTags, IsDrawnBy, IsRowCanvas};
 ghost use Rattle.sixel_canvas.specs.inside.RowCanvas.{band_line, band_rows, row_canvas_held};

@@ -4,7 +4,7 @@ ghost use Rattle.std.specs.Prelude.{true, false, nat_lt, slice_index_or, IfOk, i
 ghost use Rattle.sixel_base.specs.Picture.{covers, is_set};
 ghost use Rattle.sixel_canvas.specs.inside.Band.{AreDrawn, AreSixRows, covers_four, filled};
 ghost use Rattle.sixel_canvas.specs.inside.Band.{stored};
-ghost use Rattle.sixel_canvas.specs.inside.Drawn.{covers_eight};
+ghost use Rattle.sixel_canvas.specs.Drawn.{covers_eight};
 
 use crate::pixel_row::{fill, fill_by_copy, mix};
 use std::alloc::{AllocError, Global};

@@ -4,9 +4,9 @@ ghost use Rattle.std.specs.Prelude.{true, false, nat_lt, slice_index_or, OnErr, 
 ghost use Rattle.std.specs.Prelude.{if◌then◌else◌};
 ghost use Rattle.sixel_base.specs.Picture.{covers};
 ghost use Rattle.sixel_canvas.specs.inside.Band.{cell};
-ghost use Rattle.sixel_canvas.specs.inside.Drawn.{covers_eight};
-ghost use Rattle.sixel_canvas.specs.inside.Paints.{counted};
-ghost use Rattle.sixel_canvas.specs.inside.TaggedBand.{HasSameRoom, capacity, doubled, least_cost};
+ghost use Rattle.sixel_canvas.specs.Drawn.{covers_eight, least_cost};
+ghost use Rattle.sixel_canvas.specs.Paints.{counted};
+ghost use Rattle.sixel_canvas.specs.inside.TaggedBand.{HasSameRoom, capacity, doubled};
 ghost use Rattle.sixel_canvas.specs.inside.TaggedBand.{most_painted, tagged_cell};
 ghost use Rattle.sixel_canvas.specs.inside.Tags.{is_tag};
 

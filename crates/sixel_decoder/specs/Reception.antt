@@ -13,8 +13,8 @@ use Rattle.sixel_base.specs.OneShot as one_shot
 use Rattle.sixel_base.specs.Settings.{Settings}
 use Rattle.sixel_base.specs.declared.state.DecoderState.{DecoderState}
 use Rattle.sixel_decoder.specs.FinalRows.{stage_final_rows}
-use Rattle.sixel_decoder.specs.Paints.{stage_band_columns, stage_band_room, stage_least_count}
-use Rattle.sixel_decoder.specs.Paints.{stage_least_band_count, stage_least_writes, stage_sixels}
+use Rattle.sixel_decoder.specs.Paints as measures
+use Rattle.sixel_decoder.specs.Paints.{stage_measure, stage_sixels}
 use Rattle.sixel_decoder.specs.Session.{Session, DcsSession, decoder_of}
 
 -- what is received: nothing, a payload that is read with these settings, or a DCS sequence
@@ -108,24 +108,28 @@ abbrev pub sixels : Form → List ℕ → ℕ
 sixels form bytes = stage_sixels (stage_of form bytes)
 
 abbrev pub least_count : Limit → Form → List ℕ → ℕ
-least_count limit form bytes = stage_least_count limit (stage_of form bytes)
+least_count limit form bytes =
+    stage_measure (measures.least_count limit) limit (stage_of form bytes)
 
 abbrev pub least_band_count : Limit → Form → List ℕ → ℕ
-least_band_count limit form bytes = stage_least_band_count limit (stage_of form bytes)
+least_band_count limit form bytes =
+    stage_measure (measures.least_band_count limit) limit (stage_of form bytes)
 
 abbrev pub least_writes : Limit → ℕ → Form → List ℕ → ℕ
-least_writes limit released form bytes = stage_least_writes limit released (stage_of form bytes)
+least_writes limit released form bytes =
+    stage_measure (measures.least_write_count limit released) limit (stage_of form bytes)
 
 abbrev pub painted_area : Limit → Form → List ℕ → ℕ
 painted_area limit form bytes = stage_painted_area limit (stage_of form bytes)
 
 -- the right edges of the bands of its closed sixels, together
 abbrev pub band_columns : Limit → Form → List ℕ → ℕ
-band_columns limit form bytes = stage_band_columns limit (stage_of form bytes)
+band_columns limit form bytes =
+    stage_measure (measures.band_columns limit) limit (stage_of form bytes)
 
 -- for how many pixels a canvas of one band has capacity at most beside the image
 abbrev pub band_room : Limit → Form → List ℕ → ℕ
-band_room limit form bytes = stage_band_room limit (stage_of form bytes)
+band_room limit form bytes = stage_measure (measures.band_room limit) limit (stage_of form bytes)
 
 -- the payload that is drawn
 abbrev pub found : Form → List ℕ → Found

@@ -12,7 +12,7 @@ ghost use Rattle.sixel_base.specs.Clip.{clipped_bits};
 ghost use Rattle.sixel_base.specs.declared.error.SixelError.TheVariants.{OutOfMemory};
 ghost use Rattle.sixel_base.specs.Stroke.{Origin};
 ghost use Rattle.sixel_base.specs.inside.Parameters.{Keeps};
-ghost use Rattle.sixel_canvas.specs.inside.Drawn.{no_work};
+ghost use Rattle.sixel_canvas.specs.Drawn.{no_work};
 ghost use Rattle.sixel_canvas.specs.inside.Tags.{is_tag};
 ghost use Rattle.sixel_decoder.specs.inside.Ready.{IsReady};
 ghost use Rattle.sixel_decoder.specs.inside.Sizes.{IsTooLarge};
@@ -76,7 +76,7 @@ pub struct Painter<C: Canvas + Drop> {
 
 impl<C: Canvas + Drop> Painter<C> {
     ghost use Rattle.sixel_decoder.specs.inside.Painter.{Shows, Draws, Ends};
-    ghost use Rattle.sixel_decoder.specs.inside.Painter.{IsDrawnInside, IsExtended, FitsColumn};
+    ghost use Rattle.sixel_decoder.specs.inside.Painter.{IsDrawnInside, IsExtended};
 
     /// Creates a painter that has drawn nothing.
     pub fn new(alloc: Global, decoder: DecoderState, settings: DcsSettings) -> Painter<C>
@@ -232,7 +232,8 @@ impl<C: Canvas + Drop> Painter<C> {
     pub fn select(&mut self, parameters: &Parameters)
         ensures shows { (o : Origin) (h : History) (text : List ℕ) → Keeps parameters.now text
             → Shows o self.old h → Shows o self.new (Color text ∷ h) }
-        ensures fits { FitsColumn self.old → FitsColumn self.new }
+        ensures ready { self.new.ready ≡ self.old.ready }
+        ensures column { self.new.column ≡ self.old.column }
         ensures released { C.released self.new.canvas ≡ C.released self.old.canvas }
     {
         let register = parameters.get(0).min(255) as u8;
@@ -246,7 +247,8 @@ impl<C: Canvas + Drop> Painter<C> {
         requires few { parameters.now.count < 5 }
         ensures shows { (o : Origin) (h : History) (text : List ℕ) → Keeps parameters.now text
             → Shows o self.old h → Shows o self.new (Color text ∷ h) }
-        ensures fits { FitsColumn self.old → FitsColumn self.new }
+        ensures ready { self.new.ready ≡ self.old.ready }
+        ensures column { self.new.column ≡ self.old.column }
         ensures released { C.released self.new.canvas ≡ C.released self.old.canvas }
     {
         let register = parameters.get(0).min(255) as u8;

@@ -6,7 +6,7 @@
 ghost use Rattle.std.specs.Prelude.{◌≡◌, ◌<◌, ◌≤◌, ◌+◌, ◌∷◌, ℕ, true, false, []};
 ghost use Rattle.std.specs.Prelude.{length, max, min, slice_index, fold, take, IfOk};
 ghost use Rattle.std.specs.Prelude.{IsTrue, OnOk, ◌⊎◌, Bool, if◌then◌else◌};
-ghost use Rattle.sixel_canvas.specs.inside.Drawn.{no_work};
+ghost use Rattle.sixel_canvas.specs.Drawn.{no_work};
 ghost use Rattle.sixel_base.specs.Bytes.{is_sixel as sixel};
 ghost use Rattle.sixel_base.specs.History.{History, begun, goes_on, read};
 ghost use Rattle.sixel_base.specs.Decoder.{origin_of};
@@ -65,7 +65,7 @@ pub struct PayloadParser<C: Canvas + Drop> {
 }
 
 impl<C: Canvas + Drop> PayloadParser<C> {
-    ghost use Rattle.sixel_decoder.specs.inside.Painter.{Ends, FitsColumn};
+    ghost use Rattle.sixel_decoder.specs.inside.Painter.{Ends};
     ghost use Rattle.sixel_decoder.specs.inside.PayloadParser.{Stands, Reads, Reaches, Feeds};
     ghost use Rattle.sixel_decoder.specs.inside.PayloadParser.{StandsAfter};
     ghost use Rattle.sixel_decoder.specs.inside.Lenient.{Tolerates, HasDrawn};
@@ -166,7 +166,7 @@ impl<C: Canvas + Drop> PayloadParser<C> {
         ensures released { C.released self.new.painter.canvas
             ≡ C.released self.old.painter.canvas }
     {
-        if !self.painter.fits_column() || !self.try_close() {
+        if self.painter.column >= self.painter.ready || !self.try_close() {
             return false;
         }
         self.painter.draw_column(byte - 0x3f);
@@ -181,7 +181,8 @@ impl<C: Canvas + Drop> PayloadParser<C> {
         ensures ground { IsTrue result → self.new.command ≡ Ground }
         ensures shows { IsTrue result → (o : Origin) (h : History) → Stands o self.old h
             → HasDrawn o self.new.painter self.new.ignored h }
-        ensures fits { FitsColumn self.old.painter → FitsColumn self.new.painter }
+        ensures ready { self.new.painter.ready ≡ self.old.painter.ready }
+        ensures column { self.new.painter.column ≡ self.old.painter.column }
         ensures left { result ≡ false → self.new ≡ self.old }
         ensures released { C.released self.new.painter.canvas
             ≡ C.released self.old.painter.canvas }

@@ -3,9 +3,9 @@
 -- the band changes any more is DEC's manual's: a graphics new line goes down, and nothing goes up.
 use Rattle.std.specs.Prelude.{◌≡◌, ℕ, ◌+◌, ◌-◌, ◌*◌, ◌<◌, ◌≤◌, List, nat_lt, if◌then◌else◌}
 use Rattle.std.specs.Prelude.{length, max}
-use Rattle.sixel_canvas.specs.inside.Drawn.{Run, band_edge, drawn_columns, least_moved, lowest_top}
-use Rattle.sixel_canvas.specs.inside.Drawn.{right_edge, rows_above, runs_cost, runs_paint}
-use Rattle.sixel_canvas.specs.inside.Paints.{counted}
+use Rattle.sixel_canvas.specs.Drawn.{Run, band_edge, drawn_columns, least_moved, lowest_top}
+use Rattle.sixel_canvas.specs.Drawn.{right_edge, rows_above, runs_cost, runs_paint}
+use Rattle.sixel_canvas.specs.Paints.{counted}
 use Rattle.sixel_canvas.specs.inside.TaggedBand.{TaggedState, capacity, tagged_cell}
 use Rattle.sixel_canvas.specs.inside.RowsState.{RowsState, final, stored_area}
 use Rattle.sixel_canvas.specs.inside.ReleasedRows.{released_pixel}

@@ -2,12 +2,12 @@
 -- were copied or filled to grow its rows, their capacity, and pixels that were painted. The rules
 -- are this library's own: a row has pixels only up to the last column that was drawn on, and a band
 -- without a set pixel has no rows.
-use Rattle.std.specs.Prelude.{◌≡◌, ℕ, ◌+◌, ◌-◌, ◌*◌, ◌/◌, ◌%◌, ◌^◌, ◌<◌, ◌≤◌, max, nat_lt}
+use Rattle.std.specs.Prelude.{◌≡◌, ℕ, ◌+◌, ◌-◌, ◌*◌, ◌/◌, ◌%◌, ◌^◌, ◌<◌, ◌≤◌, max}
 use Rattle.std.specs.Prelude.{if◌then◌else◌, List, [], ◌∷◌, All, length, slice_index_or, sum_by}
 use Rattle.sixel_base.specs.Limits.{side_limit}
 use Rattle.sixel_base.specs.Picture.{is_struck, total}
-use Rattle.sixel_canvas.specs.inside.Drawn.{Run, Work}
-use Rattle.sixel_canvas.specs.inside.Paints.{counted, ends_and_tags, least_painted}
+use Rattle.sixel_canvas.specs.Drawn.{Run, Work, runs_least}
+use Rattle.sixel_canvas.specs.Paints.{counted, ends_and_tags}
 use Rattle.sixel_canvas.specs.inside.RowBand.{IsRowBand, least, line_in}
 use Rattle.sixel_canvas.specs.inside.TaggedRow.{TaggedRowState, tagged_pixel}
 
@@ -71,12 +71,6 @@ row_edge [] row = 0
 row_edge (newest ∷ runs) row =
     if is_struck newest.top newest.bits row then max (row_edge runs row) newest.to
     else row_edge runs row
-
--- what these runs are counted as at least, where one without a set pixel counts nothing
-abbrev pub runs_least : List Run → ℕ
-runs_least [] = 0
-runs_least (newest ∷ runs) =
-    runs_least runs + (if nat_lt 0 newest.bits then least_painted (newest.to - newest.from) else 0)
 
 -- what these runs are counted as at most, beside three times the pixels of the rows: of each a tag
 -- for each whole 128 columns and two ends, in six rows

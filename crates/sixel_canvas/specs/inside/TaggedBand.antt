@@ -1,7 +1,7 @@
 -- What a band shows some of whose tiles are tagged: a tag is the color of a tile of 128 columns
 -- of a row, over what is stored there. The rule is this library's own: a wide run over columns that
 -- were drawn on tags the tiles that it covers whole.
-use Rattle.std.specs.Prelude.{◌≡◌, ℕ, ◌+◌, ◌-◌, ◌*◌, ◌/◌, ◌≤◌, List, min, nat_lt, if◌then◌else◌}
+use Rattle.std.specs.Prelude.{◌≡◌, ℕ, ◌+◌, ◌-◌, ◌*◌, ◌/◌, ◌≤◌, List, min}
 use Rattle.sixel_canvas.specs.inside.Band.{BandState, IsBand, cell}
 use Rattle.sixel_canvas.specs.inside.Tags.{no_tag, under}
 
@@ -47,7 +47,3 @@ pub record HasSameRoom (old new : TaggedState) : Type 0 where
 -- per tile, two ends, and what is painted of tagged tiles that it covers in part
 abbrev pub most_painted : ℕ → ℕ
 most_painted columns = columns / 128 + 640
-
--- what a run over `columns` paints at least: each column, or a tag for each whole 128 columns
-abbrev pub least_cost : ℕ → ℕ
-least_cost columns = if nat_lt columns 256 then columns else columns / 128

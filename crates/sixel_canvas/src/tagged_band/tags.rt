@@ -3,7 +3,7 @@ ghost use Rattle.std.specs.Prelude.{◌≡◌, ℕ, ◌+◌, ◌-◌, ◌*◌, �
 ghost use Rattle.std.specs.Prelude.{max, min, true, false, nat_le, nat_lt, ◌&&◌, if◌then◌else◌};
 ghost use Rattle.sixel_base.specs.Picture.{covers};
 ghost use Rattle.sixel_canvas.specs.inside.Band.{cell, IsBand};
-ghost use Rattle.sixel_canvas.specs.inside.Paints.{counted};
+ghost use Rattle.sixel_canvas.specs.Paints.{counted};
 ghost use Rattle.sixel_canvas.specs.inside.TaggedBand.{HasSameRoom, tagged_cell};
 ghost use Rattle.sixel_canvas.specs.inside.Tags.{is_tag, no_tag, under};
 

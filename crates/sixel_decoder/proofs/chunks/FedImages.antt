@@ -2,7 +2,7 @@
 -- end has come it takes no byte, and its error is that of all bytes.
 use Rattle.std.proofs.lemmas.Bool.Decides.{nat_tests}
 use Rattle.std.proofs.Common.{◌≡◌, ℕ, ◌+◌, ◌≤◌, true, false, List, ◌++◌, ap, sym, ◌∙◌, arith}
-use Rattle.std.proofs.Common.{subst, refl, append-nil, Option, Some, None, Result, Ok, Err, length}
+use Rattle.std.proofs.Common.{refl, append-nil, Option, Some, None, Result, Ok, Err, length}
 use Rattle.std.specs.Prelude.{nat_lt, is_some, MatchResult}
 use Rattle.sixel_base.specs.declared.error.SixelError.{SixelError}
 use Rattle.sixel_base.specs.Bytes.{first_terminator}
@@ -26,8 +26,7 @@ use Rattle.sixel_decoder.proofs.images.Finality.{dcs_count_ended, dcs_fault_ende
 use Rattle.sixel_decoder.proofs.images.Finality.{dcs_growths_ended}
 use Rattle.sixel_decoder.proofs.chunks.PayloadFaults.{payload_refused}
 use Rattle.sixel_decoder.proofs.chunks.Sessions.{MatchBool-from_each, dcs_count-most, frame_refused}
-use Rattle.sixel_decoder.proofs.chunks.Sessions.{never_refused, no_growth, same_string}
-use Rattle.sixel_decoder.proofs.chunks.Sessions.{string_refused}
+use Rattle.sixel_decoder.proofs.chunks.Sessions.{never_refused, same_string, string_refused}
 
 -- ---- after the end
 
@@ -84,7 +83,7 @@ over_by : (limit : Limit) (form : Form) (bytes chunk : List ℕ) (result : Resul
     → result ≡ Ok (record { consumed = 0; status = status form bytes })
 over_by limit form bytes chunk (Ok fed) sound is over = grind (arith, nat_tests, ended)
 over_by limit form bytes chunk (Err e) sound is over =
-    grind (arith, nat_tests, ended, never_refused, no_growth)
+    grind (arith, nat_tests, ended, never_refused)
 
 not_err : (fed : Received) (e : SixelError) → Ok fed ≡ Err e → ⊥
 not_err fed e is = cc
@@ -121,7 +120,7 @@ image_fed old new chunk fed was now form start released bytes sound is =
 same_error : (result : Result Received SixelError) (e told : SixelError) → result ≡ Err e
     → result ≡ Err told → e ≡ told
 same_error result e told first second =
-    let one : Err e ≡ Err told = sym first ∙ second in cc
+    cc
 
 -- the error of a payload is that of decoding all bytes in one call
 payload_told : (limit : Limit) (form : Form) (settings : Settings) (e told : SixelError)
@@ -137,9 +136,7 @@ string_told : (limit : Limit) (form : Form) (e told : SixelError) (fed left : Li
     → form ≡ OfString → e ≡ told
     → Faults e (nat_lt n (growths form fed)) (fault limit form fed)
     → Faults told (nat_lt 0 (dcs_growths (fed ++ left))) (dcs_fault limit (fed ++ left))
-string_told limit form e told fed left n is same refused =
-    subst (λ w. Faults w (nat_lt 0 (dcs_growths (fed ++ left))) (dcs_fault limit (fed ++ left)))
-    same (string_refused e limit fed left (fed ++ left) n refl (rw is at refused))
+string_told limit form e told fed left n is same refused = grind (arith, nat_tests, string_refused)
 
 pub image_rejected : (old new : Reception) (chunk : List ℕ) (e : SixelError)
     → new.is_refused ≡ true → new.form ≡ old.form → new.start ≡ old.start

@@ -85,7 +85,6 @@ pub open_follows : (C : Type 0) (old new : Session) (decoder : DecoderState)
     (states.Payload new) decoder ended before chunk
 open_follows C old new decoder ended before chunk fed is now waits =
     let bytes : new.bytes ≡ old.bytes ++ chunk = now.fed.bytes refl in
-    let told = now.fed.status in
     let stands : fed.status ≡ status_of (first_terminator new.bytes) = cc in
     let none : first_terminator (old.bytes ++ chunk) ≡ None =
     ap first_terminator (sym bytes)

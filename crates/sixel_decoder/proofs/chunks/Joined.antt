@@ -21,7 +21,6 @@ use Rattle.sixel_decoder.specs.declared.payload_parser.OpenCommand.TheVariants.{
 use Rattle.sixel_decoder.specs.inside.Lenient.{HasDrawn}
 use Rattle.sixel_base.specs.Status.{status_of}
 use Rattle.sixel_decoder.specs.inside.PayloadParser.{StandsIn, StandsAfter, Feeds, after}
-use Rattle.sixel_decoder.specs.inside.PayloadParser.{settled_after}
 use Rattle.sixel_decoder.specs.inside.PayloadReader.{HasRead, GoesOn}
 use Rattle.std.proofs.lemmas.Bool.Decides.{nat_tests}
 
@@ -48,11 +47,6 @@ first_terminator-append (byte ∷ bytes) piece none =
 pub carrying-append : (xs ys : List ℕ) → carrying (xs ++ ys) ≡ carrying xs ++ carrying ys
 carrying-append [] ys = refl
 carrying-append (byte ∷ xs) ys = grind (arith, nat_tests, carrying-append xs ys)
-
-pub front-append : (bytes piece : List ℕ) → first_terminator bytes ≡ None
-    → front (bytes ++ piece) ≡ front bytes ++ front piece
-front-append bytes piece none =
-    grind (arith, nat_tests, before_terminator-append, carrying-append, before_terminator-whole)
 
 pub count-append : (bytes piece : List ℕ) → first_terminator bytes ≡ None
     → count (bytes ++ piece) ≡ count bytes + count piece
@@ -104,35 +98,48 @@ shown_after false o parser h is = stands_shown parser.command o parser h is
 
 after_whole : (before piece : List ℕ) → first_terminator before ≡ None
     → after (history_of (front before)) piece ≡ history_of (front (before ++ piece))
-after_whole before piece none = grind (arith, nat_tests, fold-append, front-append)
+after_whole before piece none = grind (
+  arith,
+  nat_tests,
+  fold-append,
+  before_terminator-append,
+  carrying-append,
+  before_terminator-whole,
+)
 
 pub settled_open : (before : List ℕ) → first_terminator before ≡ None
     → settled before ≡ closed (history_of (front before))
 settled_open before none = grind (arith, nat_tests)
-
-pub settled_whole : (before piece : List ℕ) → first_terminator before ≡ None
-    → settled_after (history_of (front before)) piece ≡ settled (before ++ piece)
-settled_whole before piece none = grind (arith, nat_tests, after_whole, first_terminator-append)
 
 -- what a parser read of a chunk, it read after the bytes before
 pub feeds_goes_on : {C : Type 0} {canvas : Ghosts C} (result : Result SixelFeedResult SixelError)
     (o : Origin)
     (parser : PayloadParser C canvas) (before piece : List ℕ) → first_terminator before ≡ None
     → Feeds result o parser (history_of (front before)) piece → GoesOn result o parser before piece
-feeds_goes_on (Ok fed) o parser before piece none fed_to =
-    grind (
-      arith,
-      first_terminator-append,
-      after_whole,
-      fed_to.2,
-      fed_to.0,
-      count-append,
-      fed_to.1,
-      effective-fault,
-      shown_after,
-    )
-feeds_goes_on (Err e) o parser before piece none refused =
-    grind (arith, nat_tests, settled_open, settled_whole)
+feeds_goes_on (Ok fed) o parser before piece none fed_to = grind (
+  arith,
+  first_terminator-append,
+  fold-append,
+  before_terminator-append,
+  carrying-append,
+  before_terminator-whole,
+  fed_to.2,
+  fed_to.0,
+  count-append,
+  fed_to.1,
+  effective-fault,
+  shown_after,
+)
+feeds_goes_on (Err e) o parser before piece none refused = grind (
+  arith,
+  nat_tests,
+  settled_open,
+  fold-append,
+  before_terminator-append,
+  carrying-append,
+  before_terminator-whole,
+  first_terminator-append,
+)
 
 -- once a payload has ended, its bytes stay what they are
 pub ended_goes_on : {C : Type 0} {canvas : Ghosts C} (o : Origin)

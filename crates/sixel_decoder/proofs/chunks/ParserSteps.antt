@@ -1,5 +1,5 @@
 -- How a parser goes on from one history to the next.
-use Rattle.std.proofs.Common.{◌≡◌, ℕ, ◌≤◌, Bool, true, false, List, [], ◌∷◌, ◌++◌, arith, Option}
+use Rattle.std.proofs.Common.{◌≡◌, ℕ, Bool, true, false, List, [], ◌∷◌, ◌++◌, arith, Option}
 use Rattle.std.proofs.Common.{Some}
 use Rattle.std.specs.Prelude.{IsTrue, nat_lt}
 use Rattle.sixel_base.specs.declared.error.SixelError.{SixelError}
@@ -26,9 +26,6 @@ Faults-along e may may' found found' wants stays is = grind (arith, nat_tests)
 pub fault_stays : (limit : Limit) (token : Token) (h : History) (f : Fault)
     → fault limit h ≡ Some f → fault limit (closed (token ∷ h)) ≡ Some f
 fault_stays limit token h f = grind (arith, nat_tests)
-
-pub growths-closed : (h : History) → growths (closed h) ≤ growths h
-growths-closed h = grind (arith, nat_tests)
 
 pub stands_goes_on : {C : Type 0} {canvas : Ghosts C} (command : OpenCommand) (o : Origin)
     (h : History) (parser : PayloadParser C canvas) (ps : Parameters) (byte : ℕ)

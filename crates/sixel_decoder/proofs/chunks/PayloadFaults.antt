@@ -20,9 +20,6 @@ use Rattle.std.proofs.lemmas.Bool.Decides.{nat_tests}
 pub or_right : (a b : Bool) → IsTrue b → IsTrue (a || b)
 or_right a b is = grind (arith, nat_tests)
 
-or_left : (a b : Bool) → IsTrue a → IsTrue (a || b)
-or_left a b is = grind (arith, nat_tests)
-
 pub payload_refused : (e : SixelError) (limit : Limit) (bytes : List ℕ)
     → Faults e (nat_lt 0 (growths (settled bytes))) (fault limit (settled bytes))
     → Faults e (payload_wants limit bytes) (payload_fault limit bytes)
@@ -32,6 +29,4 @@ payload_refused e limit bytes refused = grind (arith, nat_tests)
 pub payload_ends : (result : Result DecodedPayload SixelError) (o : Origin) (bytes : List ℕ)
     → Ends result o (effective o.pixel_limit (history_of (front bytes)))
     (payload_ignored o.pixel_limit bytes) → Decodes result o bytes
-payload_ends result o bytes is =
-    let same = effective-fault o.pixel_limit (history_of (front bytes)) in
-    grind (arith, nat_tests, same, Faults-along, or_left)
+payload_ends result o bytes is = grind (arith, nat_tests, effective-fault, Faults-along)

@@ -24,7 +24,7 @@ use Rattle.sixel_decoder.specs.inside.PayloadParser.{Reaches, Stands, StandsAfte
 use Rattle.sixel_decoder.specs.inside.PayloadParser.{settled_after}
 use Rattle.sixel_decoder.specs.inside.Lenient.{HasDrawn}
 use Rattle.sixel_decoder.specs.inside.Runs.{IsPrintable}
-use Rattle.sixel_decoder.proofs.chunks.ParserSteps.{Faults-along, growths-closed}
+use Rattle.sixel_decoder.proofs.chunks.ParserSteps.{Faults-along}
 use Rattle.sixel_decoder.proofs.chunks.Reads.{whole_fault, fold_fault, growths-read, growths-fold}
 
 -- ---- how far a parser has come
@@ -33,14 +33,6 @@ use Rattle.sixel_decoder.proofs.chunks.Reads.{whole_fault, fold_fault, growths-r
 pub splits_at : (piece : List ℕ) (index : ℕ) → index < length piece
     → drop index piece ≡ get_or piece index 0 ∷ drop (index + 1) piece
 splits_at piece index h = rw (add-one, drop-cons piece index 0) refl
-
-pub front-carried : (byte : ℕ) (rest : List ℕ) → is_terminator byte ≡ false
-    → is_ignored byte ≡ false → front (byte ∷ rest) ≡ byte ∷ front rest
-front-carried byte rest ends is = rw (ends, is) refl
-
-first_terminator-cons : (byte : ℕ) (rest : List ℕ) → is_terminator byte ≡ false
-    → first_terminator (byte ∷ rest) ≡ first_terminator rest
-first_terminator-cons byte rest ends = rw ends refl
 
 count-cons : (byte : ℕ) (rest : List ℕ) → is_terminator byte ≡ false
     → count (byte ∷ rest) ≡ count rest + 1
@@ -58,7 +50,7 @@ pub reaches_pushed : {C : Type 0} {canvas : Ghosts C} (o : Origin)
     → is_ignored byte ≡ false → (r : Reaches o parser h index piece)
     → Stands o parser' (read r.now byte) → Reaches o parser' h (index + 1) piece
 reaches_pushed o parser parser' h index piece byte splits ends is r stands =
-    grind (arith, nat_tests, front-carried, first_terminator-cons, count-cons, growths-read)
+    grind (arith, nat_tests, count-cons, growths-read)
 
 -- a printable byte is neither a terminator nor ignored
 carried : (byte : ℕ) → IsPrintable byte → (is_terminator byte ≡ false) × (is_ignored byte ≡ false)
@@ -85,7 +77,7 @@ printable_run (suc n) [] are le = absurd (omega arith)
 printable_run (suc n) (byte ∷ bytes) are le =
     let here = carried byte (are 0 (omega arith)) in
     let rest = printable_run n bytes (λ k lt. are (suc k) (omega arith)) (omega arith) in
-    grind (arith, nat_tests, front-carried, first_terminator-cons, count-cons)
+    grind (arith, nat_tests, count-cons)
 
 -- the parser once bytes at the front of what is ahead were read
 pub reaches_read : {C : Type 0} {canvas : Ghosts C} (o : Origin)
@@ -171,7 +163,6 @@ refused_settled : (e : SixelError) (limit : Limit) (h now next : History) (rest 
 refused_settled e limit h now next rest piece whole grown refused =
     let last : History = after h piece in
     let more = rw whole at (growths-fold next rest) in
-    let settled = growths-closed last in
     Faults-along e _ _ (fault limit (closed next)) (fault limit (settled_after h piece))
     (λ may. grind (arith, nat_tests))
     (λ f is. grind (arith, nat_tests, fold_fault limit next rest f is, whole_fault limit last f))
@@ -187,7 +178,7 @@ pub feeds_refused : {C : Type 0} {canvas : Ghosts C} (e : SixelError) (o : Origi
     → Faults e (nat_lt (growths (closed h)) (growths (settled_after h piece)))
     (fault o.pixel_limit (settled_after h piece))
 feeds_refused e o parser h index piece byte splits ends is r refused =
-    grind (arith, nat_tests, front-carried, refused_settled)
+    grind (arith, nat_tests, refused_settled)
 
 -- and where the byte is printable
 pub feeds_refused_printable : {C : Type 0} {canvas : Ghosts C} (e : SixelError) (o : Origin)

@@ -51,9 +51,6 @@ never_refused NoSixelData may not is = is
 never_refused IntegerOverflow may not is = is
 never_refused OutOfMemory may not is = false≢true (sym not ∙ is)
 
-pub no_growth : (a b : ℕ) → b ≡ a → nat_lt a b ≡ false
-no_growth a b same = grind (arith, nat_tests)
-
 -- what holds at either answer of a test
 pub MatchBool-from_each : (test : Bool) (P Q : Type 0) → (test ≡ true → P) → (test ≡ false → Q)
     → MatchBool test P Q
@@ -96,15 +93,10 @@ pub followed_sound : {C : Type 0}
     (bytes : List ℕ)
     → HasFollowed state decoder ended bytes
     → is_failed state ≡ false → dcs_fault decoder.pixel_limit bytes ≡ None
-followed_sound {C} states.Start decoder ended bytes is accepted =
-    ap (stage_fault decoder.pixel_limit)
-    (heading {C = C} states.Start decoder ended bytes refl is).0
-followed_sound {C} states.Escape decoder ended bytes is accepted =
-    ap (stage_fault decoder.pixel_limit)
-    (heading {C = C} states.Escape decoder ended bytes refl is).0
+followed_sound {C} states.Start decoder ended bytes is accepted = grind (arith, nat_tests, heading)
+followed_sound {C} states.Escape decoder ended bytes is accepted = grind (arith, nat_tests, heading)
 followed_sound {C} (states.Header header) decoder ended bytes is accepted =
-    ap (stage_fault decoder.pixel_limit)
-    (heading {C = C} (states.Header header) decoder ended bytes refl is).0
+    grind (arith, nat_tests, heading)
 followed_sound {C} (states.Payload reader) decoder ended bytes is accepted =
     ap (stage_fault decoder.pixel_limit) is.reading ∙ is.faultless
 followed_sound {C} states.Failed decoder ended bytes is accepted = absurd cc
@@ -162,8 +154,7 @@ count_most_by : (bytes piece : List ℕ) (w : Stage) (ended : Bool) → stage by
     → dcs_count (bytes ++ piece) ≤ dcs_count bytes + length piece
 count_most_by bytes piece w true is over = omega (arith, dcs_count_ended bytes piece over)
 count_most_by bytes piece Heading false is not =
-    omega
-    (arith, ap (stage_count bytes) is, dcs_count-fits (bytes ++ piece), length-append bytes piece)
+    grind (arith, nat_tests, dcs_count-fits, length-append)
 count_most_by bytes piece (Failing f) false is not =
     omega (arith, ap (stage_count (bytes ++ piece)) (failing_stays bytes piece f is))
 count_most_by bytes piece (Reading s payload) false is not =

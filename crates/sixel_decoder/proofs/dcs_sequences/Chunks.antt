@@ -29,7 +29,7 @@ use Rattle.sixel_decoder.specs.inside.DcsParser.{IsStageFault, GoesTo, Follows}
 use Rattle.sixel_decoder.proofs.chunks.ParserSteps.{Faults-along}
 use Rattle.sixel_decoder.proofs.chunks.Joined.{before_terminator-whole}
 use Rattle.sixel_decoder.proofs.dcs_sequences.Terminators.{stage_reading}
-use Rattle.sixel_decoder.proofs.dcs_sequences.Ends.{none_by, count_open}
+use Rattle.sixel_decoder.proofs.dcs_sequences.Ends.{count_open}
 
 -- ---- in a payload
 
@@ -176,11 +176,7 @@ reading_fits bytes (Entered rest) s payload e is =
 pub all_counted : (reader : Session) (decoder : DecoderState) (bytes : List ℕ)
     → IsInPayload reader decoder None bytes → dcs_count bytes ≡ length bytes
 all_counted reader decoder bytes is =
-    grind (arith, nat_tests, none_by, reading_fits, count_open, before_terminator-whole)
-
-cut_joins : (before piece : List ℕ) (start : ℕ)
-    → (before ++ take start piece) ++ drop start piece ≡ before ++ piece
-cut_joins before piece start = grind (arith, nat_tests, append_assoc, take-append-drop)
+    grind (arith, nat_tests, reading_fits, count_open, before_terminator-whole)
 
 pub entered_follows : {C : Type 0} (state : DcsState C) (decoder : DecoderState)
     (ended : Option SixelDcsFeedStatus) (before piece : List ℕ) (start consumed : ℕ)
@@ -192,7 +188,7 @@ pub entered_follows : {C : Type 0} (state : DcsState C) (decoder : DecoderState)
     → Follows (Ok (record { consumed = start + consumed; status = status })) state decoder ended
     before piece
 entered_follows state decoder ended before piece start consumed status within from counted follows =
-    grind (arith, nat_tests, cut_joins, length-append, length-take-le)
+    grind (arith, nat_tests, append_assoc, take-append-drop, length-append, length-take-le)
 
 grows : (a b n : ℕ) → a ≡ 0 → IsTrue (nat_lt b n) → IsTrue (nat_lt a n)
 grows a b n none may = grind (arith, nat_tests)
@@ -205,4 +201,4 @@ pub entered_refuses : (e : SixelError) (limit : Limit) (before piece : List ℕ)
     → Faults e (nat_lt (dcs_growths before) (dcs_growths (before ++ piece)))
     (dcs_fault limit (before ++ piece))
 entered_refuses e limit before piece start from refused =
-    grind (arith, nat_tests, cut_joins, Faults-along, grows)
+    grind (arith, nat_tests, append_assoc, take-append-drop, Faults-along, grows)

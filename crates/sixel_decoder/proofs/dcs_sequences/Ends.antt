@@ -30,9 +30,6 @@ count-most (byte ∷ bytes) piece = grind (arith, nat_tests, count-most bytes pi
 
 -- ---- how a payload has ended, by its first terminator
 
-pub none_by : (o : Option ℕ) (rest : List ℕ) → ended_by o rest ≡ None → o ≡ None
-none_by o rest is = grind (arith, nat_tests)
-
 pub some_by : (o : Option ℕ) (rest : List ℕ) (status : SixelDcsFeedStatus)
     → ended_by o rest ≡ Some status → (t : ℕ) × (o ≡ Some t) × (end_status t rest ≡ status)
 some_by o rest status is = grind (arith, nat_tests)
@@ -65,17 +62,13 @@ terminator_same a b same = grind (arith, nat_tests)
 
 -- ---- how it goes on
 
--- no terminator came
-open_before : (payload piece : List ℕ) (o : Option ℕ) → first_terminator payload ≡ o
-    → first_terminator (payload ++ piece) ≡ None → first_terminator payload ≡ None
-open_before payload piece o is none = grind (arith, nat_tests, first_terminator-ended)
-
 pub goes_open : (payload piece : List ℕ) (consumed : ℕ) (ended : Option SixelDcsFeedStatus)
     → ended ≡ ended_with payload → first_terminator (payload ++ piece) ≡ None
     → count payload + consumed ≡ count (payload ++ piece)
     → GoesTo payload (payload ++ piece) (record { consumed = consumed; status = NeedMoreData })
     × (ended ≡ ended_with (payload ++ piece))
-goes_open payload piece consumed ended is none counted = grind (arith, open_before, count_open)
+goes_open payload piece consumed ended is none counted =
+    grind (arith, first_terminator-ended, count_open)
 
 -- the terminator comes in the chunk, and the bytes after it are these
 pub goes_to_end :
@@ -90,7 +83,6 @@ goes_to_end payload piece rest t start consumed more status ended first counted 
     stands = grind (
       arith,
       nat_tests,
-      none_by,
       first_terminator-append,
       count-append,
       drop-count,

@@ -11,9 +11,8 @@ use Rattle.sixel_base.specs.inside.Parameters.{Parameters, Keeps}
 use Rattle.sixel_base.specs.Header.{Open, Begun, headed, is_header}
 use Rattle.sixel_base.specs.Header.{header_rest, header_text, command_fault}
 use Rattle.sixel_decoder.specs.inside.Header.{IsHeaderFault}
-use Rattle.sixel_decoder.proofs.dcs_sequences.Headers.{header_rest-one, header_rest-open}
-use Rattle.sixel_decoder.proofs.dcs_sequences.Headers.{header_text-one}
-use Rattle.sixel_decoder.proofs.dcs_sequences.Headers.{header_text-open}
+use Rattle.sixel_decoder.proofs.dcs_sequences.Headers.{header_rest-open}
+use Rattle.sixel_decoder.proofs.dcs_sequences.Headers.{header_text-one, header_text-open}
 use Rattle.sixel_decoder.proofs.chunks.Places.{splits_at}
 
 -- Of a header the bytes before this index were read, which have this text; the rest of the header
@@ -29,15 +28,7 @@ pub reads_on : (old new : Parameters) (index : ℕ) (bytes : List ℕ) → index
     → (r : ReadsHeader old index bytes) → is_header (get_or bytes index 0) ≡ true
     → Keeps new (r.read ++ carrying (get_or bytes index 0 ∷ [])) → ReadsHeader new (index + 1) bytes
 reads_on old new index bytes within r is keeps =
-    grind (
-      arith,
-      splits_at,
-      header_rest-one,
-      header_text-open,
-      header_text-one,
-      append_assoc,
-      header_rest-open,
-    )
+    grind (arith, splits_at, header_text-open, header_text-one, append_assoc, header_rest-open)
 
 -- any other byte stands where the header ends
 ends_at : (ps : Parameters) (index : ℕ) (bytes : List ℕ) → index < length bytes

@@ -60,15 +60,10 @@ staged_reading rest more (byte ∷ tail) s payload ended is =
     let same = header_rest-ended rest more tail byte ended in
     let front = header_front-ended rest more tail byte ended in grind (arith, nat_tests)
 
-stage_reading_by : (bytes more : List ℕ) (i : Introduced) (s : Settings) (payload : List ℕ)
-    → introduced bytes ≡ i → stage_by i ≡ Reading s payload
-    → stage (bytes ++ more) ≡ Reading s (payload ++ more)
-stage_reading_by bytes more i s payload e is = grind (arith, introduced-entered, staged_reading)
-
 -- the bytes after a payload's are its own
 pub stage_reading : (bytes more : List ℕ) (s : Settings) (payload : List ℕ)
     → stage bytes ≡ Reading s payload → stage (bytes ++ more) ≡ Reading s (payload ++ more)
-stage_reading bytes more s payload is = grind (arith, stage_reading_by)
+stage_reading bytes more s payload is = grind (arith, introduced-entered, staged_reading)
 
 -- ---- what is rejected before a payload stays rejected
 

@@ -1,36 +1,18 @@
 -- What the runs of a history have cost a canvas of one band, against its sixels and its bands.
-use Rattle.std.proofs.Common.{◌≡◌, ℕ, ◌+◌, ◌*◌, ◌<◌, ◌≤◌, ◌∷◌, [], None, refl, Some, arith}
+use Rattle.std.proofs.Common.{◌≡◌, ℕ, ◌+◌, ◌*◌, ◌≤◌, ◌∷◌, [], None, Some, arith}
 use Rattle.std.proofs.lemmas.Nat.{mul-le}
 use Rattle.sixel_base.specs.History.{History}
 use Rattle.sixel_base.specs.Limits.{Limit}
 use Rattle.sixel_base.specs.Clip.{clipped_height, clipped_width}
 use Rattle.sixel_base.specs.Payload.{first_fault}
 use Rattle.sixel_base.specs.PaintedArea.{size}
-use Rattle.sixel_base.specs.Place.{span}
 use Rattle.sixel_canvas.specs.inside.BandCanvas.{AreMoved, BandCanvasState, IsPaid}
-use Rattle.sixel_canvas.specs.inside.Drawn.{drawn_columns, least_moved, lowest_top, right_edge}
-use Rattle.sixel_canvas.specs.inside.Drawn.{band_edge as runs_edge, runs_cost, runs_paint}
-use Rattle.sixel_canvas.specs.inside.Drawn.{rows_above as rows_above-runs}
-use Rattle.sixel_decoder.specs.Paints.{sixels, band_columns, band_edge, band_room, area_of}
-use Rattle.sixel_decoder.specs.Paints.{least_band_count, least_band_paints, least_row_writes}
-use Rattle.sixel_decoder.specs.Paints.{least_write_count, most_row_writes, most_run_paints}
-use Rattle.sixel_decoder.specs.Paints.{named_width, rows_above}
-use Rattle.sixel_decoder.specs.inside.Runs.{runs_of}
+use Rattle.sixel_canvas.specs.Drawn.{least_moved, lowest_top, right_edge, runs_paint}
+use Rattle.sixel_decoder.specs.Paints.{sixels, band_columns, band_room, area_of, least_band_count}
+use Rattle.sixel_decoder.specs.Paints.{least_row_writes, least_write_count, most_row_writes}
+use Rattle.sixel_decoder.specs.Paints.{most_run_paints, named_width, runs_of}
 use Rattle.sixel_decoder.proofs.drawing.RunCosts.{span-fits}
 use Rattle.std.proofs.lemmas.Bool.Decides.{nat_tests}
-
--- the greatest right edge in a band
-band_edge-history : (limit : Limit) (h : History) (top : ℕ)
-    → runs_edge (runs_of limit h) top ≡ band_edge limit h top
-band_edge-history limit [] top = refl
-band_edge-history limit (token ∷ h) top = grind (arith, nat_tests, band_edge-history limit h top)
-
--- the columns of all bands
-band_columns-history : (limit : Limit) (h : History)
-    → drawn_columns (runs_of limit h) ≡ band_columns limit h
-band_columns-history limit [] = refl
-band_columns-history limit (token ∷ h) =
-    grind (arith, nat_tests, band_edge-history, band_columns-history limit h)
 
 -- the greatest right edge of all
 right_edge-history : (limit : Limit) (h : History)
@@ -45,25 +27,13 @@ runs_paint-history limit [] is = omega arith
 runs_paint-history limit (token ∷ h) is =
     grind (arith, nat_tests, runs_paint-history limit h, span-fits limit h)
 
--- what the sixels are counted as at least
-runs_cost-history : (limit : Limit) (h : History)
-    → runs_cost (runs_of limit h) ≡ least_band_paints limit h
-runs_cost-history limit [] = refl
-runs_cost-history limit (token ∷ h) = grind (arith, nat_tests, runs_cost-history limit h)
-
 -- What these tokens have painted on a canvas of one band, and its capacity.
 pub band_cost : (limit : Limit) (cap painted extent tagged top : ℕ) (h : History)
     → first_fault limit h ≡ None → IsPaid cap painted extent tagged top (runs_of limit h)
     → (painted ≤ 2 * band_columns limit h + most_run_paints * sixels h)
     × (6 * cap ≤ band_room limit h) × (least_band_count limit h ≤ painted)
-band_cost limit cap painted extent tagged top h faultless paid = grind (
-  arith,
-  nat_tests,
-  band_columns-history,
-  runs_paint-history,
-  right_edge-history,
-  runs_cost-history,
-)
+band_cost limit cap painted extent tagged top h faultless paid =
+    grind (arith, nat_tests, runs_paint-history, right_edge-history)
 
 -- the width after raster attributes
 named_width-history : (limit : Limit) (h : History) → named_width limit h ≤ clipped_width limit h
@@ -76,29 +46,12 @@ lowest_top-history : (limit : Limit) (h : History)
 lowest_top-history limit [] = omega arith
 lowest_top-history limit (token ∷ h) = grind (arith, nat_tests, lowest_top-history limit h)
 
--- each sixel has a column
-span-some : (h : History) → 0 < span h
-span-some [] = omega arith
-span-some (token ∷ h) = grind (arith, span-some h)
-
--- the rows of the bands above
-rows_above-history : (limit : Limit) (h : History) (top : ℕ)
-    → rows_above-runs (runs_of limit h) top ≡ rows_above limit h top
-rows_above-history limit [] top = refl
-rows_above-history limit (token ∷ h) top =
-    grind (arith, nat_tests, rows_above-history limit h top, span-some h)
-
 -- what is written at least as rows become wider
 least_moved-history : (limit : Limit) (named released : ℕ) (h : History)
     → least_row_writes limit named released h ≤ least_moved named released (runs_of limit h)
 least_moved-history limit named released [] = omega arith
-least_moved-history limit named released (token ∷ h) = grind (
-  arith,
-  nat_tests,
-  right_edge-history,
-  rows_above-history,
-  least_moved-history limit named released h,
-)
+least_moved-history limit named released (token ∷ h) =
+    grind (arith, nat_tests, right_edge-history, least_moved-history limit named released h)
 
 -- What these tokens have made a canvas of one band write as its rows became wider.
 pub band_moved : (limit : Limit) (canvas : BandCanvasState) (h : History)

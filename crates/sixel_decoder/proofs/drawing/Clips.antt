@@ -1,12 +1,12 @@
 -- What of a sixel is inside a clip: its pixels, its bits and its columns.
-use Rattle.std.proofs.Common.{◌≡◌, ℕ, ◌-◌, ◌%◌, ◌^◌, ◌≤◌, ◌<◌, Bool, false, min, arith}
+use Rattle.std.proofs.Common.{◌≡◌, ℕ, ◌-◌, ◌%◌, ◌^◌, ◌≤◌, Bool, false, min, arith}
 use Rattle.std.specs.Prelude.{◌&&◌, nat_lt}
 use Rattle.std.proofs.lemmas.Nat.{and_mask}
 use Rattle.std.proofs.lemmas.Nat.Bits.{bit_at_and, bit_at-lt, bit_at_ones, bit_at_ones_above}
 use Rattle.sixel_base.specs.Clip.{clipped_bits, clipped_pixel, is_pixel_inside}
 use Rattle.sixel_base.specs.History.{History}
 use Rattle.sixel_base.specs.Limits.{Limit}
-use Rattle.sixel_base.specs.Picture.{covers, is_set, is_struck, picture}
+use Rattle.sixel_base.specs.Picture.{covers, is_set, picture}
 use Rattle.sixel_base.specs.Stroke.{Origin, pixel}
 use Rattle.sixel_base.proofs.PictureBytes.{joined-same}
 use Rattle.std.proofs.lemmas.Bool.Decides.{nat_tests}
@@ -24,23 +24,12 @@ is_set-low bits n k =
     let masked = rw (and_mask bits n) at (bit_at_and bits (2 ^ n - 1) k) in
     grind (arith, nat_tests, masked, bit_at_ones n k, bit_at_ones_above n k, bit_at-lt bits k)
 
--- a sixel covers the rows of its bits that are inside
-struck_clipped : (limit : Limit) (top bits row : ℕ)
-    → is_struck top (clipped_bits limit top bits) row
-    ≡ (nat_lt row limit.rows && is_struck top bits row)
-struck_clipped limit top bits row = grind (arith, nat_tests, is_set-low)
-
--- a column left of two ends
-left_of_both : (column to columns : ℕ) → column < columns
-    → nat_lt column (min to columns) ≡ nat_lt column to
-left_of_both column to columns inside = grind (arith, nat_tests)
-
 -- the pixels inside that a sixel covers are those of its columns and bits inside
 pub covers_clipped : (limit : Limit) (from to top bits column row : ℕ)
     → covers from (min to limit.columns) top (clipped_bits limit top bits) column row
     ≡ (is_pixel_inside limit column row && covers from to top bits column row)
 covers_clipped limit from to top bits column row =
-    grind (arith, nat_tests, left_of_both, struck_clipped, fails_third, fails_second)
+    grind (arith, nat_tests, is_set-low, fails_third, fails_second)
 
 -- a sixel whose first pixel is outside covers none inside
 pub covers_outside : (limit : Limit) (from to top bits column row : ℕ)

@@ -1,6 +1,6 @@
 -- What a painter has drawn of all tokens where commands with a fault may be ignored.
 use Rattle.std.proofs.Common.{◌≡◌, ℕ, ◌-◌, ◌<◌, ◌≤◌, Bool, true, false, List, [], ◌∷◌, refl, ◌∙◌}
-use Rattle.std.proofs.Common.{length, take, get_or, Option, Some, None, Result, arith}
+use Rattle.std.proofs.Common.{length, take, get_or, Some, None, Result, arith}
 use Rattle.std.specs.Prelude.{IfErr, fold, min, ◌+◌}
 use Rattle.sixel_base.specs.declared.error.SixelError.{SixelError}
 use Rattle.sixel_base.specs.Fault.{Fault, Faults, is_fault}
@@ -21,11 +21,6 @@ use Rattle.sixel_decoder.specs.inside.Runs.{IsRun, IsSixelByte, bits_of}
 use Rattle.sixel_decoder.proofs.drawing.SixelRuns.{IsRun-take, fold_one, fold_run, with_sixels}
 use Rattle.sixel_decoder.proofs.drawing.TokenFaults.{fault_found}
 use Rattle.std.proofs.lemmas.Bool.Decides.{nat_tests}
-
--- a failed allocation may be answered whatever was found
-pub memory_along : (e : SixelError) (may : Bool) (found found' : Option Fault) → is_fault e ≡ false
-    → Faults e may found → Faults e may found'
-memory_along e may found found' not_fault is = grind (arith, nat_tests)
 
 -- one more token that was drawn
 pub has_drawn_more : {C : Type 0} {canvas : Ghosts C} (o : Origin) (painter : Painter C canvas)
@@ -52,7 +47,7 @@ pub tolerates_command : {C : Type 0} {canvas : Ghosts C} (result : Result (Unit 
     → Tolerates (tolerated_result old.pixel_limit.lenient result) o new
     (tolerated_count old.pixel_limit.lenient result n) (token ∷ h)
 tolerates_command result o old new n token h other state draws kept =
-    grind (arith, has_drawn_more, effective-strict, memory_along, fault_found, has_drawn_without)
+    grind (arith, has_drawn_more, effective-strict, fault_found, has_drawn_without)
 
 -- so it is in the words of `tolerate`
 pub tolerates : {C : Type 0} {canvas : Ghosts C} (outcome result : Result (Unit {0}) SixelError)

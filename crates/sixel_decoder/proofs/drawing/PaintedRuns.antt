@@ -1,10 +1,10 @@
 -- What a painter shows once sixels of one column each were drawn on its canvas: the pixels that
 -- they cover, and the runs that they are.
-use Rattle.std.proofs.Common.{◌≡◌, ℕ, suc, ◌+◌, ◌≤◌, ◌-◌, Bool, false, List, [], ◌∷◌, ◌++◌, length}
+use Rattle.std.proofs.Common.{◌≡◌, ℕ, suc, ◌+◌, ◌≤◌, ◌-◌, Bool, List, [], ◌∷◌, ◌++◌, length}
 use Rattle.std.proofs.Common.{get_or, take, get_or-take, subst, refl, sym, ap, ◌∙◌, arith}
 use Rattle.std.specs.Prelude.{nat_lt, nat_le, ◌&&◌, if◌then◌else◌}
 use Rattle.std.proofs.lemmas.List.{get_or_past}
-use Rattle.sixel_base.specs.Clip.{clipped_pixel, is_pixel_inside}
+use Rattle.sixel_base.specs.Clip.{clipped_pixel}
 use Rattle.sixel_base.specs.DrawnHeight.{lowered}
 use Rattle.sixel_base.specs.History.{Sixel, History}
 use Rattle.sixel_base.specs.Limits.{Limit}
@@ -16,9 +16,9 @@ use Rattle.sixel_canvas.specs.declared.drawing.Canvas.{Ghosts}
 use Rattle.sixel_decoder.specs.declared.painter.Painter.{Painter}
 use Rattle.sixel_decoder.specs.inside.Painter.{Shows}
 use Rattle.sixel_decoder.specs.inside.DrawnRows.{drawn_rows}
-use Rattle.sixel_decoder.specs.Paints.{named_width}
-use Rattle.sixel_decoder.specs.inside.Runs.{most_rows, runs_of}
-use Rattle.sixel_canvas.specs.inside.Drawn.{Run, run, covers_eight, with_sixels as with_runs}
+use Rattle.sixel_decoder.specs.Paints.{named_width, runs_of}
+use Rattle.sixel_decoder.specs.inside.Runs.{most_rows}
+use Rattle.sixel_canvas.specs.Drawn.{Run, run, covers_eight, with_sixels as with_runs}
 use Rattle.sixel_decoder.proofs.drawing.DrawnHeights.{drawn_height-sixels, most_rows-first}
 use Rattle.sixel_decoder.proofs.drawing.Clips.{fails_third}
 use Rattle.sixel_decoder.proofs.drawing.SixelRuns.{with_sixels, IsInside, IsInside-sixel}
@@ -48,17 +48,12 @@ pixel-sixels o h (bits ∷ more) column row single =
     let rest = pixel-sixels o (Sixel bits ∷ h) more column row refl in
     rw single at rest ∙ covers_more (across h) bits (down h) column row more _ _
 
--- a sixel of eight is one of the first ones, or blank
-bits_at : (sixels eight : List ℕ) (j : ℕ) → take (length sixels) eight ≡ sixels
-    → ((k : ℕ) → length sixels ≤ k → get_or eight k 0 ≡ 0) → get_or eight j 0 ≡ get_or sixels j 0
-bits_at sixels eight j first blank = grind (arith, nat_tests, get_or-take, get_or_past)
-
 -- eight sixels of which only the first ones are not blank
 covers_first : (from top column row : ℕ) (sixels eight : List ℕ) → length sixels ≤ 8
     → take (length sixels) eight ≡ sixels → ((k : ℕ) → length sixels ≤ k → get_or eight k 0 ≡ 0)
     → covers_eight from eight top column row ≡ covers_all from sixels top column row
 covers_first from top column row sixels eight few first blank =
-    grind (arith, nat_tests, bits_at, get_or_past, blank_set, fails_third)
+    grind (arith, nat_tests, get_or-take, get_or_past, blank_set, fails_third)
 
 -- and its column
 run_inside : (limit : Limit) (n bits : ℕ) (h : History) → IsInside limit (suc n) h
@@ -70,17 +65,7 @@ runs_of-sixels : (limit : Limit) (h : History) (sixels : List ℕ) → IsInside 
     → with_runs (across h) sixels (down h) (runs_of limit h) ≡ runs_of limit (with_sixels h sixels)
 runs_of-sixels limit h [] inside = refl
 runs_of-sixels limit h (bits ∷ more) inside =
-    let rest =
-    runs_of-sixels limit (Sixel bits ∷ h) more (IsInside-sixel limit (length more) bits h inside) in
-    rw (← run_inside limit (length more) bits h inside)
-    (ap (λ n. with_runs (across h + n) more (down h) (runs_of limit (Sixel bits ∷ h)))
-    (sym inside.single) ∙ rest)
-
--- sixels inside the clip cover no pixel outside
-covers_all_outside : (limit : Limit) (from top column row : ℕ) (sixels : List ℕ)
-    → from + length sixels ≤ limit.columns → top + 6 ≤ limit.rows
-    → is_pixel_inside limit column row ≡ false → covers_all from sixels top column row ≡ false
-covers_all_outside limit from top column row sixels narrow low outside = grind (arith, nat_tests)
+    grind (arith, nat_tests, IsInside-sixel, run_inside, runs_of-sixels limit (Sixel bits ∷ h) more)
 
 -- the pixels inside the clip then
 clipped_pixel-sixels : (o : Origin) (h : History) (sixels : List ℕ) (column row : ℕ)
@@ -89,7 +74,7 @@ clipped_pixel-sixels : (o : Origin) (h : History) (sixels : List ℕ) (column ro
     ≡ (if covers_all (across h) sixels (down h) column row then color o h ++ 255 ∷ []
     else clipped_pixel o h column row)
 clipped_pixel-sixels o h sixels column row inside =
-    grind (arith, nat_tests, with_sixels, pixel-sixels, covers_all_outside)
+    grind (arith, nat_tests, with_sixels, pixel-sixels)
 
 -- sixels of one column each that lie inside the painter's image
 inside_from : {C : Type 0} {canvas : Ghosts C} (o : Origin) (painter : Painter C canvas)

@@ -5,12 +5,10 @@ use Rattle.std.specs.Option.{option_or}
 use Rattle.std.proofs.Math.Nat.{mul-suc}
 use Rattle.std.proofs.lemmas.Nat.{mul-le}
 use Rattle.std.proofs.lemmas.Bool.Decides.{nat_tests}
-use Rattle.sixel_base.specs.History.{Raster, History}
+use Rattle.sixel_base.specs.History.{History}
 use Rattle.sixel_base.specs.Fault.{Fault}
 use Rattle.sixel_base.specs.Limits.{Limit, side_limit}
-use Rattle.sixel_base.specs.Lenient.{effective}
-use Rattle.sixel_base.specs.Payload.{cropped_height, extent_fault, first_fault, closed}
-use Rattle.sixel_base.specs.Payload.{payload_area}
+use Rattle.sixel_base.specs.Payload.{cropped_height, extent_fault, first_fault, payload_area}
 use Rattle.sixel_base.specs.Picture.{total}
 use Rattle.sixel_base.specs.Place.{height, raster_height, width}
 use Rattle.sixel_base.specs.PaintedArea.{payload_painted_area, row_extent, painted_area}
@@ -63,17 +61,7 @@ raster_height-most (token ∷ h) = grind (arith, nat_tests, raster_height-most h
 pub cropped_height-most : (crop : Bool) (h : History) → cropped_height crop h ≤ height h
 cropped_height-most crop h = grind (arith, nat_tests, nat_lt, raster_height-most)
 
--- raster attributes make a picture no smaller
-raster-area : (limit : Limit) (text : List ℕ) (h : History)
-    → painted_area limit h ≤ width (Raster text ∷ h) * height (Raster text ∷ h)
-raster-area limit text h = grind (arith, nat_tests, painted_area-most, mul-le)
-
--- the effective closed tokens reach no more than the picture of all effective tokens has
-closed-area : (limit : Limit) (h : History) → painted_area limit (effective limit (closed h))
-    ≤ width (effective limit h) * height (effective limit h)
-closed-area limit h = grind (arith, nat_tests, painted_area-most, effective-same, raster-area)
-
 -- those of a payload reach no more than its picture has
 pub settled-area : (limit : Limit) (bytes : List ℕ)
     → payload_painted_area limit bytes ≤ payload_area limit bytes
-settled-area limit bytes = grind (arith, nat_tests, painted_area-most, closed-area)
+settled-area limit bytes = grind (arith, nat_tests, painted_area-most, effective-same, mul-le)

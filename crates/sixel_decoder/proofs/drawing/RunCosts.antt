@@ -6,13 +6,12 @@ use Rattle.sixel_base.specs.Limits.{Limit, repeat_limit}
 use Rattle.sixel_base.specs.Payload.{first_fault}
 use Rattle.sixel_base.specs.Place.{height, span}
 use Rattle.sixel_base.specs.PaintedArea.{row_extent, painted_area}
-use Rattle.sixel_canvas.specs.inside.Drawn.{Work}
+use Rattle.sixel_canvas.specs.Drawn.{Work}
 use Rattle.sixel_canvas.specs.inside.RowCanvas.{RowCanvasState, HasCost, IsDrawnBy, row_edge}
-use Rattle.sixel_canvas.specs.inside.RowCanvas.{row_canvas_work, runs_least, runs_most}
+use Rattle.sixel_canvas.specs.inside.RowCanvas.{row_canvas_work, runs_most}
 use Rattle.sixel_canvas.proofs.RowCosts.{drawn_cost}
 use Rattle.sixel_canvas.proofs.Totals.{total-same}
-use Rattle.sixel_decoder.specs.Paints.{sixels, least_paints, least_count, most_sixel_paints}
-use Rattle.sixel_decoder.specs.inside.Runs.{runs_of}
+use Rattle.sixel_decoder.specs.Paints.{sixels, least_count, most_sixel_paints, runs_of}
 use Rattle.sixel_decoder.proofs.drawing.RowExtents.{row_extent-past}
 
 -- the right edge of a row
@@ -20,12 +19,6 @@ row_edge-history : (limit : Limit) (h : History) (row : ℕ)
     → row_edge (runs_of limit h) row ≡ row_extent limit h row
 row_edge-history limit [] row = refl
 row_edge-history limit (token ∷ h) row = grind (arith, nat_tests, row_edge-history limit h row)
-
--- what the sixels are counted as at least
-runs_least-history : (limit : Limit) (h : History)
-    → runs_least (runs_of limit h) ≡ least_paints limit h
-runs_least-history limit [] = refl
-runs_least-history limit (token ∷ h) = grind (arith, nat_tests, runs_least-history limit h)
 
 -- no sixel of tokens without a fault has more columns than a repeat introducer may name
 pub span-fits : (limit : Limit) (h : History) → first_fault limit h ≡ None → span h ≤ repeat_limit
@@ -62,6 +55,6 @@ history_cost limit canvas h faultless drawn =
       at_least = omega (arith, area, cost.at_least);
       at_most = omega (arith, area, cost.at_most);
       room = omega (arith, area, cost.room);
-      least = omega (arith, runs_least-history limit h, cost.least);
+      least = cost.least;
       most = omega (arith, area, cost.most, runs_most-history limit h faultless);
     }

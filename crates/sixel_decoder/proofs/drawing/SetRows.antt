@@ -1,36 +1,23 @@
 -- The rows that bits set, of several sixels together.
-use Rattle.std.proofs.Common.{◌≡◌, ℕ, zero, suc, ◌/◌, ◌%◌, ◌^◌, ◌≤◌, Bool}
-use Rattle.std.proofs.Common.{cond, List, [], ◌∷◌, max, length, refl, ap, ◌∙◌, arith}
-use Rattle.std.specs.Prelude.{◌||◌, ◌==◌}
+use Rattle.std.proofs.Common.{◌≡◌, ℕ, zero, suc, ◌/◌, ◌%◌, ◌^◌, ◌≤◌}
+use Rattle.std.proofs.Common.{List, [], ◌∷◌, max, length, refl, ap, ◌∙◌, arith}
 use Rattle.std.specs.Int.{to_le_bytes, w64}
 use Rattle.std.specs.Int.Bits.{bit_or}
 use Rattle.std.specs.Simd.Lanes.{fold_l, zip2}
 use Rattle.std.proofs.lemmas.Nat.{or_mod, or_shr}
 use Rattle.std.proofs.lemmas.Nat.Bits.{bit_at_or, bit_at-lt}
 use Rattle.sixel_base.specs.DrawnHeight.{set_rows_within, set_rows, lowered}
-use Rattle.sixel_base.specs.Picture.{is_set}
 use Rattle.sixel_decoder.specs.inside.Runs.{most_rows}
 use Rattle.std.proofs.lemmas.Bool.Decides.{nat_tests}
-
--- a bit of two numbers together
-one_of : (m n : ℕ) → m ≤ 1 → n ≤ 1 → (max m n == 1) ≡ ((m == 1) || (n == 1))
-one_of m n a b = grind (arith, nat_tests)
-
-is_set-or : (a b k : ℕ) → is_set (bit_or a b) k ≡ (is_set a k || is_set b k)
-is_set-or a b k = grind (arith, nat_tests, bit_at_or, one_of, bit_at-lt)
 
 few : (bits k : ℕ) → set_rows_within bits k ≤ k
 few bits zero = omega arith
 few bits (suc k) = grind (arith, nat_tests, few bits k)
 
-or-cases : (s t : Bool) (k m n : ℕ) → m ≤ k → n ≤ k
-    → cond (s || t) (suc k) (max m n) ≡ max (cond s (suc k) m) (cond t (suc k) n)
-or-cases s t k m n a b = grind (arith, nat_tests)
-
 within-or : (a b k : ℕ)
     → set_rows_within (bit_or a b) k ≡ max (set_rows_within a k) (set_rows_within b k)
 within-or a b zero = refl
-within-or a b (suc k) = grind (arith, nat_tests, is_set-or, or-cases, few, within-or a b k)
+within-or a b (suc k) = grind (arith, nat_tests, bit_at_or, bit_at-lt, few, within-or a b k)
 
 -- the rows of sixels together are the greatest of theirs
 pub set_rows-or : (a b : ℕ) → set_rows (bit_or a b) ≡ max (set_rows a) (set_rows b)

@@ -19,7 +19,7 @@ use Rattle.sixel_decoder.specs.declared.payload_parser.PayloadParser.{PayloadPar
 use Rattle.sixel_decoder.specs.declared.payload_parser.OpenCommand.TheVariants.{Ground}
 use Rattle.sixel_decoder.specs.inside.PayloadParser.{Stands}
 use Rattle.sixel_decoder.specs.inside.Runs.{IsSixelByte, IsRun, bits_of}
-use Rattle.sixel_canvas.specs.inside.Drawn.{run}
+use Rattle.sixel_canvas.specs.Drawn.{run}
 use Rattle.std.proofs.lemmas.Bool.Decides.{nat_tests}
 
 -- the history after sixels with these bits
@@ -80,10 +80,7 @@ pub IsPassed-sixels : (limit : Limit) (o : Origin) (h : History) (sixels : List 
     → IsInside limit (length sixels) h → IsPassed limit o (length sixels) h (with_sixels h sixels)
 IsPassed-sixels limit o h [] inside = grind (arith, nat_tests)
 IsPassed-sixels limit o h (bits ∷ more) inside =
-    let rest =
-    IsPassed-sixels limit o (Sixel bits ∷ h) more
-    (IsInside-sixel limit (length more) bits h inside) in
-    grind (arith, nat_tests, rest, inside)
+    grind (arith, nat_tests, IsInside-sixel, IsPassed-sixels limit o (Sixel bits ∷ h) more)
 
 -- the bytes at the front are a run
 pub IsRun-take : (n : ℕ) (bytes : List ℕ) → n ≤ length bytes

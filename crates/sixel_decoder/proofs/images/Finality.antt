@@ -17,10 +17,10 @@ use Rattle.sixel_base.specs.Dcs.{has_ended}
 use Rattle.sixel_base.specs.Lenient.{fault}
 use Rattle.sixel_base.specs.Limits.{Limit}
 use Rattle.sixel_base.specs.OneShot.{Payload, found, found_fault, IsFoundImage, AreFoundRegisters}
-use Rattle.sixel_decoder.proofs.chunks.ParserSteps.{growths-closed}
 use Rattle.sixel_decoder.proofs.chunks.Reads.{whole_fault, fold_fault, growths-fold}
-use Rattle.sixel_decoder.proofs.chunks.Joined.{front-append, first_terminator-ended}
-use Rattle.sixel_decoder.proofs.chunks.Joined.{before_terminator-ended, settled_open}
+use Rattle.sixel_decoder.proofs.chunks.Joined.{first_terminator-ended, before_terminator-ended}
+use Rattle.sixel_decoder.proofs.chunks.Joined.{settled_open, carrying-append}
+use Rattle.sixel_decoder.proofs.chunks.Joined.{before_terminator-whole, before_terminator-append}
 use Rattle.sixel_decoder.proofs.dcs_sequences.Terminators.{after_terminator-some, end_stays}
 use Rattle.sixel_decoder.proofs.dcs_sequences.Terminators.{stage_reading, failing_stays}
 use Rattle.sixel_decoder.proofs.dcs_sequences.Payloads.{found_reading}
@@ -44,7 +44,14 @@ settled_ended bytes more t is = grind (arith, first_terminator-ended, before_ter
 -- the tokens of the bytes so far, and how they go on with more
 pub history_more : (bytes more : List ℕ) → first_terminator bytes ≡ None
     → history_of (front (bytes ++ more)) ≡ fold read (history_of (front bytes)) (front more)
-history_more bytes more none = grind (arith, nat_tests, front-append, fold-append)
+history_more bytes more none = grind (
+  arith,
+  nat_tests,
+  before_terminator-append,
+  carrying-append,
+  before_terminator-whole,
+  fold-append,
+)
 
 -- what holds of the closed tokens and of all holds of those that are settled
 pub of_settled : (P : History → Type 0) (bytes : List ℕ) → P (history_of (front bytes))
@@ -71,7 +78,6 @@ fed_fault_stays limit bytes more f is = fault_by limit bytes more f (first_termi
 pub growths_stay : (bytes more : List ℕ)
     → growths (settled bytes) ≤ growths (settled (bytes ++ more))
 growths_stay bytes more =
-    let most = growths-closed (history_of (front (bytes ++ more))) in
     grind (arith, nat_tests, settled_open, history_more, settled_ended, growths-fold, of_settled)
 
 -- ---- a DCS sequence

@@ -27,7 +27,7 @@ use Rattle.sixel_decoder.specs.inside.DcsParser.{GoesTo, HasFollowed, is_begun, 
 use Rattle.sixel_decoder.proofs.chunks.Joined.{count-append, first_terminator-append}
 use Rattle.sixel_decoder.proofs.chunks.Joined.{first_terminator-ended}
 use Rattle.sixel_decoder.proofs.dcs_sequences.Chunks.{heading, reading_fits}
-use Rattle.sixel_decoder.proofs.dcs_sequences.Ends.{ended_at, goes_later, none_by, some_by}
+use Rattle.sixel_decoder.proofs.dcs_sequences.Ends.{ended_at, goes_later, some_by}
 use Rattle.sixel_decoder.proofs.images.Finality.{count_ended}
 use Rattle.sixel_decoder.proofs.chunks.Sessions.{dcs_count-most}
 
@@ -39,7 +39,7 @@ pub first_in : (before chunk : List ℕ) (consumed : ℕ) (first : Option ℕ)
     → (first_terminator (before ++ chunk) ≡ first)
     × (count before + consumed ≡ count (before ++ chunk))
 first_in before chunk consumed first ended counted is =
-    grind (arith, nat_tests, none_by, first_terminator-append, count-append)
+    grind (arith, nat_tests, first_terminator-append, count-append)
 
 -- one had
 pub goes_past : (before chunk : List ℕ) (consumed : ℕ) (was status : SixelDcsFeedStatus)

@@ -28,20 +28,10 @@ pub record Continues (older newer : History) : Type 0 where
   pub pixels : (origin : Origin) (column row : ℕ) → row < down older
       → pixel origin newer column row ≡ pixel origin older column row
 
--- one more token
-continues_token : (token : Token) (older newer : History) → Continues older newer
-    → Continues older (token ∷ newer)
-continues_token token older newer is = grind (arith, nat_tests)
-
 -- one that is ignored
 continues_without : (token : Token) (older newer : History) → Continues older newer
     → Continues older (without token newer)
 continues_without token older newer is = grind (arith, nat_tests)
-
--- one of which only the effect counts
-continues_more : (limit : Limit) (token : Token) (older h : History)
-    → Continues older (effective limit h) → Continues older (effective limit (token ∷ h))
-continues_more limit token older h = grind (arith, continues_token, continues_without)
 
 -- all tokens continue what the closed ones do
 continues_whole : (limit : Limit) (older h : History)
@@ -51,7 +41,7 @@ continues_whole limit older h is = grind (arith, nat_tests)
 -- the closed ones of a history with one more token
 continues_closed : (limit : Limit) (token : Token) (older h : History)
     → Continues older (effective limit h) → Continues older (effective limit (closed (token ∷ h)))
-continues_closed limit token older h is = grind (arith, continues_more)
+continues_closed limit token older h is = grind (arith, continues_without)
 
 continues_read : (limit : Limit) (older h : History) (byte : ℕ)
     → Continues older (effective limit (closed h))
@@ -97,12 +87,6 @@ goes_on_by limit bytes more (Some t) some =
 goes_on_more : (limit : Limit) (bytes more : List ℕ) → GoesOn limit bytes more
 goes_on_more limit bytes more = goes_on_by limit bytes more (first_terminator bytes) refl
 
--- equal pixels are equal inside a clip
-same_clipped : (origin : Origin) (h k : History) (column row : ℕ)
-    → pixel origin h column row ≡ pixel origin k column row
-    → clipped_pixel origin h column row ≡ clipped_pixel origin k column row
-same_clipped origin h k column row = grind (arith, nat_tests)
-
 -- ---- a payload
 
 -- a picture shows the settled tokens
@@ -123,7 +107,7 @@ pub final_pixels_stay : (origin : Origin) (bytes more : List ℕ) (column row : 
     ≡ clipped_pixel origin (tokens origin.pixel_limit bytes) column row
 final_pixels_stay origin bytes more column row final =
     let all = (goes_on_more origin.pixel_limit bytes more).all.pixels origin column row in
-    grind (arith, all, same_clipped, pixel_settled)
+    grind (arith, all, pixel_settled)
 
 -- ---- a DCS sequence
 

@@ -3,25 +3,14 @@
 use Rattle.std.specs.Prelude.{ℕ}
 use Rattle.sixel_decoder.specs.declared.dcs_parser.DcsState.{DcsState}
 use Rattle.sixel_decoder.specs.declared.dcs_parser.DcsState.TheVariants.{Payload}
-use Rattle.sixel_decoder.specs.Session.{DcsSession}
+use Rattle.sixel_decoder.specs.Session.{DcsSession, Session}
 use Rattle.sixel_decoder.specs.inside.DcsParser.{HasFollowed, is_failed}
 use Rattle.sixel_decoder.specs.declared.dcs_reader.DcsReader.TheInside.{Inside}
 
--- how many pixels the canvas of the payload has written; there is none before the payload and after
--- an error
-abbrev pub writes_of : {C : Type 0} → DcsState C → ℕ
-writes_of (Payload reader) = reader.writes
-writes_of _ = 0
-
--- for how many pixels its rows have capacity
-abbrev pub room_of : {C : Type 0} → DcsState C → ℕ
-room_of (Payload reader) = reader.room
-room_of _ = 0
-
--- how many pixels sixels have painted on it
-abbrev pub paints_of : {C : Type 0} → DcsState C → ℕ
-paints_of (Payload reader) = reader.paints
-paints_of _ = 0
+-- a number of the reader of the payload; there is none before the payload and after an error
+abbrev pub number_of : {C : Type 0} → (Session → ℕ) → DcsState C → ℕ
+number_of number (Payload reader) = number reader
+number_of number _ = 0
 
 -- how many rows from the top it has released
 abbrev pub released_of : {C : Type 0} → DcsState C → ℕ
@@ -33,9 +22,9 @@ session_of reader = record {
   decoder = reader.parser.decoder;
   bytes = reader.log;
   is_refused = is_failed reader.parser.state;
-  writes = writes_of reader.parser.state;
-  room = room_of reader.parser.state;
-  paints = paints_of reader.parser.state;
+  writes = number_of (λ s. s.writes) reader.parser.state;
+  room = number_of (λ s. s.room) reader.parser.state;
+  paints = number_of (λ s. s.paints) reader.parser.state;
   released = released_of reader.parser.state;
 }
 

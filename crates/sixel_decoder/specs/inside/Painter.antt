@@ -1,9 +1,8 @@
 -- What the parts of a painter keep, in the words of the history that was read. An invariant of this
 -- library's own: the words are those of Place and Stroke of sixel_base, where DEC's manual gives
 -- the rules.
-use Rattle.std.specs.Prelude.{ℕ, ◌≡◌, ◌+◌, ◌*◌, ◌<◌, ◌≤◌, Bool, MatchResult, Result}
-use Rattle.std.specs.Prelude.{None, is_none, [], ◌∷◌, ◌++◌, List, max}
-use Rattle.std.specs.Prelude.{min, ◌&&◌, if◌then◌else◌}
+use Rattle.std.specs.Prelude.{ℕ, ◌≡◌, ◌+◌, ◌*◌, ◌≤◌, Bool, MatchResult, Result, None, is_none}
+use Rattle.std.specs.Prelude.{[], ◌∷◌, ◌++◌, List, max, min, ◌&&◌, if◌then◌else◌}
 use Rattle.sixel_base.specs.declared.error.SixelError.{SixelError}
 use Rattle.sixel_base.specs.Clip.{clipped_bits, clipped_pixel, is_pixel_inside}
 use Rattle.sixel_base.specs.DrawnHeight.{drawn_height, lowered, set_rows}
@@ -16,14 +15,13 @@ use Rattle.sixel_base.specs.Settings.{ratio_of}
 use Rattle.sixel_base.specs.Stroke.{Origin, registers, color, ratio}
 use Rattle.sixel_base.specs.Picture.{covers}
 use Rattle.sixel_canvas.specs.declared.drawing.Canvas.{Ghosts}
-use Rattle.sixel_canvas.specs.inside.Drawn.{Run, run}
+use Rattle.sixel_canvas.specs.Drawn.{Run, run}
 use Rattle.sixel_decoder.specs.PictureView.{picture_report, whole_image}
 use Rattle.sixel_decoder.specs.Report.{raster_size, report_of}
 use Rattle.sixel_decoder.specs.declared.decoded_payload.DecodedPayload.{DecodedPayload}
 use Rattle.sixel_decoder.specs.declared.painter.Painter.{Painter}
 use Rattle.sixel_decoder.specs.inside.DrawnRows.{drawn_rows}
-use Rattle.sixel_decoder.specs.Paints.{named_width}
-use Rattle.sixel_decoder.specs.inside.Runs.{runs_of}
+use Rattle.sixel_decoder.specs.Paints.{named_width, runs_of}
 
 -- The painter has drawn these tokens, none of which has a fault, on its canvas.
 pub record Shows {C : Type 0} {canvas : Ghosts C} (origin : Origin) (painter : Painter C canvas)
@@ -119,10 +117,3 @@ Ends result origin history ignored =
     (λ error.
     Faults error (is_none (first_fault origin.pixel_limit history))
     (first_fault origin.pixel_limit history))
-
--- The next sixel has one column, inside the image and its clip, for which the canvas has memory.
-pub record FitsColumn {C : Type 0} {canvas : Ghosts C} (painter : Painter C canvas) : Type 0 where
-  pub single : painter.repeat ≡ 1
-  pub above_bottom : canvas.top painter.canvas + 6 ≤ painter.clipped_height
-  pub inside : painter.column < painter.clipped_width
-  pub held : painter.column < canvas.held painter.canvas

@@ -7,7 +7,7 @@ use Rattle.sixel_base.specs.Fault.{Faults}
 use Rattle.sixel_base.specs.Bytes.{front, count, first_terminator}
 use Rattle.sixel_base.specs.Payload.{fed_fault, settled, settled_tokens, growths}
 use Rattle.sixel_canvas.specs.declared.drawing.Canvas.{Ghosts}
-use Rattle.sixel_canvas.specs.inside.Drawn.{Work, no_work}
+use Rattle.sixel_canvas.specs.Drawn.{Work, no_work}
 use Rattle.sixel_base.specs.History.{history_of}
 use Rattle.sixel_base.specs.Stroke.{Origin}
 use Rattle.sixel_base.specs.Decoder.{origin_of}

@@ -2,7 +2,7 @@
 //!
 //! They are found near the end of a chunk, and lost as rows are released.
 
-ghost use Rattle.std.specs.Prelude.{◌≡◌, ◌<◌, ◌∷◌, IsTrue};
+ghost use Rattle.std.specs.Prelude.{◌≡◌, ◌<◌, ◌∷◌};
 ghost use Rattle.sixel_base.specs.History.{History, Sixel};
 ghost use Rattle.sixel_base.specs.Stroke.{Origin};
 
@@ -10,7 +10,7 @@ use crate::painter::Painter;
 use sixel_canvas::drawing::Canvas;
 
 impl<C: Canvas + Drop> Painter<C> {
-    ghost use Rattle.sixel_decoder.specs.inside.Painter.{FitsColumn, Shows};
+    ghost use Rattle.sixel_decoder.specs.inside.Painter.{Shows};
 
     /// Finds the columns in which drawing a sixel cannot fail, near the end of a chunk.
     ///
@@ -31,20 +31,10 @@ impl<C: Canvas + Drop> Painter<C> {
         };
     }
 
-    /// Whether the next sixel fits in one column for which the canvas has memory.
-    ///
-    /// That column lies inside the clipped image, so drawing the sixel cannot fail.
-    #[inline(always)]
-    pub fn fits_column(&self) -> bool
-        ensures { IsTrue result → FitsColumn self.now }
-    {
-        self.column < self.ready
-    }
-
-    /// Draws a sixel that fits in such a column.
+    /// Draws a sixel in such a column.
     #[inline(always)]
     pub fn draw_column(&mut self, bits: u8)
-        requires fits { FitsColumn self.old }
+        requires ready { self.old.column < self.old.ready }
         requires six { bits < 64 }
         ensures shows { (o : Origin) (h : History) → Shows o self.old h
             → Shows o self.new (Sixel bits ∷ h) }

@@ -1,7 +1,8 @@
 use Rattle.std.proofs.Common.{ℕ, ◌+◌, ◌*◌, ◌≤◌, ◌∙◌, length, ap, arith}
 use Rattle.sixel_canvas.specs.Layout.{in_order, pixel_at}
-use Rattle.sixel_canvas.proofs.PixelBytes.{pixel_kept, pixel_four, put_len, put_more, put_past}
+use Rattle.sixel_canvas.proofs.PixelBytes.{pixel_kept, pixel_four, put_len, put_more}
 use Rattle.sixel_canvas.proofs.channels.reorder.Goals as goal
+use Rattle.std.proofs.lemmas.List.{get_or-set_other}
 
 pub ordered-preserved : goal.ordered-preserved
 ordered-preserved c =
@@ -18,5 +19,5 @@ ordered-preserved c =
     (pixel_four now column fits ∙ pixel_kept now old column fits inside before.2) in (
       put_len now (4 * column) c.of-bytes.result ∙ before.0,
       put_more now c.of-bytes.result f column fits is before.1,
-      grind (arith, put_past),
+      grind (arith, get_or-set_other),
     )

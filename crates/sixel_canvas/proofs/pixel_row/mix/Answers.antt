@@ -1,11 +1,7 @@
 use Rattle.std.proofs.Common.{arith}
-use Rattle.std.proofs.lemmas.List.{length-set}
-use Rattle.sixel_canvas.proofs.Lanes.{mixed_step}
+use Rattle.std.proofs.lemmas.List.{length-set, get_or-set_other}
 use Rattle.sixel_canvas.proofs.pixel_row.mix.Goals as goal
-use Rattle.std.proofs.lemmas.Grind.{common_steps}
+use Rattle.std.proofs.lemmas.Grind.{get_or-set_at}
 
 pub mixed-preserved : goal.mixed-preserved
-mixed-preserved c = grind (arith, length-set, mixed_step)
-
-pub mixed-init : goal.mixed-init
-mixed-init c = grind (arith, common_steps)
+mixed-preserved c = grind (arith, length-set, get_or-set_at, get_or-set_other)

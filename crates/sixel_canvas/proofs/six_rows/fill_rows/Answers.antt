@@ -1,16 +1,16 @@
 use Rattle.std.proofs.Common.{◌≡◌, ◌<◌, [], true, arith}
 use Rattle.sixel_base.specs.Picture.{is_set}
 use Rattle.sixel_canvas.proofs.BandRows.{struck_more}
-use Rattle.sixel_canvas.proofs.BandCopies.{row_above, row_before, row_colored}
+use Rattle.sixel_canvas.proofs.BandCopies.{row_above, row_colored}
 use Rattle.sixel_canvas.proofs.six_rows.fill_rows.Goals as goal
-use Rattle.sixel_canvas.proofs.six_rows.fill_rows.Goals.{then-bits-bit-eq1, else-bits-bit-eq1}
 use Rattle.std.proofs.lemmas.Bool.Decides.{nat_tests}
+use Rattle.std.proofs.lemmas.Nat.{row_fits}
 
 pub drawn-preserved : goal.drawn-preserved
 drawn-preserved c = grind (arith, nat_tests, struck_more)
 
 pub fill_row-requires-clause-before : goal.fill_row-requires-clause-before
-fill_row-requires-clause-before c = grind (arith, row_before)
+fill_row-requires-clause-before c = grind (arith, row_fits)
 
 pub fill_row-requires-clause-colored : goal.fill_row-requires-clause-colored
 fill_row-requires-clause-colored c = λ above i low high.

@@ -1,7 +1,6 @@
 use Rattle.std.proofs.Common.{sym, ◌∙◌, arith}
 use Rattle.sixel_decoder.proofs.dcs_sequences.Ends.{goes_to_end, goes_later}
 use Rattle.sixel_decoder.proofs.dcs_end.end_now.Goals as goal
-use Rattle.sixel_decoder.proofs.dcs_end.end_now.Goals.{in-None, in-Some}
 
 pub returns-clause-ends : goal.returns-clause-ends
 returns-clause-ends c = λ payload ended first counted.
@@ -9,12 +8,12 @@ returns-clause-ends c = λ payload ended first counted.
     let t = c.args.terminator in
     let consumed = c.args.consumed in
     elim c.match-ended.branch [
-      | in-None w ↦
+      | goal.in-None w ↦
           rw w.end-is (goes_to_end payload piece c.tail-rest.result.now t c.min.result consumed _ _
           (sym w.in-None.is ∙ ended) first counted
           c.tail-rest.ensures (λ within. omega (arith, c.min.ensures))
           w.end_at-end.ensures.count w.end_at-end.ensures.status)
-      | in-Some w ↦
+      | goal.in-Some w ↦
           rw w.end-is (goes_later payload piece t consumed _ w.in-Some.status _
           (sym w.in-Some.is ∙ ended) first counted
           w.end_later-end.ensures.waiting w.end_later-end.ensures.over)

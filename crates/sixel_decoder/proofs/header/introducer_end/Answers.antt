@@ -5,16 +5,6 @@ use Rattle.sixel_decoder.proofs.images.FoundPayloads.{tail_whole, introduced_at_
 use Rattle.sixel_decoder.proofs.images.FoundPayloads.{introduced_by_escape}
 use Rattle.sixel_decoder.proofs.images.FoundPayloads.{introduced_at, not_introduced_at}
 use Rattle.sixel_decoder.proofs.header.introducer_end.Goals as goal
-use Rattle.sixel_decoder.proofs.header.introducer_end.Goals.{then-bytes-index-lt1}
-use Rattle.sixel_decoder.proofs.header.introducer_end.Goals.{
-  else-bytes-index-lt1+then-this-lt2+in_default-1,
-}
-use Rattle.sixel_decoder.proofs.header.introducer_end.Goals.{
-  else-bytes-index-lt1+else-this-lt2+in-27+in_default-1,
-}
-use Rattle.sixel_decoder.proofs.header.introducer_end.Goals.{
-  else-bytes-index-lt1+else-this-lt2+in_default-1,
-}
 
 pub returns-in-27-clause-found : goal.returns-in-27-clause-found
 returns-in-27-clause-found c =
@@ -25,16 +15,7 @@ returns-in-144-clause-found c =
     grind (arith, nat_tests, introduced_at, tail_whole, c.search.invariant, introduced_at_once)
 
 pub search-preserved : goal.search-preserved
-search-preserved c =
-    grind (
-      arith,
-      tail_whole,
-      then-bytes-index-lt1,
-      c.search-test.true,
-      length-drop,
-      not_introduced_at,
-      c.search.invariant,
-    )
+search-preserved c = grind (arith, nat_tests, tail_whole, length-drop, not_introduced_at)
 
 pub returns-clause-none : goal.returns-clause-none
 returns-clause-none c = grind (arith, nat_tests, c.search.invariant, drop_all, c.search-test.false)

@@ -5,14 +5,13 @@ use Rattle.sixel_decoder.proofs.chunks.Joined.{first_terminator-ended}
 use Rattle.sixel_decoder.proofs.dcs_sequences.Ends.{terminator_same}
 use Rattle.sixel_decoder.proofs.images.Finality.{count_ended}
 use Rattle.sixel_decoder.proofs.image_end.payload_end.Goals as goal
-use Rattle.sixel_decoder.proofs.image_end.payload_end.Goals.{in-Some, in-None}
 
 pub returns-clause-counted : goal.returns-clause-counted
 returns-clause-counted c = λ settings bytes is. elim c.match-terminator.branch [
-  | in-Some w ↦
+  | goal.in-Some w ↦
       let some = is ∙ w.in-Some.is in
       grind (arith, nat_tests, count_ended, first_terminator-ended, c.of_payload.ensures)
-  | in-None w ↦
+  | goal.in-None w ↦
       let none = is ∙ w.in-None.is in
       grind (
         arith,

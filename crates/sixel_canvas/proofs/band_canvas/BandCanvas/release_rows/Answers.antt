@@ -1,11 +1,10 @@
-use Rattle.std.proofs.Common.{◌+◌, ◌-◌, ap, ◌∙◌, refl}
+use Rattle.std.proofs.Common.{◌+◌, ◌-◌, ap, ◌∙◌, refl, arith}
 use Rattle.std.specs.Prelude.{nat_lt, if◌then◌else◌}
 use Rattle.sixel_canvas.specs.inside.BandCanvas.{BandCanvasState, band_canvas_shown}
 use Rattle.sixel_canvas.specs.inside.TaggedBand.{tagged_cell}
 use Rattle.sixel_canvas.proofs.MovedRows.{moved_released}
 use Rattle.sixel_canvas.proofs.ReleasedRows.{above_released, held_released}
 use Rattle.sixel_canvas.proofs.band_canvas.BandCanvas.release_rows.Goals as goal
-use Rattle.std.proofs.Common.{arith}
 
 pub invariant_of-self : goal.invariant_of-self
 invariant_of-self c =

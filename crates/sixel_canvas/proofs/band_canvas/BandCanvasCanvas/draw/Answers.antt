@@ -21,7 +21,8 @@ returns-clause-paid c = λ named runs before.
     let same_top : all.top ≡ now.top =
     grind (arith) in
     let laid =
-    laid_held now c.ensure_columns.new.self state named runs to before.1 c.in_ok-ensure_columns.ensures.laid
+    laid_held now c.ensure_columns.new.self state named runs to before.1
+    c.in_ok-ensure_columns.ensures.laid
     (grind (arith)) (grind (arith)) (grind (arith)) in
     let least =
     least_held now named to to all.rows.moved runs before.1 before.2 (omega arith)

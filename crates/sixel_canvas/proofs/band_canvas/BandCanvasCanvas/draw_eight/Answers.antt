@@ -1,8 +1,7 @@
-use Rattle.std.proofs.Common.{◌≡◌, ◌≤◌, ◌+◌, ◌*◌, ℕ, List, max, length, length-take, take}
-use Rattle.std.proofs.Common.{arith}
+use Rattle.std.proofs.Common.{◌≡◌, ◌≤◌, ◌+◌, ◌*◌, ℕ, List, max, length, length-take, take, arith}
 use Rattle.std.proofs.lemmas.Bool.Decides.{nat_tests}
 use Rattle.sixel_canvas.specs.inside.BandCanvas.{band_canvas_state, least_width}
-use Rattle.sixel_canvas.specs.inside.Drawn.{Run, with_sixels}
+use Rattle.sixel_canvas.specs.Drawn.{Run, with_sixels}
 use Rattle.sixel_canvas.specs.inside.TaggedBand.{capacity}
 use Rattle.sixel_canvas.proofs.BandStates.{canvas_over}
 use Rattle.sixel_canvas.proofs.MovedRows.{laid_held, laid_wider, least_held, least_sixels}
@@ -36,7 +35,8 @@ returns-clause-paid c = λ named runs before.
     let edge = edges c.args.from c.args.sixels all.top runs c.args.len c.requires.some few in
     let wide : ℕ = max (least_width named runs) right in
     let laid =
-    laid_held now c.ensure_columns.new.self state named runs right before.1 c.in_ok-ensure_columns.ensures.laid
+    laid_held now c.ensure_columns.new.self state named runs right before.1
+    c.in_ok-ensure_columns.ensures.laid
     (grind (arith)) (grind (arith)) (grind (arith)) in
     let sixels = take c.args.len c.args.sixels in
     let least =
@@ -44,7 +44,8 @@ returns-clause-paid c = λ named runs before.
     (omega (arith, c.requires.some))
     (grind (arith, c.in_ok-ensure_columns.ensures.moved)) in (
       rw same_top (paid-sixels _ _ _ _ _ _ _ _ now.top c.args.from c.args.len c.args.sixels runs
-          before.0 c.requires.some few c.requires.few cap (grind (arith, c.draw_eight.ensures.least)) painted extent tagged),
+          before.0 c.requires.some few c.requires.few cap
+          (grind (arith, c.draw_eight.ensures.least)) painted extent tagged),
       rw (← same_top) (moved_more state named more
           (laid_wider state wide (least_width named more) laid (omega (arith, edge)))
           c.self.invariant.above

@@ -1,7 +1,7 @@
 use Rattle.std.proofs.Common.{◌≡◌, ℕ, ◌+◌, ◌-◌, List, take, get_or}
 use Rattle.std.specs.Prelude.{nat_le, nat_lt, ◌&&◌, if◌then◌else◌}
 use Rattle.sixel_base.specs.Picture.{is_struck}
-use Rattle.sixel_canvas.specs.inside.Drawn.{Run, with_sixels}
+use Rattle.sixel_canvas.specs.Drawn.{Run, with_sixels}
 use Rattle.sixel_canvas.proofs.drawing.Canvas.draw_eight.Given as goal
 
 abbrev pub invariant-drawn : goal.invariant-drawn

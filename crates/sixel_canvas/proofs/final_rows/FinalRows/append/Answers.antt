@@ -1,5 +1,5 @@
-use Rattle.std.proofs.Common.{◌≡◌, ◌+◌, ◌-◌, ◌*◌, ◌≤◌, ◌++◌, drop, length, length-append, length-drop}
-use Rattle.std.proofs.Common.{arith, rules}
+use Rattle.std.proofs.Common.{◌≡◌, ◌+◌, ◌-◌, ◌*◌, ◌≤◌, ◌++◌, drop, length, length-append}
+use Rattle.std.proofs.Common.{length-drop, arith, rules}
 use Rattle.std.specs.Prelude.{vec_capacity}
 use Rattle.std.proofs.lemmas.List.{drop-append-le}
 use Rattle.sixel_base.specs.Picture.{joined}
@@ -21,12 +21,10 @@ invariant_of-self c =
       c.self.invariant.0.fits,
       length-drop start all.bytes.items,
     ) in
-    let ok : c.add_row-added.new.bytes.items ≡ all.bytes.items ++ (part ++ rest) =
-    grind (arith, when_ok, len) in
     let is =
     row_len (drop start all.bytes.items) part (drop start c.add_row-added.new.bytes.items)
     all.background all.width all.rows (length c.args.pixels.now) few c.self.told in
-    grind (arith, ok, cut, is, length-append all.bytes.items (part ++ rest))
+    grind (arith, cut, is, length-append all.bytes.items (part ++ rest))
 
 pub returns-clause-shown : goal.returns-clause-shown
 returns-clause-shown c =

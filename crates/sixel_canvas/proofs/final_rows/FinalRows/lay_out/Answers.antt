@@ -2,12 +2,11 @@ use Rattle.std.proofs.Common.{◌≡◌, ℕ, ◌+◌, ◌-◌, ◌*◌, ◌≤�
 use Rattle.std.proofs.Common.{ap, arith, length-drop, length-take}
 use Rattle.std.proofs.Math.Nat.{mul-le-mul, mul-le-mul_right}
 use Rattle.sixel_base.specs.Picture.{joined}
-use Rattle.std.proofs.lemmas.Grind.{common_steps}
-use Rattle.sixel_canvas.specs.inside.RowsState.{RowsState}
 use Rattle.sixel_canvas.proofs.MovedRows.{moved_within}
 use Rattle.sixel_canvas.proofs.ReleasedRows.{dropped}
 use Rattle.sixel_canvas.proofs.RowBytes.{part_len_is, row_copied, row_len, when_ok}
 use Rattle.sixel_canvas.proofs.final_rows.FinalRows.lay_out.Goals as goal
+use Rattle.std.proofs.lemmas.Bool.Decides.{nat_tests}
 
 row_room : (row rows width kept : ℕ) → row < rows → kept ≤ width
     → 4 * (row * width) + 4 * kept + 4 * (width - kept) ≤ 4 * (rows * width)
@@ -55,28 +54,14 @@ copied-preserved c =
 pub returns-clause-moved_within : goal.returns-clause-moved_within
 returns-clause-moved_within c = grind (arith, moved_within)
 
-pub returns-clause-rows : goal.returns-clause-rows
-returns-clause-rows c = ap (λ (r : RowsState). r.rows) c.self.view_is
-
-pub returns-clause-background : goal.returns-clause-background
-returns-clause-background c = ap (λ (r : RowsState). r.background) c.self.view_is
-
 pub overflow_mul-max-2 : goal.overflow_mul-max-2
-overflow_mul-max-2 c =
-    let most : c.max.result ≤ 1000006 = omega (arith, c.max.ensures, c.self.invariant.0.few) in
-    omega (arith, mul-le-mul most c.requires.narrow)
+overflow_mul-max-2 c = grind (arith, nat_tests, mul-le-mul)
 
 pub overflow_mul-start-in-copied : goal.overflow_mul-start-in-copied
-overflow_mul-start-in-copied c =
-    let few : c.self.inside.free + c.copied.row ≤ 2000012 =
-    omega (arith, c.self.invariant.0.few, c.self.invariant.2) in
-    omega (arith, mul-le-mul few c.self.invariant.0.narrow)
+overflow_mul-start-in-copied c = grind (arith, nat_tests, mul-le-mul)
 
 pub overflow_add-old : goal.overflow_add-old
-overflow_add-old c =
-    let few : c.self.inside.free + c.copied.row ≤ 2000012 =
-    omega (arith, c.self.invariant.0.few, c.self.invariant.2) in
-    omega (arith, c.min-kept.ensures, mul-le-mul few c.self.invariant.0.narrow)
+overflow_add-old c = grind (arith, nat_tests, mul-le-mul)
 
 pub add_row-added-requires : goal.add_row-added-requires
 add_row-added-requires c =
@@ -91,19 +76,8 @@ add_row-added-requires c =
       mul-le-mul c.self.invariant.0.few c.requires.narrow,
     )
 
-pub invariant_of-self : goal.invariant_of-self
-invariant_of-self c = grind (arith, common_steps)
-
-pub returns-clause-shown : goal.returns-clause-shown
-returns-clause-shown c = grind (arith, common_steps)
-
-pub returns-clause-all : goal.returns-clause-all
-returns-clause-all c = grind (arith, common_steps)
-
 pub returns-clause-room : goal.returns-clause-room
-returns-clause-room c =
-    let most : c.args.rows ≤ max c.args.rows c.self.inside.rows = omega arith in
-    omega (arith, c.copied.invariant, mul-le-mul_right c.args.width most)
+returns-clause-room c = grind (arith, nat_tests, mul-le-mul_right)
 
 pub slice_bounds-old-end : goal.slice_bounds-old-end
 slice_bounds-old-end c =

@@ -15,6 +15,7 @@ pub returns-clause-len : goal.returns-clause-len
 returns-clause-len c =
     let all = c.self.inside in
     let is =
-    taken_len c.remove_front.new.bytes.items c.truncate.new.self.items c.add_pixels.new.bytes.items all.background
+    taken_len c.remove_front.new.bytes.items c.truncate.new.self.items c.add_pixels.new.bytes.items
+    all.background
     c.args.width c.args.height all.rows c.self.told in
     grind (arith, is)

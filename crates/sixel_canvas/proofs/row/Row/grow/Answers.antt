@@ -4,7 +4,7 @@ use Rattle.sixel_base.specs.Picture.{joined}
 use Rattle.sixel_base.proofs.PictureBytes.{length-joined}
 use Rattle.sixel_canvas.specs.Row.{RowState}
 use Rattle.sixel_canvas.specs.inside.Pixels.{pixels_of}
-use Rattle.sixel_canvas.proofs.PixelLists.{pixels_of-added, room_for-enough}
+use Rattle.sixel_canvas.proofs.PixelLists.{pixels_of-added}
 use Rattle.sixel_canvas.proofs.RowBytes.{when_ok}
 use Rattle.sixel_canvas.proofs.row.Row.grow.Goals as goal
 use Rattle.std.proofs.lemmas.Bool.Decides.{nat_tests}
@@ -19,7 +19,7 @@ bytes_are : (c : goal.After-self-2-1)
     → c.add_pixels-added.new.bytes.items
     ≡ c.self.inside.bytes.items
     ++ joined (λ _. c.self.inside.background) (c.args.columns - c.len-len.result)
-bytes_are c = grind (arith, nat_tests, room_for-enough, when_ok, len_is)
+bytes_are c = grind (arith, nat_tests, when_ok, len_is)
 
 bytes_long : (c : goal.After-self-2-1)
     → length c.add_pixels-added.new.bytes.items ≡ 4 * c.args.columns
@@ -29,7 +29,6 @@ pub returns-clause-ok : goal.returns-clause-ok
 returns-clause-ok c =
     let four : length c.self.inside.background ≡ 4 = search rules in
     let row = c.self.inside in
-    let len = len_is c in
     let added =
     pixels_of-added row.bytes.items row.background (length (pixels_of row.bytes.items))
     (c.args.columns - c.len-len.result) c.self.invariant.1 four in

@@ -9,8 +9,7 @@ use Rattle.std.proofs.lemmas.Bool.Decides.{nat_tests}
 use Rattle.std.proofs.lemmas.Grind.{common_steps}
 
 held_is : (c : goal.After-self-1) → c.args.to ≤ length (pixels_of c.self.inside.bytes.items)
-held_is c =
-    omega (arith, c.requires.held, ap (λ (r : RowState). length r.pixels) c.self.view_is)
+held_is c = omega (arith, c.requires.held, ap (λ (r : RowState). length r.pixels) c.self.view_is)
 
 -- what the bytes are then, and how many
 bytes_are : (c : goal.After-self-1)

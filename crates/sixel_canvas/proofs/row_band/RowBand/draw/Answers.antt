@@ -7,8 +7,6 @@ use Rattle.sixel_canvas.specs.inside.TaggedRow.{TaggedRowState, tagged_pixel}
 use Rattle.std.proofs.lemmas.List.{get_or_default}
 use Rattle.sixel_canvas.proofs.StruckRows.{struck_more, is_struck-hit}
 use Rattle.sixel_canvas.proofs.row_band.RowBand.draw.Goals as goal
-use Rattle.sixel_canvas.proofs.row_band.RowBand.draw.Goals.{then-bits-bit-eq1+in_ok-draw_row}
-use Rattle.sixel_canvas.proofs.row_band.RowBand.draw.Goals.{else-bits-bit-eq1}
 use Rattle.std.proofs.lemmas.Bool.Decides.{nat_tests}
 
 pub drawn-preserved : goal.drawn-preserved
@@ -24,7 +22,7 @@ drawn-preserved c =
     if nat_le c.args.from column && nat_lt column c.args.to then c.args.color else p in
     let grow = λ (k n : ℕ). max n c.args.to in
     elim c.if-bits-bit-eq1.branch [
-      | then-bits-bit-eq1+in_ok-draw_row w ↦
+      | goal.then-bits-bit-eq1+in_ok-draw_row w ↦
           let hit =
           ap struck down ∙ is_struck-hit 0 c.args.bits row six w.if-bits-bit-eq1.true in
           let next = w.draw_row.new.rows.items in
@@ -48,7 +46,7 @@ drawn-preserved c =
                 ap (λ (l : TaggedRowState). length l.row.pixels)
                 (w.in_ok-draw_row.ensures.others background k apart)),
           )
-      | else-bits-bit-eq1 w ↦ grind (arith, nat_tests)
+      | goal.else-bits-bit-eq1 w ↦ grind (arith, nat_tests)
     ]
 
 pub returns-in_err-draw_row-clause-held : goal.returns-in_err-draw_row-clause-held
@@ -67,6 +65,3 @@ invariant_of-self-in_err-draw_row c = grind (arith)
 
 pub returns-in_err-draw_row-clause-sound : goal.returns-in_err-draw_row-clause-sound
 returns-in_err-draw_row-clause-sound c = invariant_of-self-in_err-draw_row c
-
-pub returns-clause-drawn : goal.returns-clause-drawn
-returns-clause-drawn c = λ background column row. grind arith

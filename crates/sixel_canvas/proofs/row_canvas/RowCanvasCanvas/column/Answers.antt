@@ -1,8 +1,6 @@
-use Rattle.std.proofs.Common.{◌+◌, ◌*◌, length}
-use Rattle.std.proofs.Common.{arith}
+use Rattle.std.proofs.Common.{◌+◌, ◌*◌, length, arith}
 use Rattle.std.specs.Prelude.{IsOk}
 use Rattle.sixel_canvas.specs.inside.RowCanvas.{band_line}
-use Rattle.sixel_canvas.proofs.RowBands.{band_row}
 use Rattle.sixel_canvas.proofs.RowBytes.{when_ok}
 use Rattle.sixel_canvas.proofs.RowCosts.{least-each, least-grown}
 use Rattle.sixel_canvas.proofs.row_canvas.RowCanvasCanvas.column.Goals as goal
@@ -21,4 +19,4 @@ returns-clause-held c =
     (λ k. length (band_line new k).row.pixels) 6
     (λ k six.
     let grown = when_ok drawn.result (is_ok c) drawn.ensures.grown (6 * old.band + k) in
-    grind (arith, nat_tests, band_row old k six, band_row new k six, drawn.ensures.band))
+    grind (arith, nat_tests, drawn.ensures.band))

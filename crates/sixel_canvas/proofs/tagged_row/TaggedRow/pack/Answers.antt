@@ -17,6 +17,3 @@ segments-preserved c =
     let after : min ((c.segments.tile + 1) * 128) width ≡ from + count =
     omega (arith, c.segments-test.true, c.div_ceil-tile-end.ensures, c.min.ensures) in
     grind (arith, append_assoc, joined-add)
-
-pub returns-clause-ok : goal.returns-clause-ok
-returns-clause-ok c = grind (arith)

@@ -1,10 +1,8 @@
-use Rattle.std.proofs.Common.{◌≡◌, length, true, sym, ap, ◌∙◌}
-use Rattle.sixel_canvas.specs.inside.TaggedRow.{TaggedRowState, tag_of}
-use Rattle.sixel_canvas.specs.inside.TaggedRow.{tagged_row_state}
+use Rattle.std.proofs.Common.{◌≡◌, length, true, sym, ap, ◌∙◌, arith}
+use Rattle.sixel_canvas.specs.inside.TaggedRow.{TaggedRowState, tag_of, tagged_row_state}
 use Rattle.sixel_canvas.specs.inside.Tags.{is_tag}
 use Rattle.sixel_canvas.proofs.TaggedRows.{IsUntagged, untagged_row}
 use Rattle.sixel_canvas.proofs.tagged_row.TaggedRow.untag.Goals as goal
-use Rattle.std.proofs.Common.{arith}
 
 -- the row as it was, and what was done to it
 is_untagged : (c : goal.After-paint-3)

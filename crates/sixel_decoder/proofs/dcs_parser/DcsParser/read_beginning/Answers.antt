@@ -1,23 +1,18 @@
-use Rattle.std.proofs.Common.{◌++◌, ◌∙◌, List, ℕ, Option, None, subst, take}
+use Rattle.std.proofs.Common.{◌++◌, ◌∙◌, List, ℕ, Option, None, subst, take, arith}
 use Rattle.std.proofs.lemmas.Result.{err_from_is_err_and}
 use Rattle.sixel_base.specs.declared.status.SixelDcsFeedStatus.{SixelDcsFeedStatus}
 use Rattle.sixel_decoder.specs.declared.dcs_parser.DcsState.{DcsState}
 use Rattle.sixel_decoder.specs.declared.dcs_parser.DcsState.TheVariants as states
-use Rattle.sixel_base.specs.Dcs.{stage}
 use Rattle.sixel_decoder.specs.inside.DcsParser.{IsInPayload, HasFollowed}
 use Rattle.sixel_decoder.proofs.dcs_sequences.Chunks.{heading, head_or_payload, head_fine}
-use Rattle.sixel_decoder.proofs.dcs_sequences.Chunks.{stage_refuses}
-use Rattle.sixel_decoder.proofs.dcs_sequences.Chunks.{head_follows, all_counted, entered_follows}
-use Rattle.sixel_decoder.proofs.dcs_sequences.Chunks.{entered_refuses}
+use Rattle.sixel_decoder.proofs.dcs_sequences.Chunks.{stage_refuses, head_follows, all_counted}
+use Rattle.sixel_decoder.proofs.dcs_sequences.Chunks.{entered_follows, entered_refuses}
 use Rattle.sixel_decoder.proofs.dcs_parser.DcsParser.read_beginning.Goals as goal
+use Rattle.std.proofs.lemmas.Bool.Decides.{nat_tests}
 
 pub returns-in_err-start-clause-follows : goal.returns-in_err-start-clause-follows
-returns-in_err-start-clause-follows g c = λ before head is.
-    let e = c.in_err-start.field-0.0 in
-    let refused = c.in_err-start.ensures.heads before (head_fine c.args.self.now.state head) is in
-    let p = err_from_is_err_and c.from_residual.result c.from_residual.ensures.1 in
-    rw (p.1, p.2) (stage_refuses e _ c.args.self.now.decoder.pixel_limit
-    (stage (before ++ c.args.chunk.now)) refused)
+returns-in_err-start-clause-follows g c =
+    grind (arith, nat_tests, head_fine, err_from_is_err_and, stage_refuses)
 
 pub returns-in_err-fed-in-Payload-clause-follows : goal.returns-in_err-fed-in-Payload-clause-follows
 returns-in_err-fed-in-Payload-clause-follows g c = λ before head is.
@@ -67,10 +62,5 @@ returns-in_ok-fed-in-Payload-clause-follows g c = λ before head is.
     (rw c.tail.ensures at follows)
 
 pub returns-in_default-clause-follows : goal.returns-in_default-clause-follows
-returns-in_default-clause-follows g c = λ before head is.
-    let begun = c.in_ok-start.ensures.heads before (head_fine c.args.self.now.state head) is in
-    let from =
-    heading c.args.self.now.state c.args.self.now.decoder c.args.self.now.ended before head is in
-    let now = head_or_payload c.read_head.new.self.state begun.1 c.in_default.not-Payload in
-    head_follows c.read_head.new.self.state c.args.self.now.decoder c.read_head.new.self.ended
-    before c.args.chunk.now c.in_ok-start.start from.0 begun.1 now (begun.3 now) begun.2
+returns-in_default-clause-follows g c =
+    grind (arith, nat_tests, head_fine, heading, head_or_payload, head_follows)

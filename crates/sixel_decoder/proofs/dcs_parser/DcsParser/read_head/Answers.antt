@@ -2,9 +2,8 @@ use Rattle.std.proofs.Common.{◌≡◌, ◌++◌, ◌∷◌, [], true, List, �
 use Rattle.std.proofs.Common.{◌+◌, sym, ◌∙◌, subst, arith}
 use Rattle.std.proofs.lemmas.List.{append-nil}
 use Rattle.std.proofs.lemmas.Result.{err_from_is_err_and}
-use Rattle.sixel_base.specs.declared.state.DecoderState.{DecoderState}
 use Rattle.sixel_base.specs.Dcs.{stage}
-use Rattle.sixel_decoder.specs.inside.DcsParser.{HasFollowed, is_head, IsStageFault}
+use Rattle.sixel_decoder.specs.inside.DcsParser.{is_head, IsStageFault}
 use Rattle.sixel_decoder.proofs.dcs_sequences.Terminators.{refused_stays, pieces_join, pieces_step}
 use Rattle.sixel_decoder.proofs.dcs_parser.DcsParser.read_head.Goals as goal
 use Rattle.std.proofs.lemmas.Bool.Decides.{nat_tests}
@@ -13,26 +12,7 @@ pub head-init : goal.head-init
 head-init g c = grind (arith, nat_tests, append-nil)
 
 pub head-preserved : goal.head-preserved
-head-preserved g c = (
-  c.in_ok-step.ensures.decoder ∙ c.head.invariant.0,
-  c.in_ok-step.ensures.ended ∙ c.head.invariant.1,
-  λ before fine followed.
-      let chunk = c.args.chunk.now in
-      let index = c.head.index in
-      let new = c.step.new.self in
-      let now = c.head.invariant.2 before fine followed in
-      let head : is_head c.head.self.state ≡ true =
-      sym c.is_head.ensures ∙ c.if-not-is_head.false in
-      let stepped = c.in_ok-step.ensures.steps (before ++ take index chunk) head now.1 in (
-        stepped.0,
-        subst (λ (d : DecoderState).
-            HasFollowed new.state d new.ended (before ++ take (index + 1) chunk))
-            (sym c.in_ok-step.ensures.decoder)
-            (subst (λ (w : List ℕ). HasFollowed new.state c.head.self.decoder new.ended w)
-            (pieces_step before chunk index c.head-test.true) stepped.1),
-      ),
-  c.in_ok-step.ensures.released ∙ c.head.invariant.3,
-)
+head-preserved g c = grind (arith, nat_tests, pieces_step)
 
 pub returns-in_err-step-clause-heads : goal.returns-in_err-step-clause-heads
 returns-in_err-step-clause-heads g c = λ before fine followed.

@@ -5,7 +5,7 @@ use Rattle.sixel_base.specs.Decoder.{origin_of}
 use Rattle.sixel_base.specs.Dcs.{Reading}
 use Rattle.sixel_base.specs.Header.{header_text, is_header, settings_of}
 use Rattle.sixel_base.proofs.ToleratedTokens.{fault-none}
-use Rattle.sixel_decoder.specs.Session.{Session}
+use Rattle.sixel_decoder.specs.PayloadCalls.{begun}
 use Rattle.sixel_decoder.specs.inside.DcsParser.{HasFollowed, IsInHeader, IsInPayload}
 use Rattle.sixel_decoder.specs.declared.dcs_parser.DcsState.{DcsState}
 use Rattle.sixel_decoder.proofs.dcs_sequences.Headers.{header_goes_on, header_begins}
@@ -30,16 +30,8 @@ returns-in-Ok-Some-clause-steps g c = λ before head is.
     let stepped : (is_header c.args.byte ≡ false) × (c.args.byte ≡ 113)
     × (c.in-Ok-Some.settings ≡ settings_of (header_text it.0.rest)) =
     rw c.in-Ok-Some.field-0-is at (c.in-Ok-Some.ensures (header_text it.0.rest) it.0.keeps) in
-    let fresh : Session = record {
-      origin = origin_of old.decoder c.in-Ok-Some.settings;
-      bytes = [];
-      is_refused = false;
-      writes = 0;
-      room = 0;
-      paints = 0;
-      released = 0;
-    } in
-    let begun : IsInPayload fresh old.decoder old.ended (before ++ c.args.byte ∷ []) = record {
+    let fresh = begun (origin_of old.decoder c.in-Ok-Some.settings) in
+    let into : IsInPayload fresh old.decoder old.ended (before ++ c.args.byte ∷ []) = record {
       reading =
           header_begins c.in-Header.header before c.args.byte it.0 stepped.0 stepped.1
           ∙ ap (λ s. Reading s []) (sym stepped.2);
@@ -47,11 +39,7 @@ returns-in-Ok-Some-clause-steps g c = λ before head is.
       accepted = refl;
       faultless = fault-none old.decoder.pixel_limit;
       ending = it.1;
-    } in (
-      refl,
-      subst (λ (w : Session). IsInPayload w old.decoder old.ended (before ++ c.args.byte ∷ []))
-          (sym c.new-reader.ensures) begun,
-    )
+    } in (refl, rw c.new-reader.ensures into)
 
 pub returns-in-Err-clause-steps : goal.returns-in-Err-clause-steps
 returns-in-Err-clause-steps g c = λ before head is.

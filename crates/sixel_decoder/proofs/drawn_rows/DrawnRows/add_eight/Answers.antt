@@ -7,8 +7,7 @@ use Rattle.sixel_base.specs.DrawnHeight.{lowered, set_rows}
 use Rattle.sixel_decoder.specs.inside.DrawnRows.{together}
 use Rattle.sixel_decoder.specs.inside.Runs.{most_rows}
 use Rattle.sixel_decoder.proofs.drawing.SetRows.{bytes-or, length-bytes, lowered-again}
-use Rattle.sixel_decoder.proofs.drawing.SetRows.{most_rows-zip}
-use Rattle.sixel_decoder.proofs.drawing.SetRows.{set_rows-fold, set_rows-or}
+use Rattle.sixel_decoder.proofs.drawing.SetRows.{most_rows-zip, set_rows-fold, set_rows-or}
 use Rattle.sixel_decoder.proofs.drawn_rows.DrawnRows.add_eight.Goals as goal
 
 pub returns : goal.returns

@@ -5,16 +5,6 @@ use Rattle.sixel_base.specs.Clip.{clipped_bits, is_pixel_inside}
 use Rattle.sixel_base.specs.Limits.{Limit}
 use Rattle.sixel_decoder.proofs.drawing.Clips.{covers_clipped, covers_outside}
 use Rattle.sixel_decoder.proofs.painter.Painter.draw_inside.Goals as goal
-use Rattle.sixel_decoder.proofs.painter.Painter.draw_inside.Goals.{
-  then-from-columns+then-top-rows+in_ok-draw,
-}
-use Rattle.sixel_decoder.proofs.painter.Painter.draw_inside.Goals.{else-from-columns}
-use Rattle.sixel_decoder.proofs.painter.Painter.draw_inside.Goals.{
-  else-from-columns-via-then-from-columns+else-top-rows,
-}
-use Rattle.sixel_decoder.proofs.painter.Painter.draw_inside.Goals.{
-  else-from-columns-via-else-from-columns,
-}
 
 pub returns : goal.returns
 returns g c =
@@ -25,7 +15,7 @@ returns g c =
     let columns_is : c.columns-columns.result ≡ limit.columns = c.columns-columns.ensures.value in
     let rows_is : c.rows-rows.result ≡ limit.rows = c.rows-rows.ensures.value in
     elim c.if-from-columns.branch [
-      | then-from-columns+then-top-rows+in_ok-draw w ↦
+      | goal.then-from-columns+then-top-rows+in_ok-draw w ↦
           let inside : is_pixel_inside limit c.args.from top ≡ true =
           rw (
             lt-ltb c.args.from limit.columns (omega (arith, w.if-from-columns.true, columns_is)),
@@ -39,14 +29,14 @@ returns g c =
           let drawn = w.in_ok-draw.ensures in
           rw w.self-is
           (grind (arith, nat_tests, inside, right, bits, covers_clipped, drawn, c.add.ensures))
-      | else-from-columns w ↦
+      | goal.else-from-columns w ↦
           let outside : is_pixel_inside limit c.args.from top ≡ false =
           elim w.else-from-columns.branch [
-            | else-from-columns-via-then-from-columns+else-top-rows v ↦ rw (
+            | goal.else-from-columns-via-then-from-columns+else-top-rows v ↦ rw (
               lt-ltb c.args.from limit.columns (omega (arith, v.if-from-columns.true, columns_is)),
               le-ltb top limit.rows (omega (arith, v.if-top-rows.false, rows_is, top_is)),
             ) refl
-            | else-from-columns-via-else-from-columns v ↦ rw
+            | goal.else-from-columns-via-else-from-columns v ↦ rw
                 (le-ltb c.args.from limit.columns
                 (omega (arith, v.if-from-columns.false, columns_is))) refl
           ] in

@@ -14,10 +14,6 @@ use Rattle.sixel_decoder.proofs.chunks.ParserSteps.{refused_close}
 use Rattle.sixel_decoder.proofs.chunks.OpenCommands.{goes_on_numbered}
 use Rattle.sixel_decoder.proofs.drawing.SixelRuns.{Stands-run, goes_on_byte, refused_sixel}
 use Rattle.sixel_decoder.proofs.payload_parser.PayloadParser.read_chunk.Goals as goal
-use Rattle.sixel_decoder.proofs.payload_parser.PayloadParser.read_chunk.Goals.{
-  then-not-is_ignored+in_ok-push,
-}
-use Rattle.sixel_decoder.proofs.payload_parser.PayloadParser.read_chunk.Goals.{else-not-is_ignored}
 use Rattle.std.proofs.lemmas.Bool.Decides.{nat_tests}
 
 -- a byte that opens a command with a number is printable
@@ -149,18 +145,18 @@ bytes-preserved g c = (
       let splits = splits_at c.args.chunk.now c.bytes.index c.bytes-test.true in
       let ends = sym c.is_terminator.ensures ∙ c.if-is_terminator.false in
       elim c.if-not-is_ignored.branch [
-        | then-not-is_ignored+in_ok-push w ↦
+        | goal.then-not-is_ignored+in_ok-push w ↦
             reaches_pushed o _ _ h _ _ _ splits ends
             (sym c.is_ignored.ensures ∙ w.if-not-is_ignored.true) r
             (rw w.self-is (w.in_ok-push.ensures.reads o r.now r.stands))
-        | else-not-is_ignored w ↦
+        | goal.else-not-is_ignored w ↦
             rw w.self-is (reaches_ignored o _ h _ _ _ splits ends
             (sym c.is_ignored.ensures ∙ w.if-not-is_ignored.false) r)
       ],
   elim c.if-not-is_ignored.branch [
-    | then-not-is_ignored+in_ok-push w ↦
+    | goal.then-not-is_ignored+in_ok-push w ↦
         rw w.self-is (w.in_ok-push.ensures.released ∙ c.bytes.invariant.1)
-    | else-not-is_ignored w ↦ rw w.self-is c.bytes.invariant.1
+    | goal.else-not-is_ignored w ↦ rw w.self-is c.bytes.invariant.1
   ],
 )
 

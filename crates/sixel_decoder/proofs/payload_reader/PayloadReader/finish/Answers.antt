@@ -1,4 +1,4 @@
-use Rattle.std.proofs.Common.{◌≡◌, ℕ, List, Option, Ok, Err, false, Result, refl, min}
+use Rattle.std.proofs.Common.{◌≡◌, ℕ, List, Option, Ok, Err, false, Result, refl, min, arith}
 use Rattle.std.specs.Prelude.{is_some, IfOk}
 use Rattle.sixel_base.specs.declared.error.SixelError.{SixelError}
 use Rattle.sixel_base.specs.Bytes.{front}
@@ -20,7 +20,6 @@ use Rattle.sixel_decoder.specs.inside.PayloadReader.{session_of, parser_of, HasR
 use Rattle.sixel_decoder.specs.declared.decoded_payload.DecodedPayload.{DecodedPayload}
 use Rattle.sixel_decoder.proofs.chunks.PayloadFaults.{payload_ends}
 use Rattle.sixel_decoder.proofs.payload_reader.PayloadReader.finish.Goals as goal
-use Rattle.std.proofs.Common.{arith}
 use Rattle.std.proofs.lemmas.Bool.Decides.{nat_tests}
 
 -- how an image is taken whose parser ended its history

@@ -4,7 +4,7 @@
 use Rattle.std.specs.Prelude.{ℕ, ◌+◌, ◌-◌, ◌*◌, ◌/◌, ◌==◌, max, Bool, ◌&&◌, nat_le, nat_lt}
 use Rattle.std.specs.Prelude.{List, [], ◌∷◌, slice_index_or, if◌then◌else◌}
 use Rattle.sixel_base.specs.Picture.{is_struck}
-use Rattle.sixel_canvas.specs.inside.TaggedBand.{least_cost}
+use Rattle.sixel_canvas.specs.Paints.{least_painted}
 
 -- a sixel over the columns from .. up to before to, in the six rows from top on
 pub record Run : Type 0 where
@@ -52,8 +52,8 @@ rows_above (newest ∷ runs) top =
     else rows_above runs top
 
 -- how many pixels are written at least to give rows another width, where raster attributes name
--- this width, and rows above `released` are not stored: for each run that reaches more than twice as
--- far as the picture did, its right edge in each row of the bands above it
+-- this width, and rows above `released` are not stored: for each run that reaches more than twice
+-- as far as the picture did, its right edge in each row of the bands above it
 abbrev pub least_moved : ℕ → ℕ → List Run → ℕ
 least_moved named released [] = 0
 least_moved named released (newest ∷ runs) =
@@ -80,12 +80,21 @@ abbrev pub runs_paint : List Run → ℕ
 runs_paint [] = 0
 runs_paint (newest ∷ runs) = runs_paint runs + ((newest.to - newest.from) / 128 + 640)
 
--- what these runs paint at least: one with a set pixel each of its columns, or from 256 columns on a
--- tag for each whole 128
+-- what a run over `columns` paints at least: each column, or a tag for each whole 128 columns
+abbrev pub least_cost : ℕ → ℕ
+least_cost columns = if nat_lt columns 256 then columns else columns / 128
+
+-- what these runs paint a band at least, where one without a set pixel paints nothing
 abbrev pub runs_cost : List Run → ℕ
 runs_cost [] = 0
 runs_cost (newest ∷ runs) =
     runs_cost runs + (if nat_lt 0 newest.bits then least_cost (newest.to - newest.from) else 0)
+
+-- what these runs are counted as at least on rows, where one without a set pixel counts nothing
+abbrev pub runs_least : List Run → ℕ
+runs_least [] = 0
+runs_least (newest ∷ runs) =
+    runs_least runs + (if nat_lt 0 newest.bits then least_painted (newest.to - newest.from) else 0)
 
 -- whether eight sixels of one column each, the first at column from, cover the pixel
 abbrev pub covers_eight : ℕ → List ℕ → ℕ → ℕ → ℕ → Bool
