@@ -68,20 +68,24 @@ def chosen(colors, color, tolerance, neighbors):
     return kept if is_kept else best
 
 
+def are_gray(colors):
+    return all(len(set(it)) == 1 for it in colors)
+
+
 def source(colors, pixels):
     """The pixels that dithering maps: in a palette of grays their brightness."""
-    if any(len(set(it)) > 1 for it in colors):
+    if not are_gray(colors):
         return pixels
     levels = ((77 * r + 150 * g + 29 * b) // 256 for r, g, b, _ in pixels)
     return [(level, level, level, it[3]) for level, it in zip(levels, pixels)]
 
 
-def moved(width, place, color, amplitude):
+def moved(width, place, color, amplitude, shift):
     """A color moved by the pattern of Kolas, by up to half the amplitude."""
     row, column = divmod(place, width)
     for channel in range(3):
-        threshold = (column + 237 * row + 112 * channel) * 119 % 256
-        offset = (2 * threshold - 255) * amplitude // 512
+        threshold = (column + 237 * row + shift * channel) * 119 % 256
+        offset = round((2 * threshold - 255) * amplitude / 512)
         yield min(max(color[channel] + offset, 0), 255)
 
 
@@ -117,8 +121,9 @@ def cheapest(width, pixels, colors, tolerance=0):
 
 
 def ordered(width, pixels, colors, amplitude, tolerance=0):
-    """The undithered indices of colors that are moved by the pattern."""
-    target = [(*moved(width, at, it, amplitude), it[3]) for at, it in enumerate(pixels)]
+    """The undithered indices of colors that are moved by the pattern, of grays alike."""
+    shift = 0 if are_gray(colors) else 112
+    target = [(*moved(width, at, it, amplitude, shift), it[3]) for at, it in enumerate(pixels)]
     return cheapest(width, target, colors, tolerance)
 
 

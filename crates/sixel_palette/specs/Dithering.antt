@@ -18,7 +18,7 @@ use Rattle.sixel_palette.specs.Palette.{AreIndices, IsNearest, IsOpaque, color_a
 use Rattle.sixel_palette.specs.Palette.{entry_of, nearest}
 use Rattle.sixel_palette.specs.Undithered.{AreChosen, Undithered}
 use Rattle.sixel_palette.specs.Refined.{opaque_pixels, sum_to, summed_error}
-use Rattle.sixel_palette.specs.Gray.{measured_pixels, source_pixels}
+use Rattle.sixel_palette.specs.Gray.{are_gray, measured_pixels, source_pixels}
 use Rattle.sixel_palette.specs.declared.dither.Amplitude.{Amplitude}
 use Rattle.sixel_palette.specs.declared.dither.Amplitude.TheVariants.{Auto as AutoAmplitude, Levels}
 use Rattle.sixel_palette.specs.declared.dither.Dither.{Dither}
@@ -114,38 +114,43 @@ pub record HasTarget (m : Mapped) (target : List ℕ) (indices : List ℕ) (n : 
 
 -- ---- ordered dithering
 
--- a number from 0 to 255 for each place and channel
+-- a number from 0 to 255 for each place, in the pattern shifted by some columns
 abbrev pub threshold : ℕ → ℕ → ℕ → ℕ
-threshold column row channel = (column + 237 * row + 112 * channel) * 119 % 256
+threshold column row shift = (column + 237 * row + shift) * 119 % 256
+
+-- by how many columns the pattern of each channel is shifted: not in a palette of grays, in which
+-- the gray of a pixel stays gray
+abbrev pub shift_of : List (List ℕ) → ℕ
+shift_of colors = if are_gray colors (length colors) then 0 else 112
 
 -- A channel moved by the threshold's part of the amplitude, from half of it down to half of it up:
--- by (2 * threshold - 255) * amplitude / 512, rounded down, within a byte. The 65536 and the 128
--- keep the numbers natural.
+-- by (2 * threshold - 255) * amplitude / 512, rounded to a whole number, within a byte. The 65536
+-- and the 128 keep the numbers natural, and the 256 rounds.
 abbrev pub moved_channel : ℕ → ℕ → ℕ → ℕ
 moved_channel amplitude threshold value =
-    min 255 (value + (2 * threshold * amplitude + (65536 - 255 * amplitude)) / 512 - 128)
+    min 255 (value + (2 * threshold * amplitude + 256 + (65536 - 255 * amplitude)) / 512 - 128)
 
--- a channel of a pixel's color, moved
-abbrev pub moved_at : ℕ → ℕ → ℕ → List ℕ → ℕ → ℕ
-moved_at amplitude width pixel c channel =
-    moved_channel amplitude (threshold (pixel % width) (pixel / width) channel)
-    (slice_index c channel)
+-- a channel of a pixel, moved
+abbrev pub moved_at : ℕ → ℕ → ℕ → ℕ → ℕ → ℕ
+moved_at amplitude width pixel shift value =
+    moved_channel amplitude (threshold (pixel % width) (pixel / width) shift) value
 
--- the color, and the bytes of the pixel
-abbrev pub moved_color : ℕ → ℕ → ℕ → List ℕ → List ℕ
-moved_color amplitude width pixel c =
-    moved_at amplitude width pixel c 0 ∷ moved_at amplitude width pixel c 1
-    ∷ moved_at amplitude width pixel c 2 ∷ []
+-- its color, and its bytes
+abbrev pub moved_color : ℕ → ℕ → ℕ → ℕ → List ℕ → List ℕ
+moved_color amplitude shift width pixel c =
+    moved_at amplitude width pixel 0 (slice_index c 0)
+    ∷ moved_at amplitude width pixel shift (slice_index c 1)
+    ∷ moved_at amplitude width pixel (2 * shift) (slice_index c 2) ∷ []
 
-abbrev pub moved_pixel : ℕ → ℕ → List ℕ → ℕ → List ℕ
-moved_pixel amplitude width pixels pixel =
-    moved_color amplitude width pixel (color_at pixels pixel)
+abbrev pub moved_pixel : ℕ → ℕ → ℕ → List ℕ → ℕ → List ℕ
+moved_pixel amplitude shift width pixels pixel =
+    moved_color amplitude shift width pixel (color_at pixels pixel)
     ++ (slice_index pixels (4 * pixel + 3) ∷ [])
 
 -- the pixels of an image whose colors are moved
-abbrev pub moved_pixels : ℕ → ℕ → List ℕ → List ℕ
-moved_pixels amplitude width pixels =
-    joined (moved_pixel amplitude width pixels) (length pixels / 4)
+abbrev pub moved_pixels : ℕ → ℕ → ℕ → List ℕ → List ℕ
+moved_pixels amplitude shift width pixels =
+    joined (moved_pixel amplitude shift width pixels) (length pixels / 4)
 
 -- the same mapping of other pixels
 abbrev pub with_pixels : Mapped → List ℕ → Mapped
@@ -158,7 +163,8 @@ with_pixels m pixels = record {
 }
 
 abbrev pub moved_image : Mapped → ℕ → Mapped
-moved_image m amplitude = with_pixels m (moved_pixels amplitude m.width m.pixels)
+moved_image m amplitude =
+    with_pixels m (moved_pixels amplitude (shift_of m.colors) m.width m.pixels)
 
 -- ---- error diffusion
 

@@ -1,6 +1,5 @@
 -- Error diffusion in a palette of grays: what its errors are, and what bounds them.
-use Rattle.std.specs.Prelude.{◌≡◌, ℕ, true, List, [], length, slice_index}
-use Rattle.std.specs.Prelude.{slice_index_or}
+use Rattle.std.specs.Prelude.{◌≡◌, ℕ, true, List, [], length, slice_index, slice_index_or}
 use Rattle.std.specs.Int.{abs_diff}
 use Rattle.sixel_palette.specs.Palette.{color_at}
 use Rattle.sixel_palette.specs.Dithering.{Mapped, errors_of, target_of_visit}

@@ -29,7 +29,7 @@ pub enum Amplitude {
     /// Evenly spaced levels are so far apart. A palette that is refined for the image has half of
     /// that. It is rounded down, and at most 255.
     Auto,
-    /// A number of the 256 levels.
+    /// A number of the 256 levels. 0 and 1 move nothing.
     ///
     /// The distance of neighboring entries suits a fixed palette, as 51 six equal levels.
     Levels(u8),

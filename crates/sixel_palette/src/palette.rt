@@ -9,7 +9,6 @@ ghost use Rattle.sixel_palette.specs.Palette.{IsNearest, AreIndices, IsError, Ar
 ghost use Rattle.sixel_palette.specs.PaletteBound.{AreApart, NoListIsBetter};
 ghost use Rattle.sixel_palette.specs.Refined.{IsRefined, opaque_pixels};
 ghost use Rattle.sixel_palette.specs.declared.palette.refined.RefinedPalette.{RefinedPalette};
-ghost use Rattle.sixel_palette.specs.inside.Chosen.{IsChosen};
 
 mod assignment;
 mod bins;
@@ -22,7 +21,7 @@ pub mod distance;
 mod farthest;
 mod farthest_on_top;
 mod gain_cut;
-mod indices;
+pub mod indices;
 mod lloyd;
 pub mod nearest;
 pub mod nearest_entry;
@@ -39,7 +38,7 @@ use crate::palette::refined::least_apart;
 pub use crate::palette::refined::{RefinedPalette, refine_palette};
 pub use crate::palette::register_color::{DistinctColors, count_colors};
 use sixel_base::{Result, SixelError};
-use std::alloc::{AllocError, Global};
+use std::alloc::Global;
 
 /// A palette, each pixel's palette index, and a certificate of the palette's error.
 #[derive(Debug, Drop)]
@@ -112,29 +111,8 @@ pub fn choose_palette(alloc: Global, pixels: &[u8], max_colors: u16) -> Result<P
             actual: pixels.len(),
         });
     }
-    Ok(palette_of(alloc, pixels, room_for(max_colors))?)
-}
-
-/// The most entries of a palette of at most `max_colors` colors.
-fn room_for(max_colors: u16) -> usize
-    ensures { result ≡ palette_room max_colors }
-{
-    usize::from(max_colors.clamp(2, 256))
-}
-
-/// The palette of whole pixels, of at most `room` entries, and its certificate.
-fn palette_of(
-    alloc: Global,
-    pixels: &[u8],
-    room: usize,
-) -> std::result::Result<PaletteChoice, AllocError>
-    requires some { 0 < room }
-    requires room { room ≤ 256 }
-    ensures chosen { IfOk result (IsChosen pixels.now room) }
-    ensures indices { IfOk result (λ p. AreIndices pixels.now p.colors.items p.indices.items) }
-{
     let colors = ColorSet::of(alloc, pixels)?;
-    let selection = choose(alloc, &colors.codes, room)?;
+    let selection = choose(alloc, &colors.codes, usize::from(max_colors.clamp(2, 256)))?;
     let indices = indices_of(alloc, pixels, &colors, &selection.indices)?;
     let witnesses = selection.witnesses(alloc, &colors.codes)?;
     Ok(PaletteChoice {

@@ -8,10 +8,9 @@ use Rattle.std.proofs.lemmas.List.Elements.{All-cons, All-nil}
 use Rattle.sixel_palette.specs.Palette.{AreIndices, IsNearest, IsOpaque, color_at, distance}
 use Rattle.sixel_palette.proofs.colors.Distance.{below_three, distance_self, same_from_distance}
 use Rattle.sixel_palette.specs.Dithering.{AreDiffused, Mapped, error_above, error_back}
-use Rattle.sixel_palette.specs.Dithering.{error_before}
-use Rattle.sixel_palette.specs.Dithering.{error_behind, error_beyond, errors_of, no_error}
-use Rattle.sixel_palette.specs.Dithering.{opaque_error, passed_on, received, serpentine, sixteenths}
-use Rattle.sixel_palette.specs.Dithering.{target_of_visit, visit_error}
+use Rattle.sixel_palette.specs.Dithering.{error_before, error_behind, error_beyond, errors_of}
+use Rattle.sixel_palette.specs.Dithering.{no_error, opaque_error, passed_on, received, serpentine}
+use Rattle.sixel_palette.specs.Dithering.{sixteenths, target_of_visit, visit_error}
 use Rattle.sixel_palette.proofs.mapped_images.DitheredIndices.{AreDiffused-exact, AreRows}
 use Rattle.sixel_palette.proofs.mapped_images.DitheredIndices.{AreIndices-targets, visit-inside}
 use Rattle.std.proofs.lemmas.Bool.Decides.{nat_tests}

@@ -16,12 +16,10 @@ use Rattle.sixel_palette.specs.Dithering.{no_error, opaque_error, serpentine, ta
 use Rattle.sixel_palette.specs.Dithering.{AreVisited, visit_error, error_back, errors_of}
 use Rattle.sixel_palette.specs.inside.Diffusion.{AreReceived, AreSixteenths, AreErrors, IsBeyond}
 use Rattle.sixel_palette.specs.inside.Diffusion.{IsLine, IsVisit, channels, color_error}
-use Rattle.sixel_palette.specs.inside.Diffusion.{received_of, rounded_color}
-use Rattle.sixel_palette.specs.inside.Diffusion.{no_error_lanes}
+use Rattle.sixel_palette.specs.inside.Diffusion.{received_of, rounded_color, no_error_lanes}
 use Rattle.sixel_palette.specs.inside.Mapped.{IsIndexAt, IsMappable, IsPlace, mapped_value}
 use Rattle.sixel_palette.proofs.mapped_images.DitheredIndices.{HasTarget-set, IsIndexAt-dark}
-use Rattle.sixel_palette.proofs.mapped_images.DitheredIndices.{IsIndexAt-light}
-use Rattle.sixel_palette.proofs.mapped_images.DitheredIndices.{HasTarget-same}
+use Rattle.sixel_palette.proofs.mapped_images.DitheredIndices.{IsIndexAt-light, HasTarget-same}
 use Rattle.std.proofs.lemmas.Bool.{cases_lt}
 use Rattle.sixel_palette.proofs.mapped_images.Serpentine.{column-apart, column-lt, serpentine-apart}
 

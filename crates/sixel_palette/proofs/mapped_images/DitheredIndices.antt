@@ -7,8 +7,7 @@ use Rattle.sixel_palette.specs.Palette.{AreIndices, IsOpaque, color_at}
 use Rattle.sixel_palette.specs.Dithering.{AreDiffused, HasTarget, IsIndex, Mapped, errors_of}
 use Rattle.sixel_palette.specs.Dithering.{neighbor_of, serpentine, target_of_visit}
 use Rattle.sixel_palette.specs.declared.dithering.mapped.MappedImage.{MappedImage}
-use Rattle.sixel_palette.specs.inside.Mapped.{AreEntries, IsIndexAt, IsMappable}
-use Rattle.sixel_palette.specs.inside.Mapped.{mapped_value}
+use Rattle.sixel_palette.specs.inside.Mapped.{AreEntries, IsIndexAt, IsMappable, mapped_value}
 use Rattle.sixel_palette.proofs.mapped_images.KeptEntries.{AreSame, IsIndex-exact, neighbor-inside}
 use Rattle.sixel_palette.proofs.mapped_images.KeptEntries.{neighbor-same}
 use Rattle.sixel_palette.proofs.mapped_images.Serpentine.{serpentine-apart, serpentine-serpentine}

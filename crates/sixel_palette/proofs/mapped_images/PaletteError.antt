@@ -12,8 +12,7 @@ use Rattle.sixel_palette.proofs.colors.Distance.{distance_self}
 use Rattle.sixel_palette.proofs.nearest_entries.Nearest.{nearest-cap, nearest-le}
 use Rattle.sixel_palette.specs.declared.dither.Dither.TheVariants.{Diffusion}
 use Rattle.sixel_palette.specs.declared.mapping.Tolerance.TheVariants.{Auto}
-use Rattle.sixel_palette.specs.Dithering.{IsIndex, Mapped}
-use Rattle.sixel_palette.specs.Dithering.{root, tolerance_of}
+use Rattle.sixel_palette.specs.Dithering.{IsIndex, Mapped, root, tolerance_of}
 
 -- the number of a transparent pixel is 0
 pub number-dark : (number : List ℕ → ℕ) (pixels : List ℕ) (pixel : ℕ)

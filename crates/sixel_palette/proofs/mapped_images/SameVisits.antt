@@ -11,10 +11,9 @@ use Rattle.sixel_palette.specs.Dithering.{sixteenths, target_of_visit, visit_err
 use Rattle.sixel_palette.proofs.mapped_images.DiffusionVisit.{visit_error-opaque}
 use Rattle.sixel_palette.proofs.mapped_images.DiffusionVisit.{visit_error-transparent}
 use Rattle.sixel_palette.proofs.mapped_images.DitheredIndices.{AreRowsOf, visit-inside}
-use Rattle.sixel_palette.proofs.mapped_images.KeptEntries.{above-lt}
-use Rattle.sixel_palette.proofs.mapped_images.Serpentine.{serpentine-serpentine}
-use Rattle.sixel_palette.proofs.mapped_images.KeptEntries.{entry_of-opaque}
+use Rattle.sixel_palette.proofs.mapped_images.KeptEntries.{above-lt, entry_of-opaque}
 use Rattle.sixel_palette.proofs.mapped_images.KeptEntries.{entry_of-transparent}
+use Rattle.sixel_palette.proofs.mapped_images.Serpentine.{serpentine-serpentine}
 
 -- pixels that show the same
 pub record AreAlike (p q : List ℕ) : Type 0 where
@@ -23,11 +22,6 @@ pub record AreAlike (p q : List ℕ) : Type 0 where
       → IsOpaque q pixel × (color_at q pixel ≡ color_at p pixel)
   pub dark : (pixel : ℕ) → pixel < length p / 4 → slice_index p (4 * pixel + 3) < 128
       → slice_index q (4 * pixel + 3) < 128
-
--- a channel of an opaque pixel
-pub channel-alike : (p q : List ℕ) (pixel k : ℕ) → color_at q pixel ≡ color_at p pixel → k < 3
-    → slice_index p (4 * pixel + k) ≡ slice_index q (4 * pixel + k)
-channel-alike p q pixel k same l = grind (arith, nat_tests)
 
 -- ---- earlier visits
 

@@ -1,8 +1,7 @@
 -- The least key of some entries, and lists of entries of a search.
 use Rattle.std.proofs.Common.{◌≡◌, ℕ, zero, suc, ◌+◌, ◌*◌, ◌/◌, ◌%◌, ◌<◌, ◌≤◌, min, List, [], ◌∷◌}
 use Rattle.std.proofs.Common.{◌++◌, length, get_or, take, refl, ap, ◌∙◌, append_assoc, arith}
-use Rattle.std.proofs.lemmas.List.{take_more, take_all}
-use Rattle.std.proofs.lemmas.List.{length-take-le}
+use Rattle.std.proofs.lemmas.List.{take_more, take_all, length-take-le}
 use Rattle.sixel_palette.specs.declared.palette.nearest.cube.Cube.{Cube}
 use Rattle.sixel_palette.specs.declared.palette.nearest.Span.{Span}
 use Rattle.sixel_palette.specs.declared.palette.nearest_entry.Entry.{Entry}

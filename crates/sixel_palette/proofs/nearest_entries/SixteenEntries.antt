@@ -1,8 +1,7 @@
 -- The index that the least key of sixteen entries gives.
 use Rattle.std.proofs.Common.{◌≡◌, ◌⊎◌, ℕ, ◌+◌, ◌-◌, ◌*◌, ◌/◌, ◌%◌, ◌^◌, ◌<◌, ◌≤◌, List, [], ◌∷◌}
-use Rattle.std.proofs.Common.{false, cond, length, map, get_or, replicate}
-use Rattle.std.proofs.Common.{min, refl, ap, sym, inl, inr, nat_lt, w8, w32, Fits, zero, suc, ◌∙◌}
-use Rattle.std.proofs.Common.{arith}
+use Rattle.std.proofs.Common.{false, cond, length, map, get_or, replicate, min, refl, ap, sym, inl}
+use Rattle.std.proofs.Common.{inr, nat_lt, w8, w32, Fits, zero, suc, ◌∙◌, arith}
 use Rattle.std.specs.Int.{abs_diff}
 use Rattle.std.specs.Prelude.{Option, Some, None, slice_index, slice_index_or}
 use Rattle.std.proofs.lemmas.Bool.{cases_lt}

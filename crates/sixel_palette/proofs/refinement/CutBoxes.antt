@@ -13,8 +13,7 @@ use Rattle.sixel_palette.specs.declared.palette.gain_cut.ColorBox.{ColorBox}
 use Rattle.sixel_palette.specs.declared.palette.gain_cut.Cut.{Cut}
 use Rattle.sixel_palette.specs.ColorSums.{Pixels}
 use Rattle.sixel_palette.specs.GainCut.{Box, above, below, best_cut, box_at, cut_at, side}
-use Rattle.sixel_palette.specs.inside.Boxes.{AreBoxes, IsRange, high_part, low_part}
-use Rattle.sixel_palette.specs.inside.Boxes.{range_of}
+use Rattle.sixel_palette.specs.inside.Boxes.{AreBoxes, IsRange, high_part, low_part, range_of}
 use Rattle.sixel_palette.specs.inside.Sums.{AreBinsOf, channels, total}
 use Rattle.sixel_palette.proofs.refinement.Cuts.{side-channels}
 use Rattle.std.proofs.lemmas.Bool.Decides.{nat_tests}

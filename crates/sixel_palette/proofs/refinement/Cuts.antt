@@ -18,8 +18,7 @@ use Rattle.sixel_palette.specs.ColorSums.{Pixels}
 use Rattle.sixel_palette.specs.GainCut.{Box, above, below, best_to, better, box_sums, cut_gain}
 use Rattle.sixel_palette.specs.GainCut.{gain, side}
 use Rattle.sixel_palette.specs.inside.Boxes.{AreGains, AreWithin, high_part, low_part}
-use Rattle.sixel_palette.specs.inside.Sums.{AreBinsOf, channels, prefix_sums, suffix_sums}
-use Rattle.sixel_palette.specs.inside.Sums.{total}
+use Rattle.sixel_palette.specs.inside.Sums.{AreBinsOf, channels, prefix_sums, suffix_sums, total}
 use Rattle.sixel_palette.proofs.refinement.Divide.{low_above, low_below, parts_of, sums_of_parts}
 use Rattle.sixel_palette.proofs.refinement.Sums.{gain-none, sum_by_zero}
 

@@ -88,12 +88,12 @@ refinement-error pixels room amount it is =
     is.entries.error ∙ is.counted.sums (nearest it.entries.colors.items)
 
 module _ (pixels : List ℕ) (room amount : ℕ) (it : Refinement)
-    (bytes : (k : ℕ) → get_or pixels k 0 < 256) (is : IsRefinement pixels room amount it) where
+    (is : IsRefinement pixels room amount it) where
   pub refinement-below : (c : List ℕ) → IsShown pixels c
       → nearest it.entries.colors.items c < no_entry
   refinement-below =
       entries-below pixels it.colors.codes.items it.entries.colors.items is.entries.squares
-      it.entries.indices.items bytes is.colors.codes
+      it.entries.indices.items is.bytes is.colors.codes
       (λ l. omega (arith, is.entries.size, is.entries.are.some l)) is.entries.shown
       is.entries.nearest
 
@@ -128,7 +128,7 @@ module _ (pixels : List ℕ) (room amount : ℕ) (it : Refinement)
               has.colors
                   ∙ tops_none _ _ _ _ _
                   (λ d m.
-                  rw w.1 (near_listed _ _ (IsColor-shown _ _ bytes m) (are.shown d m))) shown
+                  rw w.1 (near_listed _ _ (IsColor-shown _ _ is.bytes m) (are.shown d m))) shown
                   ∙ w.1 ∙ members,
             );
         base = made.base;
@@ -167,7 +167,8 @@ module _ (pixels : List ℕ) (room amount : ℕ) (it : Refinement)
       let made = is.entries.are in
       let (own, many, each) =
       first-indexed pixels it.colors.codes.items refined.colors.items made.squares
-      refined.indices.items bytes is.colors.codes made.some made.shown made.nearest (length pixels / 4) (omega arith) in
+      refined.indices.items is.bytes is.colors.codes made.some made.shown made.nearest
+      (length pixels / 4) (omega arith) in
       let palette : RefinedPalette = record {
         colors = refined.colors;
         indices = record {

@@ -5,8 +5,7 @@ use Rattle.sixel_palette.specs.declared.palette.buckets.Interval.{Interval}
 use Rattle.sixel_palette.specs.declared.palette.buckets.Bucket.{Bucket}
 use Rattle.sixel_palette.specs.inside.Codes.{color_of, AreColorCodes}
 use Rattle.sixel_palette.specs.inside.Buckets.{channel, IsInInterval, IsInBox, IsInBucket}
-use Rattle.sixel_palette.specs.inside.Buckets.{AreBuckets}
-use Rattle.sixel_palette.specs.inside.Buckets.{IsFirstGreatest}
+use Rattle.sixel_palette.specs.inside.Buckets.{AreBuckets, IsFirstGreatest}
 use Rattle.sixel_palette.proofs.colors.Lists.{part_at, length-part}
 use Rattle.std.proofs.lemmas.Bool.Decides.{nat_tests}
 

@@ -9,8 +9,7 @@ use Rattle.sixel_palette.specs.declared.palette.nearest_entry.NearestEntry.{Near
 use Rattle.sixel_palette.specs.Palette.{nearest, rank, color_at, IsShown, IsFarthest}
 use Rattle.sixel_palette.specs.Palette.{IsNearest, no_entry}
 use Rattle.sixel_palette.specs.inside.Codes.{color_of, IsListed, IsPixelWord}
-use Rattle.sixel_palette.specs.inside.Nearest.{IsNearestEntry, AreNearest, IsIndexOf}
-use Rattle.sixel_palette.specs.inside.Nearest.{IsIndex}
+use Rattle.sixel_palette.specs.inside.Nearest.{IsNearestEntry, AreNearest, IsIndexOf, IsIndex}
 use Rattle.sixel_palette.specs.inside.Buckets.{IsFirstGreatest}
 use Rattle.sixel_palette.proofs.colors.Lists.{increasing-le}
 use Rattle.sixel_palette.proofs.nearest_entries.Nearest.{nearest-nil, nearest-le}

@@ -1,13 +1,11 @@
 -- How code sees an image that is mapped to a palette, its places, and the entries that may be kept.
 use Rattle.std.specs.Prelude.{◌≡◌, ℕ, ◌+◌, ◌*◌, ◌/◌, ◌<◌, ◌≤◌, List, length, slice_index, Option}
 use Rattle.std.specs.Prelude.{Some, None}
-use Rattle.sixel_palette.specs.Palette.{IsOpaque, nearest, no_entry}
-use Rattle.sixel_palette.specs.Palette.{entry_distance}
+use Rattle.sixel_palette.specs.Palette.{IsOpaque, nearest, no_entry, entry_distance}
 use Rattle.sixel_palette.specs.declared.dithering.mapped.Kept.{Kept}
 use Rattle.sixel_palette.specs.declared.dithering.mapped.MappedImage.{MappedImage}
 use Rattle.sixel_palette.specs.declared.dithering.mapped.Place.{Place}
-use Rattle.sixel_palette.specs.Dithering.{IsIndex, Mapped, neighbor_of}
-use Rattle.sixel_palette.specs.Dithering.{serpentine, whole_rows}
+use Rattle.sixel_palette.specs.Dithering.{IsIndex, Mapped, neighbor_of, serpentine, whole_rows}
 
 -- the image, apart from where its pixels and colors lie
 abbrev pub mapped_value : MappedImage → Mapped

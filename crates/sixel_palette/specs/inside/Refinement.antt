@@ -1,7 +1,7 @@
 -- A refined palette whose pixels have no indices yet, by the codes of the image's colors and their
 -- counts.
 use Rattle.std.specs.Prelude.{◌≡◌, ℕ, ◌*◌, ◌/◌, ◌<◌, ◌≤◌, nat_le, if◌then◌else◌, List, map, length}
-use Rattle.std.specs.Prelude.{All}
+use Rattle.std.specs.Prelude.{All, slice_index}
 use Rattle.std.specs.List.{sum}
 use Rattle.sixel_base.specs.Limits.{area_limit}
 use Rattle.sixel_palette.specs.declared.palette.refined.RefinedEntries.{RefinedEntries}
@@ -68,6 +68,7 @@ pub record AreSpreadEntries (codes counts : List ℕ) (room amount : ℕ) (entri
 -- the palette is refined for the image
 pub record IsRefinement (pixels : List ℕ) (room amount : ℕ) (it : Refinement) : Type 0 where
   pub area : length pixels / 4 ≤ area_limit
+  pub bytes : (k : ℕ) → slice_index pixels k < 256
   pub colors : IsColorSetOf pixels it.colors
   pub counts : List ℕ
   pub counted : AreCounts pixels it.colors.codes.items counts (length pixels / 4)

@@ -6,11 +6,10 @@
 ghost use Rattle.std.specs.Prelude.{◌≡◌, ℕ, ◌<◌, ◌≤◌, ◌+◌, ◌-◌, ◌*◌, ◌/◌, IfOk, List, OnOk, length};
 ghost use Rattle.std.specs.Prelude.{[], Some, slice_index, slice_index_or, slice_set};
 ghost use Rattle.sixel_palette.specs.Dithering.{AreDiffused, AreVisited, entry_before, errors_of};
-ghost use Rattle.sixel_palette.specs.inside.Diffusion.{AreErrors, AreLanes, AreParts};
-ghost use Rattle.sixel_palette.specs.inside.Diffusion.{ArePrepared, AreReceived, HaveErrors};
-ghost use Rattle.sixel_palette.specs.inside.Diffusion.{AreSixteenths, IsBeyond, IsLine};
-ghost use Rattle.sixel_palette.specs.inside.Diffusion.{IsVisit, channels, color_error};
-ghost use Rattle.sixel_palette.specs.inside.Diffusion.{no_error_lanes, received_of};
+ghost use Rattle.sixel_palette.specs.inside.Diffusion.{AreErrors, AreLanes, AreParts, ArePrepared};
+ghost use Rattle.sixel_palette.specs.inside.Diffusion.{AreReceived, HaveErrors, AreSixteenths};
+ghost use Rattle.sixel_palette.specs.inside.Diffusion.{IsBeyond, IsLine, IsVisit, channels};
+ghost use Rattle.sixel_palette.specs.inside.Diffusion.{color_error, no_error_lanes, received_of};
 ghost use Rattle.sixel_palette.specs.inside.Diffusion.{IsPart, rounded_color};
 ghost use Rattle.sixel_palette.specs.inside.Mapped.{AreEntries, IsMappable, IsPlace, mapped_value};
 
@@ -33,7 +32,9 @@ pub fn diffused_indices(alloc: Global, image: &MappedImage<'_>) -> Result<Vec<u8
     let mut indices = vec![in alloc; 0; image.pixels.len() / 4]?;
     let mut line = vec![in alloc; image.no_error(); image.width]?;
     let mut entries = image.entries(alloc)?;
-    image.diffuse_rows(&mut indices, &mut line, &mut entries)?;
+    for row in 0..image.pixels.len() / 4 / image.width {
+        image.diffuse_row(&mut indices, &mut line, &mut entries, row)?;
+    }
     Ok(indices)
 }
 
@@ -79,27 +80,6 @@ impl MappedImage<'_> {
         let strength = 16 * u16::from(self.strength);
         let lanes = u8x4::from_array([color[0], color[1], color[2], 0]);
         lanes.cast::<u16>() * u16x4::splat(strength)
-    }
-
-    /// Visits the pixels of all rows. The line has no errors before the first one.
-    fn diffuse_rows(
-        &self,
-        indices: &mut [u8],
-        line: &mut [PixelError],
-        entries: &mut Entries,
-    ) -> Result<(), AllocError>
-        requires image { IsMappable self.now }
-        requires indices { length indices.old ≡ length self.now.pixels.now / 4 }
-        requires entries { AreEntries self.now.colors.now indices.old }
-        requires line { IsLine (mapped_value self.now)
-            (errors_of (mapped_value self.now) indices.old 0) 0 0 line.old }
-        requires prepared { ArePrepared self.now entries.old }
-        ensures { OnOk result (AreDiffused (mapped_value self.now) indices.new) }
-    {
-        for row in 0..self.pixels.len() / 4 / self.width {
-            self.diffuse_row(indices, line, entries, row)?;
-        }
-        Ok(())
     }
 
     /// Visits the pixels of a row.

@@ -1,6 +1,6 @@
 //! An image that is mapped to a palette, and the entries of neighbors that its pixels may keep.
 
-ghost use Rattle.std.specs.Prelude.{◌≡◌, ◌+◌, ◌*◌, ◌/◌, ◌<◌, ◌≤◌, ℕ, IfOk, List, OnOk, Option};
+ghost use Rattle.std.specs.Prelude.{◌≡◌, ◌+◌, ◌*◌, ◌/◌, ◌<◌, ◌≤◌, ℕ, IfOk, OnOk, Option};
 ghost use Rattle.std.specs.Prelude.{Some, length};
 ghost use Rattle.sixel_palette.specs.Palette.{color_at, entry_of};
 ghost use Rattle.sixel_palette.specs.inside.Keys.{IsSearchOf};

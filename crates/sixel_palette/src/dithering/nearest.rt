@@ -5,6 +5,7 @@ ghost use Rattle.sixel_palette.specs.Palette.{AreIndices};
 ghost use Rattle.sixel_palette.specs.inside.Error.{HasNearest};
 
 use crate::dithering::mapped::MappedImage;
+use crate::palette::indices::indices_of;
 use crate::palette::refined::Refinement;
 use std::alloc::{AllocError, Global};
 
@@ -26,7 +27,10 @@ impl Nearest<'_> {
     {
         match self {
             Nearest::Found(indices) => Ok(indices),
-            Nearest::Refined(refinement) => refinement.indices(alloc, image.pixels),
+            Nearest::Refined(refinement) => {
+                let indices = &refinement.entries.indices;
+                indices_of(alloc, image.pixels, &refinement.colors, indices)
+            }
         }
     }
 }

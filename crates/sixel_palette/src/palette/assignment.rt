@@ -1,11 +1,9 @@
 //! The nearest entry of each color: the assignment step of Lloyd's algorithm.
 
-ghost use Rattle.std.specs.Prelude.{◌≡◌, ◌+◌, ◌*◌, ◌<◌, ◌≤◌, ℕ, List, map, length, All, IfOk, OnOk};
-ghost use Rattle.sixel_palette.specs.inside.Codes.{AreColorCodes, code_count};
+ghost use Rattle.std.specs.Prelude.{◌≡◌, ◌+◌, ◌*◌, ◌<◌, ◌≤◌, length, IfOk};
+ghost use Rattle.sixel_palette.specs.inside.Codes.{AreColorCodes};
 ghost use Rattle.sixel_palette.specs.inside.Counts.{dot, counted_error};
 ghost use Rattle.sixel_palette.specs.inside.Assignment.{IsAssignment, IsWeighed};
-ghost use Rattle.sixel_palette.specs.inside.Keys.{AreNumbered, IsSearch};
-ghost use Rattle.sixel_palette.specs.inside.Nearest.{AreNearest};
 ghost use Rattle.sixel_palette.specs.inside.Traversal.{IsTraversal, HasRelaxed};
 
 use crate::palette::farthest::Traversal;
@@ -78,34 +76,13 @@ fn searched(alloc: Global, codes: &[u32], colors: &[[u8; 3]]) -> Result<Traversa
     let mut squares = Vec::with_capacity(alloc, codes.len())?;
     let mut indices = Vec::with_capacity(alloc, codes.len())?;
     let mut search = Search::new(alloc, colors)?;
-    push_nearest(&mut search, codes, &mut squares, &mut indices)?;
-    let traversal = Traversal::of(alloc, codes, squares, indices)?;
-    Ok(traversal)
-}
-
-/// Appends the squared distance and the palette index of each color's nearest entry.
-fn push_nearest(
-    search: &mut Search,
-    codes: &[u32],
-    squares: &mut Vec<u32>,
-    indices: &mut Vec<u8>,
-) -> Result<(), AllocError>
-    requires small { AreColorCodes codes.now }
-    requires search { IsSearch search.old }
-    requires no_squares { length squares.old.items ≡ 0 }
-    requires no_indices { length indices.old.items ≡ 0 }
-    ensures squares { OnOk result (length squares.new.items ≡ length codes.now) }
-    ensures indices { OnOk result (length indices.new.items ≡ length codes.now) }
-    ensures nearest { OnOk result ((colors : List (List ℕ))
-        → AreNumbered colors search.old.entries.items
-        → AreNearest colors codes.now squares.new.items indices.new.items) }
-{
     for code in codes {
         let near = search.nearest(*code)?;
         squares.push(near.squared)?;
         indices.push(near.index)?;
     }
-    Ok(())
+    let traversal = Traversal::of(alloc, codes, squares, indices)?;
+    Ok(traversal)
 }
 
 /// The sum of the products of counts and squared distances.

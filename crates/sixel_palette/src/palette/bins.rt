@@ -70,6 +70,10 @@ fn color_bins(alloc: Global, codes: &[u32], counts: &[u32]) -> Result<Vec<Bin>, 
 }
 
 /// The bins of colors by the six highest bits of each channel.
+///
+/// The codes rise, so the bins of one red come one after the other.
+#[tactic(auto, using(crate::proofs::refinement::Bins::bin_counts))]
+#[inline(never)]
 fn histogram(alloc: Global, codes: &[u32], counts: &[u32]) -> Result<Vec<Bin>, AllocError>
     requires small { AreColorCodes codes.now }
     requires ascending { IsStrictlyIncreasing codes.now }
@@ -82,38 +86,12 @@ fn histogram(alloc: Global, codes: &[u32], counts: &[u32]) -> Result<Vec<Bin>, A
 {
     let mut positions = vec![in alloc; 0; SLAB]?;
     let mut bins = Vec::new(alloc);
-    push_bins(&mut bins, &mut positions, codes, counts)?;
-    Ok(bins)
-}
-
-/// Appends the bins of the colors.
-///
-/// The codes rise, so the bins of one red come one after the other.
-#[tactic(auto, using(crate::proofs::refinement::Bins::bin_counts))]
-#[inline(never)]
-fn push_bins(
-    bins: &mut Vec<Bin>,
-    positions: &mut [usize],
-    codes: &[u32],
-    counts: &[u32],
-) -> Result<(), AllocError>
-    requires none { length bins.old.items ≡ 0 }
-    requires positions { length positions.old ≡ 4096 }
-    requires small { AreColorCodes codes.now }
-    requires ascending { IsStrictlyIncreasing codes.now }
-    requires weighed { IsWeighed codes.now counts.now }
-    ensures few { OnOk result (binned_pixels bins.new.items ≤ area_limit) }
-    ensures bins { OnOk result (AreBinsOf
-        (first_counted 4 codes.now counts.now (length codes.now)) (λ _. true) bins.new.items) }
-    ensures whole { OnOk result (All
-        (IsWholeBin (first_counted 4 codes.now counts.now (length codes.now))) bins.new.items) }
-{
     for index in 0..codes.len() {
         let color = color_of(codes[index]);
         let sums = ColorSums::of(color, counts[index]);
-        add_color(bins, positions, color, sums)?;
+        add_color(&mut bins, &mut positions, color, sums)?;
     }
-    Ok(())
+    Ok(bins)
 }
 
 /// Adds the pixels of a color to its bin.

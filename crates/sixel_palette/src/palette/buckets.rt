@@ -6,14 +6,12 @@
 //! C-24 (1975), 750-753.
 
 ghost use Rattle.std.specs.Prelude.{◌≡◌, ◌<◌, ◌≤◌, ◌*◌, ℕ, List, [], ◌∷◌, ◌++◌, length};
-ghost use Rattle.std.specs.Prelude.{All, IfOk, IsTrue, slice_index};
+ghost use Rattle.std.specs.Prelude.{IfOk, IsTrue, slice_index};
 ghost use Rattle.std.specs.Int.{abs_diff};
 ghost use Rattle.sixel_palette.specs.Palette.{distance};
 ghost use Rattle.sixel_palette.specs.inside.Nearest.{AreNearest};
-ghost use Rattle.sixel_palette.specs.inside.Buckets.{IsInInterval, IsInBox, IsBucket};
-ghost use Rattle.sixel_palette.specs.inside.Buckets.{AreBuckets};
-ghost use Rattle.sixel_palette.specs.inside.Buckets.{IsGreatestIn, IsFirstGreatest};
-ghost use Rattle.sixel_palette.specs.inside.Buckets.{channel};
+ghost use Rattle.sixel_palette.specs.inside.Buckets.{IsInInterval, IsInBox, IsBucket, AreBuckets};
+ghost use Rattle.sixel_palette.specs.inside.Buckets.{IsGreatestIn, IsFirstGreatest, channel};
 ghost use Rattle.sixel_palette.specs.inside.Codes.{AreColorCodes};
 
 use crate::palette::distance::wrapped_gap;

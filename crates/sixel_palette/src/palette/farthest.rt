@@ -5,7 +5,7 @@
 //! intercluster distance", Theoretical Computer Science 38 (1985), 293-306.
 
 ghost use Rattle.std.specs.Prelude.{◌≡◌, ◌<◌, ◌≤◌, min, ℕ, List, [], ◌∷◌, ◌++◌, length};
-ghost use Rattle.std.specs.Prelude.{All, IfOk, slice_index};
+ghost use Rattle.std.specs.Prelude.{IfOk, slice_index};
 ghost use Rattle.std.specs.List.Sorted.{IsStrictlyIncreasing};
 ghost use Rattle.sixel_palette.specs.Palette.{nearest, IsFarthest, IsFarthestFirst};
 ghost use Rattle.sixel_palette.specs.inside.Codes.{color_of, IsListed, AreColorCodes};
@@ -166,15 +166,6 @@ impl Traversal {
             indices,
             buckets,
         })
-    }
-
-    /// The farthest position.
-    pub fn farthest(&self, codes: &[u32]) -> usize
-        requires some { 0 < length codes.now }
-        requires whole { IsTraversal codes.now self.now }
-        ensures { IsFirstGreatest self.now.squares.items result }
-    {
-        farthest_of(codes, &self.squares, &self.buckets)
     }
 
     /// Relaxes the distances by one more entry, and returns the farthest position.

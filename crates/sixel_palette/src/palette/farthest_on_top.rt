@@ -1,6 +1,6 @@
 //! Entries on top of others, farthest first, with a certificate.
 
-ghost use Rattle.std.specs.Prelude.{◌≡◌, ◌<◌, ◌≤◌, ◌++◌, ◌∷◌, [], ℕ, List, length, All, IfOk, OnOk};
+ghost use Rattle.std.specs.Prelude.{◌≡◌, ◌<◌, ◌≤◌, ◌++◌, ◌∷◌, [], length, All, IfOk};
 ghost use Rattle.std.specs.List.Sorted.{IsStrictlyIncreasing};
 ghost use Rattle.sixel_palette.specs.Refined.{IsRegisterColor, AreOnTop};
 ghost use Rattle.sixel_palette.specs.inside.Codes.{AreColorCodes, IsListed};
@@ -8,6 +8,7 @@ ghost use Rattle.sixel_palette.specs.inside.Assignment.{IsAssignment};
 ghost use Rattle.sixel_palette.specs.inside.Traversal.{IsTraversal, HasRelaxed};
 
 use crate::palette::assignment::Assignment;
+use crate::palette::buckets::farthest_of;
 use crate::palette::colors::color_of;
 use crate::palette::farthest::Traversal;
 use crate::palette::nearest_entry::Entry;
@@ -53,39 +54,8 @@ pub fn add_farthest(
 {
     let mut colors = assignment.colors;
     let mut traversal = assignment.traversal;
-    let witnesses = push_farthest(alloc, codes, room, &mut colors, &mut traversal)?;
-    Ok(Topped {
-        colors,
-        witnesses,
-        traversal,
-    })
-}
-
-/// Appends entries for the farthest colors, and returns these and then the farthest color.
-fn push_farthest(
-    alloc: Global,
-    codes: &[u32],
-    room: usize,
-    colors: &mut Vec<[u8; 3]>,
-    traversal: &mut Traversal,
-) -> Result<Vec<[u8; 3]>, AllocError>
-    requires some { 0 < length codes.now }
-    requires ascending { IsStrictlyIncreasing codes.now }
-    requires small { AreColorCodes codes.now }
-    requires room { room ≤ 256 }
-    requires whole { IsTraversal codes.now traversal.old }
-    requires relaxed { HasRelaxed colors.old.items codes.now traversal.old }
-    requires few { length colors.old.items ≤ room }
-    requires shown { All IsRegisterColor colors.old.items }
-    ensures whole { OnOk result (IsTraversal codes.now traversal.new) }
-    ensures relaxed { OnOk result (HasRelaxed colors.new.items codes.now traversal.new) }
-    ensures few { OnOk result (length colors.new.items ≤ room) }
-    ensures shown { OnOk result (All IsRegisterColor colors.new.items) }
-    ensures top { IfOk result (λ witnesses. AreOnTop (IsListed codes.now) room colors.old.items
-        colors.new.items witnesses.items) }
-{
     let mut witnesses = Vec::new(alloc);
-    let mut farthest = traversal.farthest(codes);
+    let mut farthest = farthest_of(codes, &traversal.squares, &traversal.buckets);
     for index in colors.len()..room {
         if traversal.squares[farthest] <= NEAR_ENOUGH {
             break;
@@ -99,8 +69,11 @@ fn push_farthest(
         witnesses.push(color)?;
         colors.push(entry.color)?;
     }
-    let all = with_farthest(witnesses, color_of(codes[farthest]))?;
-    Ok(all)
+    Ok(Topped {
+        colors,
+        witnesses: with_farthest(witnesses, color_of(codes[farthest]))?,
+        traversal,
+    })
 }
 
 /// Adds the farthest color to the witnesses, if there are any.

@@ -3,16 +3,16 @@
 //! X. Wu, "Color quantization by dynamic programming and principal analysis", ACM Transactions on
 //! Graphics 11 (1992), 348-372, cuts boxes in this way.
 
-ghost use Rattle.std.specs.Prelude.{◌≡◌, ◌+◌, ◌-◌, ◌*◌, ◌/◌, ◌%◌, ◌<◌, ◌≤◌, ℕ, List, true, length};
-ghost use Rattle.std.specs.Prelude.{All, IfOk, OnOk, slice_index, slice_index_or, take, drop};
+ghost use Rattle.std.specs.Prelude.{◌≡◌, ◌+◌, ◌-◌, ◌/◌, ◌%◌, ◌<◌, ◌≤◌, ℕ, List, true, length};
+ghost use Rattle.std.specs.Prelude.{All, IfOk, OnOk, slice_index_or, take, drop};
 ghost use Rattle.std.specs.List.{sum_by};
 ghost use Rattle.std.specs.List.Sorted.{IsPermutation};
 ghost use Rattle.sixel_base.specs.Limits.{area_limit};
 ghost use Rattle.sixel_palette.specs.declared.palette.bins.Bin.{Bin};
 ghost use Rattle.sixel_palette.specs.Refined.{IsRegisterColor};
-ghost use Rattle.sixel_palette.specs.inside.Boxes.{AreRanges, AreWithin, binned_pixels};
-ghost use Rattle.sixel_palette.specs.inside.Boxes.{high_part, low_part, range_of};
-ghost use Rattle.sixel_palette.specs.inside.Boxes.{summed_pixels};
+ghost use Rattle.sixel_palette.specs.inside.Boxes.{AreRanges, AreWithin, binned_pixels, high_part};
+ghost use Rattle.sixel_palette.specs.inside.Boxes.{low_part, range_of, summed_pixels, AreBoxes};
+ghost use Rattle.sixel_palette.specs.inside.Boxes.{AreGains};
 ghost use Rattle.sixel_base.specs.Color.{rgb};
 ghost use Rattle.sixel_palette.specs.ColorSums.{Pixels, mean_or};
 ghost use Rattle.sixel_palette.specs.GainCut.{Box, best_along, best_cut, best_to, box_at};
@@ -20,9 +20,7 @@ ghost use Rattle.sixel_palette.specs.GainCut.{box_colors, box_sums, boxes_after}
 ghost use Rattle.sixel_palette.specs.GainCut.{cut_at, first_greatest, is_final, side};
 ghost use Rattle.sixel_palette.specs.declared.palette.gain_cut.ColorBox.{ColorBox};
 ghost use Rattle.sixel_palette.specs.declared.palette.color_sums.ColorSums.{ColorSums};
-ghost use Rattle.sixel_palette.specs.inside.Boxes.{AreBoxes, AreGains};
-ghost use Rattle.sixel_palette.specs.inside.Sums.{AreBinsOf, prefix_sums, suffix_sums};
-ghost use Rattle.sixel_palette.specs.inside.Sums.{total};
+ghost use Rattle.sixel_palette.specs.inside.Sums.{AreBinsOf, prefix_sums, suffix_sums, total};
 
 use crate::palette::bins::Bin;
 use crate::palette::color_sums::ColorSums;
@@ -63,7 +61,7 @@ enum Channel {
     Blue,
 }
 
-/// The bins in boxes, at most `room`. The bins are reordered.
+/// The bins in boxes, cut until there are `room` or no cut gains. The bins are reordered.
 pub fn boxes_of(alloc: Global, bins: &mut [Bin], room: usize) -> Result<Vec<ColorBox>, AllocError>
     requires room { 0 < room }
     requires few { binned_pixels bins.old ≤ area_limit }
@@ -78,7 +76,14 @@ pub fn boxes_of(alloc: Global, bins: &mut [Bin], room: usize) -> Result<Vec<Colo
     let mut lower = [ColorSums::none(); SIDES];
     let mut upper = [ColorSums::none(); SIDES];
     let mut boxes = Vec::with_capacity(alloc, room)?;
-    push_boxes(bins, &mut boxes, room, &mut lower, &mut upper)?;
+    boxes.push(box_of(bins, 0, bins.len(), &mut lower, &mut upper))?;
+    for _count in 1..room {
+        let best = best_of(&boxes);
+        if boxes[best].cut.gain == 0 {
+            break;
+        }
+        cut_in_two(bins, &mut boxes, best, &mut lower, &mut upper)?;
+    }
     Ok(boxes)
 }
 
@@ -125,37 +130,6 @@ pub fn is_final(boxes: &[ColorBox]) -> bool
         → AreBoxes pixels bins boxes.now model → result ≡ is_final pixels model }
 {
     boxes[best_of(boxes)].cut.gain == 0
-}
-
-/// Appends the box of all bins, and cuts boxes until there are `room` or no cut gains.
-fn push_boxes(
-    bins: &mut [Bin],
-    boxes: &mut Vec<ColorBox>,
-    room: usize,
-    lower: &mut [ColorSums],
-    upper: &mut [ColorSums],
-) -> Result<(), AllocError>
-    requires room { 0 < room }
-    requires none { length boxes.old.items ≡ 0 }
-    requires few { binned_pixels bins.old ≤ area_limit }
-    requires lower { length lower.old ≡ 256 }
-    requires upper { length upper.old ≡ 256 }
-    ensures room { OnOk result (length boxes.new.items ≤ room) }
-    ensures some { OnOk result (0 < length boxes.new.items) }
-    ensures ranges { OnOk result (AreRanges (length bins.new) boxes.new.items) }
-    ensures moved { OnOk result (IsPermutation bins.old bins.new) }
-    ensures boxes { OnOk result ((pixels : Pixels) → AreBinsOf pixels (λ _. true) bins.old
-        → AreBoxes pixels bins.new boxes.new.items (boxes_after pixels (room - 1))) }
-{
-    boxes.push(box_of(bins, 0, bins.len(), lower, upper))?;
-    for _count in 1..room {
-        let best = best_of(boxes);
-        if boxes[best].cut.gain == 0 {
-            break;
-        }
-        cut_in_two(bins, boxes, best, lower, upper)?;
-    }
-    Ok(())
 }
 
 /// Cuts a box in two, and appends the second part.

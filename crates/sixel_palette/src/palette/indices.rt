@@ -4,8 +4,7 @@ ghost use Rattle.std.specs.Prelude.{◌≡◌, ℕ, ◌+◌, ◌*◌, ◌/◌, �
 ghost use Rattle.std.specs.Prelude.{slice_index, Contains, IfOk};
 ghost use Rattle.sixel_palette.specs.Palette.{nearest, IsShown, AreIndices, no_entry};
 ghost use Rattle.sixel_palette.specs.inside.Codes.{color_of, IsPixelWord};
-ghost use Rattle.sixel_palette.specs.inside.Nearest.{AreNearest, IsIndexOf};
-ghost use Rattle.sixel_palette.specs.inside.Nearest.{IsIndex, AreIndicesTo};
+ghost use Rattle.sixel_palette.specs.inside.Nearest.{AreNearest, IsIndexOf, IsIndex, AreIndicesTo};
 ghost use Rattle.sixel_palette.specs.inside.LookUp.{HasColorsOf, FindsNearest};
 ghost use Rattle.sixel_palette.specs.inside.Ranks.{IsColorSet, IsColorSetOf};
 
@@ -115,7 +114,7 @@ fn fill_pixel(
         → AreIndicesTo pixels.now entries (pixel + 1) indices.new }
 {
     let index = look_up.index_of(word);
-    fill_one(indices, pixels, pixel, index);
+    indices[pixel] = index;
     index
 }
 
@@ -131,17 +130,4 @@ fn fill_four_with(indices: &mut [u8], pixels: &[u8], pixel: usize, four: [u8; 4]
         → AreIndicesTo pixels.now entries (pixel + 4) indices.new }
 {
     u8x4::from_array(four).copy_to_slice(&mut indices[pixel..]);
-}
-
-/// Stores a pixel's palette index, after those of the pixels before it.
-#[inline(always)]
-fn fill_one(indices: &mut [u8], pixels: &[u8], pixel: usize, index: u8)
-    requires size { length indices.old ≡ length pixels.now / 4 }
-    requires within { pixel < length pixels.now / 4 }
-    ensures size { length indices.new ≡ length pixels.now / 4 }
-    ensures indices { (entries : List (List ℕ)) → IsIndex pixels.now entries pixel index
-        → AreIndicesTo pixels.now entries pixel indices.old
-        → AreIndicesTo pixels.now entries (pixel + 1) indices.new }
-{
-    indices[pixel] = index;
 }

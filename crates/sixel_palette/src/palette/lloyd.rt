@@ -3,7 +3,7 @@
 //! S. P. Lloyd, "Least squares quantization in PCM", IEEE Transactions on Information Theory 28
 //! (1982), 129-137. Here all pixels of a bin have the entry that is nearest to their mean.
 
-ghost use Rattle.std.specs.Prelude.{◌≡◌, ◌<◌, ◌≤◌, ℕ, List, [], true, length, All, IfOk};
+ghost use Rattle.std.specs.Prelude.{◌≡◌, ◌<◌, ◌≤◌, ℕ, [], true, length, All, IfOk};
 ghost use Rattle.std.specs.Prelude.{slice_index, slice_index_or};
 ghost use Rattle.sixel_base.specs.Limits.{area_limit};
 ghost use Rattle.sixel_palette.specs.declared.palette.bins.Bin.{Bin};

@@ -6,14 +6,12 @@
 
 ghost use Rattle.std.specs.Prelude.{◌≡◌, ◌+◌, ◌*◌, ◌/◌, ◌%◌, ◌<◌, ◌≤◌, ℕ, List, [], length};
 ghost use Rattle.sixel_palette.specs.declared.palette.nearest_entry.Entry.{Entry};
-ghost use Rattle.std.specs.Prelude.{IfOk, OnOk, slice_index};
-ghost use Rattle.sixel_palette.specs.Palette.{IsNearest, distance, nearest};
-ghost use Rattle.sixel_palette.specs.inside.Buckets.{IsInInterval};
+ghost use Rattle.std.specs.Prelude.{IfOk, OnOk};
+ghost use Rattle.sixel_palette.specs.Palette.{IsNearest, nearest};
 ghost use Rattle.sixel_palette.specs.inside.Codes.{color_of, code_count};
 ghost use Rattle.sixel_palette.specs.inside.Nearest.{IsNearestEntry};
-ghost use Rattle.sixel_palette.specs.inside.Keys.{least_key, IsInCube};
-ghost use Rattle.sixel_palette.specs.inside.Keys.{Appends, AreNumbered, HasNearest};
-ghost use Rattle.sixel_palette.specs.inside.Keys.{AreLists, IsSearch, IsSearchOf};
+ghost use Rattle.sixel_palette.specs.inside.Keys.{least_key, IsInCube, Appends, AreNumbered};
+ghost use Rattle.sixel_palette.specs.inside.Keys.{HasNearest, AreLists, IsSearch, IsSearchOf};
 ghost use Rattle.sixel_palette.specs.inside.Keys.{cube_position, group_position};
 
 mod cube;
@@ -60,7 +58,13 @@ impl Search {
         ensures { IfOk result (IsSearchOf colors.now) }
     {
         color_bytes(colors);
-        let entries = numbered(alloc, colors)?;
+        let mut entries = Vec::with_capacity(alloc, colors.len())?;
+        for index in 0..colors.len() {
+            entries.push(Entry {
+                color: colors[index],
+                index: index as u8,
+            })?;
+        }
         let groups = Lists::new(alloc, GROUPS)?;
         let cubes = Lists::new(alloc, CUBES)?;
         Ok(Search {
@@ -201,21 +205,6 @@ impl Lists {
         self.spans[position] = span;
         Ok(span)
     }
-}
-
-/// The entries of the colors, numbered from 0 on.
-fn numbered(alloc: Global, colors: &[[u8; 3]]) -> Result<Vec<Entry>, AllocError>
-    requires { length colors.now ≤ 256 }
-    ensures { IfOk result (λ entries. AreNumbered colors.now entries.items) }
-{
-    let mut entries = Vec::with_capacity(alloc, colors.len())?;
-    for index in 0..colors.len() {
-        entries.push(Entry {
-            color: colors[index],
-            index: index as u8,
-        })?;
-    }
-    Ok(entries)
 }
 
 /// The position of the cube of a code.

@@ -1,18 +1,16 @@
 //! The refined palette of an image: register colors with a small summed error.
 
-ghost use Rattle.std.specs.Prelude.{◌≡◌, ◌≢◌, ◌-◌, ◌%◌, ◌<◌, ◌≤◌, ◌/◌, ℕ, List, true, map, length};
+ghost use Rattle.std.specs.Prelude.{◌≡◌, ◌≢◌, ◌-◌, ◌%◌, ◌<◌, ◌≤◌, ◌/◌, true, map, length};
 ghost use Rattle.std.specs.Prelude.{All, Some, None, OnOk, IfOk, MatchResult};
 ghost use Rattle.std.specs.List.Sorted.{IsStrictlyIncreasing};
 ghost use Rattle.sixel_base.specs.Limits.{area_limit};
 ghost use Rattle.sixel_base.specs.CallFault.{FailsBy, ColorCount, color_count_fault};
 ghost use Rattle.sixel_base.specs.Fault.{IsFault, TooLarge};
 ghost use Rattle.sixel_palette.specs.PaletteBound.{IsLeastApart};
-ghost use Rattle.sixel_palette.specs.Palette.{AreIndices};
 ghost use Rattle.sixel_palette.specs.Refined.{IsRegisterColor, register_color, IsRefined};
 ghost use Rattle.sixel_palette.specs.inside.Assignment.{IsStart, IsWeighed};
 ghost use Rattle.sixel_palette.specs.inside.Boxes.{binned_pixels};
 ghost use Rattle.sixel_palette.specs.inside.Sums.{AreBinsOf, IsWholeBin, counted_pixels};
-ghost use Rattle.sixel_palette.specs.inside.Counts.{counted_error};
 ghost use Rattle.sixel_palette.specs.inside.Codes.{color_of, AreColorCodes};
 ghost use Rattle.sixel_palette.specs.inside.Refinement.{AreRefinedEntries, IsRefinement};
 
@@ -92,7 +90,8 @@ pub struct Start {
 /// the colors are cut into boxes, one after the other where the summed squared error falls most.
 /// Two rounds of Lloyd's algorithm move the entries if that lowers the error. With more than 4,096
 /// colors, cuts and rounds take those together whose channels have the same six highest bits. At
-/// last come entries farthest first, `max_colors / 16` or more.
+/// least `max_colors / 16` entries are left then. They come farthest first, until no color has a
+/// squared distance above 6 to its nearest entry.
 ///
 /// The witnesses certify these: no list of fewer colors than there are witnesses, whatever they
 /// are, has an entry nearer to each witness than by a fourth of `apart`.
@@ -126,23 +125,9 @@ pub fn refine_palette(alloc: Global, pixels: &[u8], max_colors: u16) -> Result<R
     if pixels.len() / 4 > MAX_AREA {
         return Err(SixelError::too_large());
     }
-    Ok(refined_of(alloc, pixels, usize::from(max_colors))?)
-}
-
-/// The refined palette of whole pixels, of at most `room` entries.
-fn refined_of(
-    alloc: Global,
-    pixels: &[u8],
-    room: usize,
-) -> std::result::Result<RefinedPalette, AllocError>
-    requires area { length pixels.now / 4 ≤ area_limit }
-    requires some { 0 < room }
-    requires room { room ≤ 256 }
-    ensures { IfOk result (IsRefined pixels.now room) }
-{
-    let refinement = Refinement::of(alloc, pixels, room, 0)?;
-    let indices = refinement.indices(alloc, pixels)?;
-    let entries = refinement.entries;
+    let refinement = Refinement::of(alloc, pixels, usize::from(max_colors), 0)?;
+    let Refinement { entries, colors } = refinement;
+    let indices = indices_of(alloc, pixels, &colors, &entries.indices)?;
     Ok(RefinedPalette {
         colors: entries.colors,
         indices,
@@ -172,15 +157,6 @@ impl Refinement {
         let entries = refined.spread(alloc, &colors.codes, &counts, amount)?;
         Ok(Refinement { entries, colors })
     }
-
-    /// The palette index of each pixel's nearest entry, the first of equals.
-    pub fn indices(&self, alloc: Global, pixels: &[u8]) -> std::result::Result<Vec<u8>, AllocError>
-        requires { (room amount : ℕ) × IsRefinement pixels.now room amount self.now }
-        ensures { IfOk result
-            (λ indices. AreIndices pixels.now self.now.entries.colors.items indices.items) }
-    {
-        indices_of(alloc, pixels, &self.colors, &self.entries.indices)
-    }
 }
 
 /// The entries for the codes of an image's colors and their counts.
@@ -198,7 +174,16 @@ fn refined_entries(
     ensures { IfOk result (AreRefinedEntries codes.now counts.now room) }
 {
     if codes.is_empty() {
-        return Ok(no_entries(alloc));
+        return Ok(RefinedEntries {
+            colors: Vec::new(alloc),
+            indices: Vec::new(alloc),
+            error: 0,
+            opaque: 0,
+            is_flat: true,
+            initial: Vec::new(alloc),
+            witnesses: Vec::new(alloc),
+            apart: 0,
+        });
     }
     let start = start_of(alloc, codes, counts, room)?;
     let topped = add_farthest(alloc, codes, start.assignment, room)?;
@@ -219,23 +204,6 @@ fn refined_entries(
     })
 }
 
-/// The entries for an image without an opaque pixel.
-fn no_entries(alloc: Global) -> RefinedEntries
-    ensures { (codes counts : List ℕ) (room : ℕ) → length codes ≡ 0 → length counts ≡ 0
-        → AreRefinedEntries codes counts room result }
-{
-    RefinedEntries {
-        colors: Vec::new(alloc),
-        indices: Vec::new(alloc),
-        error: 0,
-        opaque: 0,
-        is_flat: true,
-        initial: Vec::new(alloc),
-        witnesses: Vec::new(alloc),
-        apart: 0,
-    }
-}
-
 /// The entries to begin with: one for each color if there is room, or those of a gain cut.
 fn start_of(
     alloc: Global,
@@ -251,30 +219,16 @@ fn start_of(
     ensures { IfOk result (IsStart codes.now counts.now room) }
 {
     if codes.len() > room {
-        cut_start(alloc, codes, counts, room)
-    } else {
-        whole_start(alloc, codes, counts)
+        let mut bins = bins_of(alloc, codes, counts)?;
+        let start = start_of_bins(alloc, codes, counts, &mut bins, room)?;
+        return Ok(start);
     }
-}
-
-/// The entries of a gain cut, moved by the rounds.
-fn cut_start(
-    alloc: Global,
-    codes: &[u32],
-    counts: &[u32],
-    room: usize,
-) -> std::result::Result<Start, AllocError>
-    requires some { 0 < room }
-    requires room { room ≤ 256 }
-    requires many { room < length codes.now }
-    requires ascending { IsStrictlyIncreasing codes.now }
-    requires small { AreColorCodes codes.now }
-    requires weighed { IsWeighed codes.now counts.now }
-    ensures { IfOk result (IsStart codes.now counts.now room) }
-{
-    let mut bins = bins_of(alloc, codes, counts)?;
-    let start = start_of_bins(alloc, codes, counts, &mut bins, room)?;
-    Ok(start)
+    let initial = register_colors(alloc, codes)?;
+    let assignment = assign(alloc, codes, counts, &initial)?;
+    Ok(Start {
+        initial,
+        assignment,
+    })
 }
 
 /// The entries of a gain cut of bins, moved by the rounds. The bins are reordered.
@@ -304,26 +258,6 @@ fn start_of_bins(
     } else {
         improve(alloc, codes, counts, bins, &initial)?
     };
-    Ok(Start {
-        initial,
-        assignment,
-    })
-}
-
-/// An entry for each color.
-fn whole_start(
-    alloc: Global,
-    codes: &[u32],
-    counts: &[u32],
-) -> std::result::Result<Start, AllocError>
-    requires few { length codes.now ≤ 256 }
-    requires small { AreColorCodes codes.now }
-    requires weighed { IsWeighed codes.now counts.now }
-    ensures { IfOk result (λ start. (room : ℕ) → length codes.now ≤ room
-        → IsStart codes.now counts.now room start) }
-{
-    let initial = register_colors(alloc, codes)?;
-    let assignment = assign(alloc, codes, counts, &initial)?;
     Ok(Start {
         initial,
         assignment,

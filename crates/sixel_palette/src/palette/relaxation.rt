@@ -4,8 +4,7 @@ ghost use Rattle.std.specs.Prelude.{◌≡◌, ◌⊎◌, ◌<◌, ◌≤◌, �
 ghost use Rattle.std.specs.Prelude.{slice_index};
 ghost use Rattle.sixel_palette.specs.Palette.{distance};
 ghost use Rattle.sixel_palette.specs.inside.Nearest.{IsNearestEntry, nearest_at};
-ghost use Rattle.sixel_palette.specs.inside.Buckets.{AreNearestIn, IsSameOutside};
-ghost use Rattle.sixel_palette.specs.inside.Buckets.{IsGreatestIn};
+ghost use Rattle.sixel_palette.specs.inside.Buckets.{AreNearestIn, IsSameOutside, IsGreatestIn};
 ghost use Rattle.sixel_palette.specs.inside.Codes.{color_of, AreColorCodes};
 
 use crate::palette::buckets::BUCKET;
@@ -17,7 +16,9 @@ use std::simd::prelude::*;
 const LANES: usize = 8;
 
 /// Relaxes a bucket's distances by one more entry, and returns the greatest of them.
-#[inline(always)]
+///
+/// The last bucket is relaxed color by color, because it may have fewer than 64.
+#[inline(never)]
 pub fn relax_bucket(
     codes: &[u32],
     squares: &mut [u32],
@@ -36,32 +37,9 @@ pub fn relax_bucket(
     ensures indices { IsSameOutside bucket indices.old indices.new }
     ensures greatest { IsGreatestIn codes.now squares.new bucket result }
 {
-    if codes.len() - BUCKET * bucket < BUCKET {
-        return relax_last_bucket(codes, squares, indices, bucket, entry);
+    if codes.len() - BUCKET * bucket >= BUCKET {
+        return relax_whole_bucket(codes, squares, indices, bucket, entry);
     }
-    relax_whole_bucket(codes, squares, indices, bucket, entry)
-}
-
-/// Relaxes the distances of a bucket color by color, because it may have fewer than 64.
-#[inline(never)]
-fn relax_last_bucket(
-    codes: &[u32],
-    squares: &mut [u32],
-    indices: &mut [u8],
-    bucket: usize,
-    entry: Entry,
-) -> u32
-    requires some { 64 * bucket < length codes.now }
-    requires small { AreColorCodes codes.now }
-    requires squares { length squares.old ≡ length codes.now }
-    requires indices { length indices.old ≡ length codes.now }
-    ensures near { (entries : List (List ℕ)) → length entries ≡ entry.index
-        → AreNearestIn entries codes.now squares.old indices.old bucket
-        → AreNearestIn (entries ++ entry.color ∷ []) codes.now squares.new indices.new bucket }
-    ensures squares { IsSameOutside bucket squares.old squares.new }
-    ensures indices { IsSameOutside bucket indices.old indices.new }
-    ensures greatest { IsGreatestIn codes.now squares.new bucket result }
-{
     let start = BUCKET * bucket;
     let end = codes.len().min(start + BUCKET);
     let mut greatest = 0;

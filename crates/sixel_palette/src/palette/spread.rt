@@ -1,19 +1,15 @@
 //! Entries of a refined palette moved away from the mean color of an image, for error diffusion.
 
-ghost use Rattle.std.specs.Prelude.{◌≡◌, ◌≤◌, ℕ, List, IfOk, length, map};
-ghost use Rattle.std.specs.Prelude.{slice_index};
+ghost use Rattle.std.specs.Prelude.{◌≡◌, ◌≤◌, ℕ, List, IfOk, length, map, slice_index};
 ghost use Rattle.std.specs.List.{sum};
 ghost use Rattle.sixel_base.specs.Limits.{area_limit};
 ghost use Rattle.sixel_palette.specs.ColorSums.{share};
-ghost use Rattle.sixel_palette.specs.Lloyd.{mean_bytes};
 ghost use Rattle.sixel_palette.specs.Refined.{sum_to};
 ghost use Rattle.sixel_palette.specs.Spread.{is_flat, spread_amount, spread_channel, spread_color};
-ghost use Rattle.sixel_palette.specs.inside.Assignment.{IsAssignment, IsWeighed};
+ghost use Rattle.sixel_palette.specs.inside.Assignment.{IsWeighed};
 ghost use Rattle.sixel_palette.specs.inside.Codes.{AreColorCodes};
-ghost use Rattle.sixel_palette.specs.inside.Counts.{counted_error};
 ghost use Rattle.sixel_palette.specs.inside.Nearest.{AreNearest};
-ghost use Rattle.sixel_palette.specs.inside.Refinement.{AreRefinedEntries};
-ghost use Rattle.sixel_palette.specs.inside.Refinement.{AreSpreadEntries};
+ghost use Rattle.sixel_palette.specs.inside.Refinement.{AreRefinedEntries, AreSpreadEntries};
 ghost use Rattle.sixel_palette.specs.inside.Refinement.{near_count};
 ghost use Rattle.sixel_palette.specs.inside.Sums.{counted_pixels, total};
 
@@ -100,12 +96,16 @@ impl RefinedEntries {
         if amount == 0 || self.is_flat {
             return Ok(self);
         }
-        let spread = spread_assignment(alloc, codes, counts, &self.colors, amount)?;
+        let mean = color_of(sums_of(codes, counts).mean_code());
+        let mut spread = Vec::with_capacity(alloc, self.colors.len())?;
+        spread.extend_from_slice(&self.colors)?;
+        spread_colors(&mut spread, mean, amount);
+        let assignment = assign(alloc, codes, counts, &spread)?;
         let Assignment {
             colors,
             traversal,
             error,
-        } = spread;
+        } = assignment;
         Ok(RefinedEntries {
             colors,
             indices: traversal.indices,
@@ -113,31 +113,6 @@ impl RefinedEntries {
             ..self
         })
     }
-}
-
-/// Moves entries away from the mean color, and assigns each color to its nearest one then.
-fn spread_assignment(
-    alloc: Global,
-    codes: &[u32],
-    counts: &[u32],
-    entries: &[[u8; 3]],
-    amount: u8,
-) -> Result<Assignment, AllocError>
-    requires small { AreColorCodes codes.now }
-    requires weighed { IsWeighed codes.now counts.now }
-    requires few { length entries.now ≤ 256 }
-    ensures colors { IfOk result (λ a. a.colors.items ≡ map (spread_color amount
-        (mean_bytes (λ k. (counted_pixels codes.now counts.now).sum (share k)))) entries.now) }
-    ensures assignment { IfOk result (IsAssignment codes.now) }
-    ensures error { IfOk result (λ a.
-        a.error ≡ counted_error a.colors.items codes.now counts.now) }
-{
-    let mean = color_of(sums_of(codes, counts).mean_code());
-    let mut colors = Vec::with_capacity(alloc, entries.len())?;
-    colors.extend_from_slice(entries)?;
-    spread_colors(&mut colors, mean, amount);
-    let assignment = assign(alloc, codes, counts, &colors)?;
-    Ok(assignment)
 }
 
 /// The sums of the pixels of all colors.

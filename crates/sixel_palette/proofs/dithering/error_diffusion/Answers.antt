@@ -2,9 +2,6 @@ use Rattle.std.proofs.Common.{arith, ◌+◌, ◌-◌, ◌*◌, ◌≤◌}
 use Rattle.std.proofs.lemmas.Bool.Decides.{nat_tests}
 use Rattle.sixel_palette.proofs.dithering.error_diffusion.Goals as goal
 
-pub returns-clause-shares : goal.returns-clause-shares
-returns-clause-shares c = λ error. omega arith
-
 -- what is passed on is at most 510 sixteenths an eighth away from nothing
 pub returns-clause-bounded : goal.returns-clause-bounded
 returns-clause-bounded c = λ strength value entry small byte.
@@ -12,6 +9,3 @@ returns-clause-bounded c = λ strength value entry small byte.
     let low : 16 * strength ≤ gap * strength = grind (arith, nat_tests) in
     let high : gap * strength ≤ 8176 * strength = grind (arith, nat_tests) in
     (omega (arith, low), omega (arith, high))
-
-pub returns-clause-transparent : goal.returns-clause-transparent
-returns-clause-transparent c = grind (arith, nat_tests)

@@ -44,5 +44,4 @@ pub returns-clause-spread : goal.returns-clause-spread
 returns-clause-spread c =
     rw c.spread_amount-amount.ensures at
     (refinement-some c.args.pixels.now c.args.room _ c.in_ok-refinement.refinement
-    (λ k. omega (arith, c.type_inv.pixels k)) c.in_ok-refinement.ensures
-    c.in_ok-indices.indices (returns-clause-count c))
+    c.in_ok-refinement.ensures c.in_ok-indices.indices (returns-clause-count c))

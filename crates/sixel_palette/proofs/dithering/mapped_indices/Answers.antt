@@ -18,9 +18,6 @@ returns-in_ok-nearest-in-Off c =
     (rw c.in_ok-tolerance.ensures at have))
     c.chosen_indices.ensures
 
-pub returns-in-Ordered : goal.returns-in-Ordered
-returns-in-Ordered c = grind (arith, nat_tests)
-
 pub returns-in-Diffusion : goal.returns-in-Diffusion
 returns-in-Diffusion c =
     let image = c.args.image.now in
@@ -40,6 +37,3 @@ returns-in-Diffusion c =
       nat_tests,
     )))) exact are))
     c.indices-in-Diffusion.ensures
-
-pub returns-in-Diffusion-2 : goal.returns-in-Diffusion-2
-returns-in-Diffusion-2 c = grind (arith, nat_tests)

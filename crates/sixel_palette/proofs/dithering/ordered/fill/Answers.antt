@@ -9,7 +9,7 @@ pub loop-pixel-preserved : goal.loop-pixel-preserved
 unfolding joined
 loop-pixel-preserved c =
     let n = c.loop-pixel.pixel in
-    let f = moved_pixel c.args.amplitude c.args.width c.args.pixels.now in
+    let f = moved_pixel c.args.amplitude c.args.shift c.args.width c.args.pixels.now in
     let own : c.copy_from_slice.new.self ≡ f n =
     rw (
       c.copy_from_slice.ensures.after,

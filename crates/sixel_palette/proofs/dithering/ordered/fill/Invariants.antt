@@ -7,5 +7,6 @@ use Rattle.sixel_palette.proofs.dithering.ordered.fill.Given as goal
 -- the pixels so far
 abbrev pub invariant-loop-pixel : goal.invariant-loop-pixel
 invariant-loop-pixel l =
-    (take (4 * l.pixel) l.moved ≡ joined (moved_pixel l.amplitude l.width l.pixels) l.pixel)
+    (take (4 * l.pixel) l.moved
+    ≡ joined (moved_pixel l.amplitude l.shift l.width l.pixels) l.pixel)
     × (length l.moved ≡ 4 * (length l.pixels / 4))

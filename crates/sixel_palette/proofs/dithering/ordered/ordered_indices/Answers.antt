@@ -1,4 +1,4 @@
-use Rattle.std.proofs.Common.{List, ℕ, arith, subst, ◌∙◌}
+use Rattle.std.proofs.Common.{List, ℕ, arith, refl, subst, ◌∙◌}
 use Rattle.std.specs.Prelude.{IfOk}
 use Rattle.sixel_palette.specs.Dithering.{HaveChoice, with_pixels}
 use Rattle.sixel_palette.specs.inside.Mapped.{mapped_value}
@@ -17,4 +17,5 @@ returns c =
     (λ (pixels : List ℕ).
     IfOk c.chosen_indices.result (λ chosen.
     HaveChoice (with_pixels (mapped_value c.args.image.now) pixels) chosen.items))
-    (c.deref.ensures.value ∙ c.in_ok-moved.ensures) c.chosen_indices.ensures
+    (c.deref.ensures.value ∙ c.in_ok-moved.ensures ∙ rw c.shift_of-shift.ensures.value refl)
+    c.chosen_indices.ensures

@@ -15,6 +15,3 @@ loop-pixel-preserved c =
     let near = c.requires in
     let opaque = c.is_opaque.ensures.opaque in
     grind (arith, nat_tests, near.opaque, sum_to-more, nearest-distance, number-light)
-
-pub returns : goal.returns
-returns c = grind (arith, nat_tests)

@@ -19,6 +19,3 @@ loop-pixel-preserved c =
       | then-is_opaque w ↦ grind (arith, nat_tests)
       | else-is_opaque w ↦ grind (arith, nat_tests)
     ]
-
-pub returns : goal.returns
-returns c = grind (arith, nat_tests)

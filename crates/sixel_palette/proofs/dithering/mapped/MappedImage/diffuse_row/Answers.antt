@@ -1,9 +1,8 @@
 use Rattle.std.proofs.Common.{◌≡◌, ◌+◌, ◌*◌, [], get_or, ap, refl, sym, ◌∙◌, arith}
 use Rattle.std.proofs.lemmas.Nat.{mod-mul-add}
 use Rattle.sixel_palette.specs.declared.dithering.diffusion.Neighbors.{Neighbors}
-use Rattle.sixel_palette.specs.Dithering.{column_of_step, error_above, error_back}
+use Rattle.sixel_palette.specs.Dithering.{column_of_step, error_above, error_back, errors_of}
 use Rattle.sixel_palette.specs.Palette.{entry_of}
-use Rattle.sixel_palette.specs.Dithering.{errors_of}
 use Rattle.sixel_palette.specs.inside.Diffusion.{channels}
 use Rattle.sixel_palette.specs.inside.Mapped.{mapped_value}
 use Rattle.sixel_palette.proofs.mapped_images.DiffusionVisit.{AreErrors-beyond}

@@ -2,8 +2,7 @@ use Rattle.std.proofs.Common.{◌≡◌, ℕ, ◌+◌, ◌*◌, ◌<◌, length}
 use Rattle.std.specs.Prelude.{◌/◌, Some}
 use Rattle.sixel_palette.specs.Dithering.{AreVisited, entry_before, error_before, error_behind}
 use Rattle.sixel_palette.specs.Dithering.{errors_of}
-use Rattle.sixel_palette.specs.inside.Diffusion.{AreErrors, ArePrepared, IsLine}
-use Rattle.sixel_palette.specs.inside.Diffusion.{channels}
+use Rattle.sixel_palette.specs.inside.Diffusion.{AreErrors, ArePrepared, IsLine, channels}
 use Rattle.sixel_palette.specs.inside.Mapped.{AreEntries, mapped_value}
 use Rattle.sixel_palette.proofs.dithering.mapped.MappedImage.diffuse_row.Given as goal
 

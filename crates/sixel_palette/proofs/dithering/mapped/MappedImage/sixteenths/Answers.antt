@@ -1,9 +1,8 @@
 use Rattle.std.proofs.Common.{◌<◌, ◌≤◌, ℕ, ◌*◌, ◌+◌, ◌-◌, ◌∙◌, arith}
 use Rattle.std.specs.Prelude.{slice_index}
 use Rattle.sixel_palette.proofs.mapped_images.DiffusionLanes.{channels-rounded, lanes, lanes-max}
-use Rattle.sixel_palette.proofs.mapped_images.DiffusionLanes.{lanes-minus}
-use Rattle.sixel_palette.proofs.mapped_images.DiffusionLanes.{lanes-plus, lanes-saturating}
-use Rattle.sixel_palette.proofs.mapped_images.DiffusionLanes.{lanes-splat}
+use Rattle.sixel_palette.proofs.mapped_images.DiffusionLanes.{lanes-minus, lanes-plus}
+use Rattle.sixel_palette.proofs.mapped_images.DiffusionLanes.{lanes-saturating, lanes-splat}
 use Rattle.sixel_palette.proofs.mapped_images.DiffusionLanes.{lanes-times, small-lanes}
 use Rattle.sixel_palette.proofs.dithering.mapped.MappedImage.sixteenths.Goals as goal
 

@@ -8,7 +8,7 @@ use Rattle.sixel_palette.proofs.palette.nearest.Search.new.Goals as goal
 pub returns : goal.returns
 returns c =
     let colors = c.args.colors.now in
-    let entries = c.in_ok-entries.entries.items in
+    let entries = c.loop-index.entries.items in
     record {
       lists = record {
         group_count = c.in_ok-groups.ensures.size;
@@ -16,7 +16,11 @@ returns c =
         groups = c.in_ok-groups.ensures.lists group_position entries;
         cubes = c.in_ok-cubes.ensures.lists cube_position entries;
       };
-      numbered = c.in_ok-entries.ensures;
+      numbered = record {
+        few = c.requires;
+        size = omega (arith, c.loop-index.invariant.size);
+        each = λ k l. c.loop-index.invariant.each k (omega arith);
+      };
       some = λ some code small.
           let first : IsColor (get_or colors 0 []) = record {
             three = c.told-colors 0 some;

@@ -1,3 +1,4 @@
+use Rattle.std.proofs.Common.{arith}
 use Rattle.sixel_palette.proofs.refinement.Counts.{weighed_from_counts}
 use Rattle.sixel_palette.proofs.palette.refined.Refinement.of.Goals as goal
 
@@ -14,6 +15,7 @@ spread-requires-clause-weighed c =
 pub returns : goal.returns
 returns c = record {
   area = c.requires.area;
+  bytes = λ k. omega (arith, c.type_inv.pixels k);
   colors = c.in_ok-colors.ensures;
   counts = c.in_ok-counts.counts.items;
   counted = c.in_ok-counts.ensures;

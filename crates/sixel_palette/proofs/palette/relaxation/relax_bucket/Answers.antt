@@ -5,7 +5,7 @@ use Rattle.sixel_palette.specs.inside.Nearest.{IsNearestEntry}
 use Rattle.sixel_palette.specs.inside.Buckets.{AreNearestIn}
 use Rattle.sixel_palette.proofs.traversal.Relaxation.{get_or-set_before, greatest_more, old_more}
 use Rattle.sixel_palette.proofs.traversal.Relaxation.{relaxed_more}
-use Rattle.sixel_palette.proofs.palette.relaxation.relax_last_bucket.Goals as goal
+use Rattle.sixel_palette.proofs.palette.relaxation.relax_bucket.Goals as goal
 use Rattle.std.proofs.lemmas.Bool.Decides.{nat_tests}
 
 -- the nearest entry of the color at the position, after the new entry

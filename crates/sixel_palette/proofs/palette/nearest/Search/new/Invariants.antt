@@ -1,6 +1,6 @@
 use Rattle.std.proofs.Common.{◌≡◌, ℕ, ◌<◌, [], length, get_or}
 use Rattle.sixel_palette.proofs.nearest_entries.Keys.{none}
-use Rattle.sixel_palette.proofs.palette.nearest.numbered.Given as goal
+use Rattle.sixel_palette.proofs.palette.nearest.Search.new.Given as goal
 
 abbrev pub invariant-loop-index : goal.invariant-loop-index
 invariant-loop-index l = record {

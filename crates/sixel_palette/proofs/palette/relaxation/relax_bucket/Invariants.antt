@@ -1,7 +1,7 @@
 use Rattle.std.proofs.Common.{◌≡◌, ℕ, ◌*◌, List, [], ◌∷◌, ◌++◌, length, get_or}
 use Rattle.sixel_palette.specs.inside.Buckets.{AreNearestIn}
 use Rattle.sixel_palette.proofs.traversal.Relaxation.{AreRelaxedIn, AreOld, IsGreatestOf}
-use Rattle.sixel_palette.proofs.palette.relaxation.relax_last_bucket.Given as goal
+use Rattle.sixel_palette.proofs.palette.relaxation.relax_bucket.Given as goal
 
 abbrev pub invariant-loop-position : goal.invariant-loop-position
 invariant-loop-position l = record {

@@ -4,7 +4,7 @@ use Rattle.sixel_palette.specs.ColorSums.{Pixels}
 use Rattle.sixel_palette.specs.GainCut.{boxes_after}
 use Rattle.sixel_palette.specs.inside.Boxes.{AreBoxes, AreRanges}
 use Rattle.sixel_palette.specs.inside.Sums.{AreBinsOf}
-use Rattle.sixel_palette.proofs.palette.gain_cut.push_boxes.Given as goal
+use Rattle.sixel_palette.proofs.palette.gain_cut.boxes_of.Given as goal
 
 abbrev pub invariant-loop-count : goal.invariant-loop-count
 invariant-loop-count l = record {

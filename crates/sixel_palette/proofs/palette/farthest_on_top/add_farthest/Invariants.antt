@@ -4,7 +4,7 @@ use Rattle.sixel_palette.specs.Palette.{IsFarthest, nearest}
 use Rattle.sixel_palette.specs.Refined.{IsFarOff, IsRegisterColor, register_color}
 use Rattle.sixel_palette.specs.inside.Codes.{IsListed, color_of}
 use Rattle.sixel_palette.specs.inside.Traversal.{IsTraversal, HasRelaxed}
-use Rattle.sixel_palette.proofs.palette.farthest_on_top.push_farthest.Given as goal
+use Rattle.sixel_palette.proofs.palette.farthest_on_top.add_farthest.Given as goal
 
 abbrev pub invariant-loop-index : goal.invariant-loop-index
 invariant-loop-index l = record {
@@ -12,9 +12,9 @@ invariant-loop-index l = record {
   relaxed : HasRelaxed l.colors.items l.codes l.traversal;
   size : length l.colors.items ≡ l.index;
   shown : All IsRegisterColor l.colors.items;
-  tops : l.colors.items ≡ l.fn.colors.items ++ map register_color l.witnesses.items;
+  tops : l.colors.items ≡ l.fn.assignment.colors.items ++ map register_color l.witnesses.items;
   order : (i : ℕ) (d : List ℕ) → i < length l.witnesses.items
-      → IsFarOff (IsListed l.codes) (l.fn.colors.items ++ map register_color
+      → IsFarOff (IsListed l.codes) (l.fn.assignment.colors.items ++ map register_color
       (take i l.witnesses.items))
       (get_or l.witnesses.items i d);
   within : l.farthest < length l.codes;

@@ -7,31 +7,31 @@ use Rattle.sixel_palette.specs.inside.Codes.{IsListed, color_of}
 use Rattle.sixel_palette.proofs.traversal.Farthest.{farthest_from_position}
 use Rattle.sixel_palette.proofs.refinement.Refined.{register_color-shown}
 use Rattle.sixel_palette.proofs.refinement.Tops.{far_off_more}
-use Rattle.sixel_palette.proofs.palette.farthest_on_top.push_farthest.Goals as goal
+use Rattle.sixel_palette.proofs.palette.farthest_on_top.add_farthest.Goals as goal
 
 pub loop-index-init : goal.loop-index-init
 loop-index-init c =
-    let whole = c.requires.whole in
-    let first = c.farthest-farthest.ensures in
-    let within : c.farthest-farthest.result < length c.args.codes.now =
+    let whole = c.requires.assignment.whole in
+    let first = rw c.deref.ensures.value at c.farthest_of-farthest.ensures in
+    let within : c.farthest_of-farthest.result < length c.args.codes.now =
     omega (arith, first.within, whole.squares) in
     rw c.new-witnesses.ensures.items (record {
       whole = whole;
-      relaxed = c.requires.relaxed;
-      size = omega (arith, c.len-index.ensures, c.args.colors.now.ok.0);
+      relaxed = c.requires.assignment.relaxed;
+      size = omega (arith, c.len-index.ensures, c.args.assignment.colors.ok.0);
       shown = c.requires.shown;
-      tops = sym (append-nil c.args.colors.now.items);
+      tops = sym (append-nil c.args.assignment.colors.items);
       order = λ i d l. absurd (omega arith);
       within = within;
       farthest =
-          farthest_from_position c.args.colors.now.items _ _ _ _ c.requires.ascending whole.squares
-          c.requires.relaxed first;
-      square = (c.requires.relaxed c.farthest-farthest.result within).gap;
+          farthest_from_position c.args.assignment.colors.items _ _ _ _ c.requires.ascending
+          whole.squares c.requires.assignment.relaxed first;
+      square = (c.requires.assignment.relaxed c.farthest_of-farthest.result within).gap;
     })
 
 pub loop-index-preserved : goal.loop-index-preserved
 loop-index-preserved c =
-    let base = c.args.colors.now.items in
+    let base = c.args.assignment.colors.items in
     let colors = c.loop-index.colors.items in
     let witnesses = c.loop-index.witnesses.items in
     let color = c.color_of-color.result in
@@ -85,10 +85,10 @@ returns-clause-top c =
                 let near = w.if-index-le-NEAR_ENOUGH.true in
                 inr (λ d m. omega (arith, h.farthest.farthest d m, h.square, read, near))
           ];
-      none = c.in_ok-all.ensures.none;
+      none = c.in_ok-with_farthest.ensures.none;
       some = λ some. (
         color_of (get_or codes c.loop-index.farthest 0),
         h.farthest,
-        rw (← c.color_of.ensures) (c.in_ok-all.ensures.some some),
+        rw (← c.color_of.ensures) (c.in_ok-with_farthest.ensures.some some),
       );
     }

@@ -1,5 +1,5 @@
 use Rattle.std.proofs.Common.{◌≡◌, refl, get_or, length, sym, ◌∙◌, arith}
-use Rattle.std.proofs.lemmas.List.{nil_from_length}
+use Rattle.std.proofs.lemmas.List.{length-replicate, with_items_is}
 use Rattle.std.proofs.lemmas.List.Sums.{sum_by_more}
 use Rattle.sixel_palette.specs.GainCut.{corner}
 use Rattle.sixel_palette.specs.inside.Codes.{color_of}
@@ -7,16 +7,15 @@ use Rattle.sixel_palette.specs.inside.Sums.{first_counted}
 use Rattle.sixel_palette.proofs.refinement.Bins.{counted_more, counted_none, red-le, table_none}
 use Rattle.sixel_palette.proofs.refinement.Bins.{whole_bins}
 use Rattle.sixel_palette.proofs.colors.Lists.{increasing-le}
-use Rattle.sixel_palette.proofs.palette.bins.push_bins.Goals as goal
+use Rattle.sixel_palette.proofs.palette.bins.histogram.Goals as goal
 
 pub loop-index-init : goal.loop-index-init
 loop-index-init c =
-    let none = nil_from_length c.args.bins.now.items c.requires.none in
-    rw none (record {
-      positions = c.requires.positions;
+    rw c.new-bins.ensures.items (record {
+      positions = grind (arith, length-replicate);
       pixels = refl;
       sums = λ contains k. sym (counted_none 4 c.args.codes.now c.args.counts.now contains k);
-      table = λ k l m. table_none c.args.positions.now _;
+      table = λ k l m. table_none c.in_ok-positions.positions.items _;
       distinct = λ i j l m. absurd (omega arith);
     })
 
@@ -27,8 +26,11 @@ loop-index-preserved c =
     let index = c.loop-index.index in
     let h = c.loop-index.invariant in
     let color = color_of (get_or codes index 0) in
-    let added = c.in_ok-add_color.ensures in
-    record {
+    let added = rw c.deref_mut.ensures.value at c.in_ok-add_color.ensures in
+    let kept =
+    with_items_is c.loop-index.positions c.add_color.new.positions
+    (omega (arith, added.positions, c.loop-index.positions.ok.0)) in
+    rw kept (record {
       positions = omega (arith, added.positions, h.positions);
       pixels =
           omega (
@@ -47,7 +49,7 @@ loop-index-preserved c =
       distinct =
           (added.table (get_or (corner 4 color) 0 0) (rw c.color_of-color.ensures (omega arith))
           (h.table index (omega arith) (omega arith))).distinct;
-    }
+    })
 
 pub returns-clause-bins : goal.returns-clause-bins
 returns-clause-bins c = λ contains k.

@@ -1,14 +1,19 @@
-use Rattle.std.proofs.Common.{◌≡◌, ◌+◌, ◌-◌, ◌<◌, [], ◌∷◌, ◌++◌, true, false, List, length, ap}
+use Rattle.std.proofs.Common.{◌≡◌, ℕ, ◌+◌, ◌-◌, ◌<◌, [], ◌∷◌, ◌++◌, true, false, List, length, ap}
 use Rattle.std.proofs.Common.{refl, ◌∙◌, arith}
 use Rattle.std.proofs.lemmas.Bool.Decides.{nat_tests}
-use Rattle.std.proofs.lemmas.List.{nil_from_length}
 use Rattle.std.proofs.lemmas.List.Sorted.{IsPermutation-refl, IsPermutation-trans}
 use Rattle.sixel_palette.specs.declared.palette.gain_cut.ColorBox.{ColorBox}
-use Rattle.sixel_palette.specs.GainCut.{best_box, boxes_after, gain_at, is_final}
+use Rattle.sixel_palette.specs.ColorSums.{Pixels}
+use Rattle.sixel_palette.specs.GainCut.{Box, best_box, boxes_after, gain_at, is_final}
 use Rattle.sixel_palette.proofs.refinement.BestBox.{best_gain, best_of_boxes, boxes_final}
-use Rattle.sixel_palette.proofs.refinement.BestBox.{boxes_more}
-use Rattle.sixel_palette.proofs.refinement.BestBox.{boxes_start}
-use Rattle.sixel_palette.proofs.palette.gain_cut.push_boxes.Goals as goal
+use Rattle.sixel_palette.proofs.refinement.BestBox.{boxes_more, boxes_start}
+use Rattle.sixel_palette.proofs.palette.gain_cut.boxes_of.Goals as goal
+
+-- a best cut that does not gain is final
+same_gain : (pixels : Pixels) (model : List Box) (gain : ℕ)
+    → gain_at pixels model (best_box pixels model) ≡ gain → gain ≡ 0
+    → is_final pixels model ≡ true
+same_gain pixels model gain gained none = grind (arith, nat_tests, gained, none)
 
 pub loop-count-init : goal.loop-count-init
 loop-count-init c =
@@ -16,13 +21,12 @@ loop-count-init c =
     let made = c.box_of.ensures in
     let one : c.push.new.self.items ≡ box ∷ [] =
     c.in_ok-push.ensures.items
-    ∙ ap (λ (xs : List ColorBox). xs ++ box ∷ [])
-    (nil_from_length c.args.boxes.now.items c.requires.none) in
+    ∙ ap (λ (xs : List ColorBox). xs ++ box ∷ []) c.in_ok-boxes.ensures.items in
     rw one (record {
       boxes = refl;
       ranges = λ k d l. grind (arith, nat_tests, made.start, made.end);
-      lower = omega (arith, c.box_of.auto.lower, c.requires.lower);
-      upper = omega (arith, c.box_of.auto.upper, c.requires.upper);
+      lower = omega (arith, c.box_of.auto.lower);
+      upper = omega (arith, c.box_of.auto.upper);
       moved = IsPermutation-refl c.args.bins.now;
       model = λ pixels are. boxes_start _ _ _ made.start made.end (made.cut pixels (λ _. true)) are;
     })
@@ -54,22 +58,23 @@ loop-count-preserved c =
           rw (next, boxes_more pixels n more, ← place) (cut.boxes pixels model old);
     }
 
-pub returns-after-loop-count-clause-boxes : goal.returns-after-loop-count-clause-boxes
-returns-after-loop-count-clause-boxes c = λ pixels are.
-    let all : c.loop-count._count ≡ c.args.room = omega arith in
-    rw (← all) (c.loop-count.invariant.model pixels are)
-
-pub returns-then-index-eq0-clause-boxes : goal.returns-then-index-eq0-clause-boxes
-returns-then-index-eq0-clause-boxes c = λ pixels are.
+pub returns-clause-boxes : goal.returns-clause-boxes
+returns-clause-boxes c = λ pixels are.
     let n = c.loop-count._count - 1 in
     let h = c.loop-count.invariant in
-    let model = boxes_after pixels n in
     let old = h.model pixels are in
-    let item = c.index.result.now in
-    let first = rw c.deref.ensures.value at (c.best_of-best.ensures.first item) in
-    let gained : gain_at pixels model (best_box pixels model) ≡ item.cut.gain =
-    best_gain _ _ _ _ _ _ old (omega (arith, h.boxes)) first
-    (omega (arith, c.best_of-best.ensures.within, c.deref.ensures.len)) c.index.ensures in
-    let final : is_final pixels model ≡ true =
-    grind (arith, nat_tests, gained, c.if-index-eq0.true) in
-    rw (boxes_final pixels n (c.args.room - 1) (omega arith) final) old
+    elim c.loop-count-test.branch [
+      | goal.else-loop-count-test w ↦
+          let all : c.loop-count._count ≡ c.args.room = omega arith in
+          rw (← all) old
+      | goal.then-loop-count-test+then-index-eq0 w ↦
+          let model = boxes_after pixels n in
+          let item = w.index.result.now in
+          let first = rw w.deref.ensures.value at (w.best_of-best.ensures.first item) in
+          let gained : gain_at pixels model (best_box pixels model) ≡ item.cut.gain =
+          best_gain _ _ _ _ _ _ old (omega (arith, h.boxes)) first
+          (omega (arith, w.best_of-best.ensures.within, w.deref.ensures.len)) w.index.ensures in
+          let final : is_final pixels model ≡ true =
+          same_gain pixels model _ gained w.if-index-eq0.true in
+          rw (boxes_final pixels n (c.args.room - 1) (omega arith) final) old
+    ]
