@@ -1,3 +1,4 @@
+mod Names
 pub mod band_rows
 pub mod compact_form
 pub mod drawings

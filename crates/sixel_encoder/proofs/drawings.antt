@@ -1,11 +1,8 @@
 pub mod Background
 pub mod EncodedText
-pub mod IndexedDrawing
 pub mod IndexedText
 pub mod PaletteText
-pub mod RefinedAlike
 pub mod RefinedText
 pub mod SameDithering
 pub mod SameDrawing
 pub mod Sizes
-pub mod Verdicts

@@ -1,5 +1,3 @@
 pub mod Bound
-pub mod Length
 pub mod Marks
-pub mod Payload
 pub mod Text

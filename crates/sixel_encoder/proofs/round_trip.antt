@@ -6,8 +6,6 @@ pub mod Extent
 pub mod MarkSteps
 pub mod PenSteps
 pub mod Percentages
-pub mod PictureBytes
-pub mod RasterAttributes
 pub mod RowSteps
 pub mod SecondTrip
 pub mod TextHistory

@@ -1,10 +1,10 @@
 -- The compact text of a drawing: it draws the pixels of the plain text in fewer bytes. Registers
--- that no pixel has are not defined, apart from the background of an opaque drawing. A run may cover
--- pixels that a later segment of the band draws over. The rows of a band share passes, and no band
--- follows the last that is used. Where the plain text is shorter, that is the text.
-use Rattle.std.specs.Prelude.{◌≡◌, ℕ, zero, suc, ◌+◌, ◌-◌, ◌*◌, ◌==◌, nat_le, nat_lt, Bool}
-use Rattle.std.specs.Prelude.{◌&&◌, if◌then◌else◌, List, [], ◌∷◌, ◌++◌, length, map, replicate}
-use Rattle.std.specs.Prelude.{codes, false, not, Option, Some, None, is_some, slice_index}
+-- that no pixel has are not defined, apart from the background of an opaque drawing. A run may
+-- cover pixels that a later segment of the band draws over. The rows of a band share passes, and no
+-- band follows the last that is used. Where the plain text is shorter, that is the text.
+use Rattle.std.specs.Prelude.{◌≡◌, ℕ, zero, suc, ◌+◌, ◌-◌, ◌*◌, ◌==◌, nat_le, nat_lt, Bool, ◌&&◌}
+use Rattle.std.specs.Prelude.{if◌then◌else◌, List, [], ◌∷◌, ◌++◌, length, map, replicate, codes}
+use Rattle.std.specs.Prelude.{false, not, Option, Some, None, is_some, slice_index}
 use Rattle.std.specs.List.{range_with_len}
 use Rattle.std.specs.Int.Bits.{bit_or, bit_and}
 use Rattle.sixel_base.specs.Payload.{Image}

@@ -34,8 +34,8 @@ ShowsPixels image drawing =
 abbrev pub no_mapping : Mapping
 no_mapping = record { dither = Off; tolerance = Squared 0 }
 
--- the bytes are the text of the image in a refined palette, spread for this kind of dithering, which
--- a decoder shows unrounded
+-- the bytes are the text of the image in a refined palette, spread for this kind of dithering,
+-- which a decoder shows unrounded
 pub record IsRefinedText (image : Image) (max_colors : ℕ) (mapping : Mapping) (form : TextForm)
     (bytes : List ℕ) : Type 0 where
   pub palette : RefinedPalette

@@ -69,7 +69,7 @@ impl BandRows {
             ≡ string_bytes text.old ++ band_text (drawing_of image.now) band) }
         ensures empty { OnOk result (AreEmptyRows image.now self.new) }
     {
-        for part in 0..parts(image.colors.len(), self.used.len()) {
+        for part in 0..image.colors.len().div_ceil(self.used.len()) {
             self.first = part * self.used.len();
             self.fill(image, band);
             self.push_rows(text)?;
@@ -176,15 +176,6 @@ fn entries_at_once(width: usize, entries: usize) -> usize
         → count ≤ result }
 {
     (CAPACITY / (width + 1)).min(entries).max(1)
-}
-
-/// Returns how many parts the entries have, of at most `at_once` entries each.
-fn parts(entries: usize, at_once: usize) -> usize
-    requires { 0 < at_once }
-    ensures all { entries ≤ result * at_once }
-    ensures none_past { (part : ℕ) → part < result → part * at_once < entries }
-{
-    entries.div_ceil(at_once)
 }
 
 /// Sets the opaque pixels of a line, in rows of all entries.

@@ -2,9 +2,8 @@
 
 ghost use Rattle.std.specs.Prelude.{◌≡◌, ◌*◌, ◌<◌, ◌≤◌, ◌++◌, ◌∷◌, IfOk, None, OnOk, codes};
 ghost use Rattle.std.specs.Prelude.{length, string_bytes};
-ghost use Rattle.sixel_encoder.specs.Compact.{band_marks, band_register, compact_marks};
-ghost use Rattle.sixel_encoder.specs.Compact.{compact_text, drawn_after, marked_text};
-ghost use Rattle.sixel_encoder.specs.Compact.{segment_marks};
+ghost use Rattle.sixel_encoder.specs.Compact.{band_register, compact_marks, segment_marks};
+ghost use Rattle.sixel_encoder.specs.Compact.{compact_text, drawn_after, marked_text, band_marks};
 ghost use Rattle.sixel_encoder.specs.Marks.{marks_text};
 ghost use Rattle.sixel_encoder.specs.Text.{text_of};
 ghost use Rattle.sixel_encoder.specs.inside.Compact.{AreLanes, AreNumbersOf};
@@ -16,8 +15,9 @@ use crate::bound::least_bytes;
 use crate::pen::Pen;
 use crate::pixels::used_bands;
 use crate::register_order::{count_runs, number_entries, push_numbered};
+use crate::run_tokens::push_row;
 use crate::segment_rows::SegmentRows;
-use crate::segments::{Segment, drawn_segments};
+use crate::segments::{Segment, band_segments, in_passes};
 use crate::text::{IndexedImage, begin_text, encode_indexed};
 use std::alloc::{AllocError, Global};
 
@@ -26,7 +26,7 @@ pub fn encode_compact(alloc: Global, image: &IndexedImage<'_>) -> Result<String,
     requires { IsIndexed image.now }
     ensures { IfOk result (λ text. string_bytes text ≡ compact_text (drawing_of image.now)) }
 {
-    let MarkedText { text, plain_bytes } = encode_marked(alloc, image)?;
+    let (text, plain_bytes) = encode_marked(alloc, image)?;
     if text.len() <= plain_bytes {
         return Ok(text);
     }
@@ -37,21 +37,14 @@ pub fn encode_compact(alloc: Global, image: &IndexedImage<'_>) -> Result<String,
     Ok(text)
 }
 
-/// The output in segments that share passes.
-#[derive(Drop)]
-struct MarkedText {
-    text: String,
-    /// How many bytes the plain output takes at least.
-    plain_bytes: usize,
-}
-
 /// Returns the output in segments that share passes.
-fn encode_marked(alloc: Global, image: &IndexedImage<'_>) -> Result<MarkedText, AllocError>
+///
+/// The number beside it is how many bytes the plain output takes at least.
+fn encode_marked(alloc: Global, image: &IndexedImage<'_>) -> Result<(String, usize), AllocError>
     requires { IsIndexed image.now }
     ensures text { IfOk result
-        (λ marked. string_bytes marked.text ≡ marked_text (drawing_of image.now)) }
-    ensures plain { IfOk result
-        (λ marked. marked.plain_bytes ≤ length (text_of (drawing_of image.now))) }
+        (λ marked. string_bytes marked.0 ≡ marked_text (drawing_of image.now)) }
+    ensures plain { IfOk result (λ marked. marked.1 ≤ length (text_of (drawing_of image.now))) }
 {
     let runs = count_runs(alloc, image)?;
     let numbers = number_entries(alloc, &runs)?;
@@ -59,7 +52,7 @@ fn encode_marked(alloc: Global, image: &IndexedImage<'_>) -> Result<MarkedText, 
     push_numbered(&mut text, image, &runs, &numbers)?;
     let mut writer = BandWriter::new(alloc, image, &numbers)?;
     let plain_bytes = writer.push_bands(alloc, &mut text)?;
-    Ok(MarkedText { text, plain_bytes })
+    Ok((text, plain_bytes))
 }
 
 /// Writes the bands of a compact output.
@@ -138,7 +131,7 @@ impl<'a> BandWriter<'a> {
     {
         self.pen.begin_band(text, band)?;
         self.entries.read(band);
-        let segments = drawn_segments(alloc, &self.entries)?;
+        let segments = in_passes(alloc, &band_segments(alloc, &self.entries)?)?;
         self.rows.begin(&self.entries);
         for segment in &segments {
             self.push_segment(text, segment)?;
@@ -165,7 +158,7 @@ impl<'a> BandWriter<'a> {
         self.pen.select(text, numbers[segment.entry])?;
         let from = self.pen.column;
         self.pen.column = segment.end;
-        self.rows.push(text, &self.entries, segment, from)?;
-        Ok(())
+        self.rows.draw(&self.entries, segment, from)?;
+        push_row(text, &self.rows.row)
     }
 }

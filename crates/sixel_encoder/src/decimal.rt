@@ -1,6 +1,6 @@
 //! Numbers in decimal.
 
-ghost use Rattle.std.specs.Prelude.{◌≡◌, ◌+◌, ◌<◌, ◌≤◌, ◌∷◌, ◌++◌, [], OnOk, decimal, string_bytes};
+ghost use Rattle.std.specs.Prelude.{◌≡◌, ◌+◌, ◌<◌, ◌∷◌, ◌++◌, [], OnOk, decimal, string_bytes};
 
 use std::alloc::AllocError;
 
@@ -12,21 +12,11 @@ pub fn push_number(text: &mut String, number: usize) -> Result<(), AllocError>
         return push_digit(text, number as u8);
     }
     if number < 100 {
-        return push_two_digits(text, number as u8);
+        push_digit(text, number as u8 / 10)?;
+        return push_digit(text, number as u8 % 10);
     }
     push_number(text, number / 10)?;
     push_digit(text, (number % 10) as u8)
-}
-
-/// Appends a number of two digits.
-#[inline(always)]
-fn push_two_digits(text: &mut String, number: u8) -> Result<(), AllocError>
-    requires two { 10 ≤ number }
-    requires digits { number < 100 }
-    ensures { OnOk result (string_bytes text.new ≡ string_bytes text.old ++ decimal number) }
-{
-    push_digit(text, number / 10)?;
-    push_digit(text, number % 10)
 }
 
 /// Appends a decimal digit.

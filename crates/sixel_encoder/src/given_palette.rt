@@ -1,6 +1,6 @@
 //! The SIXEL output of an image in a given palette.
 
-ghost use Rattle.std.specs.Prelude.{◌≡◌, ◌*◌, ◌<◌, ◌≤◌, IfErr, IfOk, None, length, string_bytes};
+ghost use Rattle.std.specs.Prelude.{◌≡◌, ◌*◌, ◌<◌, IfOk, None, length, string_bytes};
 ghost use Rattle.sixel_base.specs.CallFault.{FailsBy, IsVerdict};
 ghost use Rattle.sixel_encoder.specs.Encoding.{image_fault, source_value};
 ghost use Rattle.sixel_encoder.specs.IndexedDrawing.{IsPaletteText, IsTextOf, indexed_drawing};
@@ -36,7 +36,9 @@ pub fn encode_in_palette(
 {
     validate_source(source)?;
     validate_color_count(colors.len())?;
-    encode_dithered(alloc, source, colors, mapping, form)
+    let image = MappedImage::plain(source.pixels, source.width, colors);
+    let indices = dithered_indices(alloc, &image, mapping)?;
+    encode_drawing(alloc, source, colors, &indices, form)
 }
 
 /// Returns the SIXEL output of an image by given palette indices.
@@ -92,24 +94,4 @@ fn validate_indices(pixels: &[u8], indices: &[u8], colors: usize) -> Result<()>
         }
     }
     Ok(())
-}
-
-/// Returns the SIXEL output of an image of valid sizes in 1 to 256 colors.
-pub fn encode_dithered(
-    alloc: Global,
-    source: &Source<'_>,
-    colors: &[[u8; 3]],
-    mapping: Mapping,
-    form: TextForm,
-) -> Result<String>
-    requires sound { image_fault (source_value source.now) ≡ None }
-    requires some { 0 < length colors.now }
-    requires few { length colors.now ≤ 256 }
-    ensures memory { IfErr result (λ e. e ≡ SixelError.OutOfMemory) }
-    ensures text { IfOk result (λ text.
-        IsPaletteText (source_value source.now) colors.now mapping form (string_bytes text)) }
-{
-    let image = MappedImage::plain(source.pixels, source.width, colors);
-    let indices = dithered_indices(alloc, &image, mapping)?;
-    encode_drawing(alloc, source, colors, &indices, form)
 }

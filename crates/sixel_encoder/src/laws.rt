@@ -3,7 +3,8 @@
 
 ghost use Rattle.std.specs.Prelude.{◌≡◌, ℕ, ◌≤◌, ◌<◌, ◌*◌, Bool, List, ◌∷◌, ◌++◌, length, codes};
 ghost use Rattle.std.specs.Prelude.{Some, None, All, false};
-ghost use Rattle.sixel_base.specs.declared.settings.BackgroundMode.TheVariants.{Opaque, Transparent};
+ghost use Rattle.sixel_base.specs.declared.settings.BackgroundMode.TheVariants.{Opaque};
+ghost use Rattle.sixel_base.specs.declared.settings.BackgroundMode.TheVariants.{Transparent};
 ghost use Rattle.sixel_base.specs.Bytes.{before_terminator, front, first_terminator, count};
 ghost use Rattle.sixel_base.specs.Color.{byte_of};
 ghost use Rattle.sixel_base.specs.Decoder.{new_decoder, origin_of};

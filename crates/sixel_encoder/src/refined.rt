@@ -1,7 +1,6 @@
 //! The SIXEL output of an image in a refined palette.
 
-ghost use Rattle.std.specs.Prelude.{◌≡◌, ◌*◌, ◌<◌, All, IfOk, OnOk, map};
-ghost use Rattle.std.specs.Prelude.{string_bytes};
+ghost use Rattle.std.specs.Prelude.{◌≡◌, ◌*◌, ◌<◌, All, IfOk, OnOk, map, string_bytes};
 ghost use Rattle.sixel_base.specs.CallFault.{FailsBy};
 ghost use Rattle.sixel_encoder.specs.Encoding.{source_value};
 ghost use Rattle.sixel_encoder.specs.IndexedDrawing.{palette_fault};

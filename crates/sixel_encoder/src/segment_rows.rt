@@ -1,13 +1,11 @@
 //! The rows of a band's segments, drawn over one another.
 
-ghost use Rattle.std.specs.Prelude.{◌≡◌, ◌-◌, ◌≤◌, ◌++◌, IfOk, OnOk, length, string_bytes};
+ghost use Rattle.std.specs.Prelude.{◌≡◌, ◌-◌, ◌≤◌, IfOk, OnOk, length};
 ghost use Rattle.sixel_encoder.specs.Compact.{blocked_after, segment_row, transparent_row, union};
-ghost use Rattle.sixel_encoder.specs.RunTokens.{written, row_tokens};
 ghost use Rattle.sixel_encoder.specs.inside.Compact.{AreLanes, IsSegment};
 ghost use Rattle.sixel_encoder.specs.inside.Indexed.{drawing_of};
 
 use crate::band_entries::BandEntries;
-use crate::run_tokens::push_row;
 use crate::segments::Segment;
 use std::alloc::{AllocError, Global};
 
@@ -15,7 +13,7 @@ use std::alloc::{AllocError, Global};
 #[derive(Drop)]
 pub struct SegmentRows {
     /// The sixels that are drawn for a segment.
-    row: Vec<u8>,
+    pub row: Vec<u8>,
     /// The sixels of the band that may not be covered.
     blocked: Vec<u8>,
 }
@@ -42,33 +40,10 @@ impl SegmentRows {
         }
     }
 
-    /// Appends the row of a segment from a column on, and blocks its pixels.
-    pub fn push(
-        &mut self,
-        text: &mut String,
-        entries: &BandEntries<'_>,
-        segment: &Segment,
-        from: usize,
-    ) -> Result<(), AllocError>
-        requires entries { AreLanes entries.now }
-        requires wide { length self.old.blocked.items ≡ entries.now.image.now.width }
-        requires from { from ≤ segment.now.first }
-        requires within { IsSegment (drawing_of entries.now.image.now) segment.now }
-        ensures text { OnOk result (string_bytes text.new ≡ string_bytes text.old
-            ++ written (row_tokens (segment_row (drawing_of entries.now.image.now) entries.now.band
-            self.old.blocked.items segment.now from))) }
-        ensures blocked { OnOk result (self.new.blocked.items ≡ blocked_after
-            (drawing_of entries.now.image.now) entries.now.band self.old.blocked.items
-            segment.now) }
-    {
-        self.draw(entries, segment, from)?;
-        push_row(text, &self.row)
-    }
-
     /// Draws the row of a segment from a column on, and blocks its pixels.
     ///
     /// A run goes on as long as it covers its own pixels and none that is blocked.
-    fn draw(
+    pub fn draw(
         &mut self,
         entries: &BandEntries<'_>,
         segment: &Segment,

@@ -2,8 +2,7 @@
 
 ghost use Rattle.std.specs.Prelude.{◌≡◌, ◌≢◌, ◌+◌, ◌-◌, ◌*◌, ◌<◌, ◌^◌, ◌++◌, IfOk, OnOk};
 ghost use Rattle.std.specs.Prelude.{length, true, false};
-ghost use Rattle.sixel_encoder.specs.Segments.{band_segments, drawn_segments, gap_of, passes};
-ghost use Rattle.sixel_encoder.specs.Segments.{in_pass, after_pass};
+ghost use Rattle.sixel_encoder.specs.Segments.{band_segments, gap_of, passes, in_pass, after_pass};
 ghost use Rattle.sixel_encoder.specs.inside.Indexed.{drawing_of};
 ghost use Rattle.sixel_encoder.specs.inside.Compact.{AreLanes, AreLast, with_run};
 
@@ -22,18 +21,8 @@ pub struct Segment {
     pub end: usize,
 }
 
-/// Returns the segments of a band in the order in which they are drawn.
-pub fn drawn_segments(alloc: Global, entries: &BandEntries<'_>) -> Result<Vec<Segment>, AllocError>
-    requires { AreLanes entries.now }
-    ensures { IfOk result (λ segments.
-        segments.items ≡ drawn_segments (drawing_of entries.now.image.now) entries.now.band) }
-{
-    let segments = band_segments(alloc, entries)?;
-    in_passes(alloc, &segments)
-}
-
 /// Returns the segments of a band, in the order in which they begin.
-fn band_segments(alloc: Global, entries: &BandEntries<'_>) -> Result<Vec<Segment>, AllocError>
+pub fn band_segments(alloc: Global, entries: &BandEntries<'_>) -> Result<Vec<Segment>, AllocError>
     requires { AreLanes entries.now }
     ensures { IfOk result (λ segments.
         segments.items ≡ band_segments (drawing_of entries.now.image.now) entries.now.band) }
@@ -139,7 +128,7 @@ fn push_run(
 }
 
 /// Returns segments pass by pass, each pass from left to right.
-fn in_passes(alloc: Global, segments: &[Segment]) -> Result<Vec<Segment>, AllocError>
+pub fn in_passes(alloc: Global, segments: &[Segment]) -> Result<Vec<Segment>, AllocError>
     ensures { IfOk result (λ ordered.
         ordered.items ≡ passes (length segments.now) segments.now) }
 {

@@ -7,8 +7,9 @@ ghost use Rattle.sixel_encoder.specs.Encoding.{image_fault, source_value};
 ghost use Rattle.sixel_encoder.specs.Form.{IsFormText};
 ghost use Rattle.sixel_encoder.specs.IndexedDrawing.{IsTextOf, indexed_drawing};
 
-use crate::form::{TextForm, encode_in_form};
-use crate::text::IndexedImage;
+use crate::compact::encode_compact;
+use crate::form::TextForm;
+use crate::text::{IndexedImage, encode_indexed};
 use sixel_base::settings::{BackgroundMode, PixelAspectRatio};
 use sixel_base::size::{validate_buffer, validate_encode_dimensions};
 use sixel_base::{Result, SixelError};
@@ -90,5 +91,9 @@ pub fn encode_drawing(
         pixels: source.pixels,
         indices,
     };
-    Ok(encode_in_form(alloc, &image, form)?)
+    let text = match form {
+        TextForm::Plain => encode_indexed(alloc, &image)?,
+        TextForm::Compact => encode_compact(alloc, &image)?,
+    };
+    Ok(text)
 }

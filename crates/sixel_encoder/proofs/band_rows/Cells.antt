@@ -1,28 +1,13 @@
 -- The rows of a band: one dot more, one line more.
-use Rattle.std.proofs.Common.{◌≡◌, ℕ, ◌+◌, ◌*◌, ◌<◌, Bool, true, List, length, ◌≤◌, set, arith}
-use Rattle.std.specs.Prelude.{slice_index}
-use Rattle.std.proofs.lemmas.Bool.Decides.{nat_tests}
-use Rattle.std.proofs.Math.Nat.{mul_comm}
-use Rattle.std.proofs.lemmas.Nat.{mul-add-lt, same_from_place}
-use Rattle.std.proofs.lemmas.List.{get_or-set_same, get_or-set_other, length-set}
-use Rattle.sixel_encoder.specs.declared.text.IndexedImage.{IndexedImage}
+use Rattle.sixel_encoder.proofs.Names
+use Names.{◌≡◌, ℕ, ◌+◌, ◌*◌, ◌<◌, Bool, true, List, length, set, arith, nat_tests}
+use Names.{mul_comm, mul-add-lt, same_from_place, get_or-set_same, get_or-set_other, length-set}
 use Rattle.sixel_encoder.specs.inside.Grid.{cell, dot_at, AreRows, AreMarks}
-use Rattle.sixel_encoder.specs.inside.Indexed.{IsIndexed}
 
 -- a sixel's place is within the rows
 pub place_inside : (rows : List ℕ) (used : List Bool) (width e x : ℕ) → AreRows rows used width
     → e < length used → x < width → e * width + x < length rows
 place_inside rows used width e x are le lx = grind (arith, nat_tests, mul-add-lt, mul_comm)
-
--- an opaque pixel has a row of its entry
-pub sixel_inside : (image : IndexedImage) (rows : List ℕ) (used : List Bool)
-    (pixel row column : ℕ) → IsIndexed image → length used ≡ length image.colors.now
-    → AreRows rows used image.width → pixel < image.width * image.height
-    → 128 ≤ slice_index image.pixels.now (4 * pixel + 3)
-    → row ≡ slice_index image.indices.now pixel → column < image.width
-    → (row < length used) × (row * image.width + column < length rows)
-sixel_inside image rows used pixel row column is entries are within opaque entry inside =
-    grind (arith, nat_tests, place_inside)
 
 -- a dot adds its weight to one sixel
 pub cell-dot : (rows : List ℕ) (width entry column weight e x : ℕ)

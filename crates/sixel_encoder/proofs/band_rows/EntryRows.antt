@@ -1,16 +1,17 @@
--- Rows of one entry: their length and bits, and that they set the pixels that have the entry.
-use Rattle.std.specs.List.{range_with_len}
-use Rattle.std.specs.Prelude.{All, Some}
-use Rattle.std.proofs.Common.{List, arith, false, length, true, ℕ, ◌*◌, ◌+◌, ◌<◌, ◌≡◌, ◌≤◌}
-use Rattle.std.proofs.lemmas.Bool.{both_ways}
-use Rattle.std.proofs.lemmas.Bool.Decides.{nat_tests}
-use Rattle.std.proofs.lemmas.List.Elements.{All-map}
-use Rattle.std.proofs.lemmas.List.FromFn.{get_or-map-range_with_len, length-map-range_with_len}
+-- Rows of one entry: their length and bits, where a row sets no pixel, and that they set the pixels
+-- that have the entry.
+use Rattle.sixel_encoder.proofs.Names.{◌≡◌, ℕ, ◌+◌, ◌≤◌, false, List, length, arith, nat_tests}
+use Rattle.sixel_encoder.proofs.Names.{get_or_past, range_with_len, All, Some, true, ◌*◌, ◌<◌}
+use Rattle.sixel_encoder.proofs.Names.{both_ways, All-map, get_or-map-range_with_len}
+use Rattle.sixel_encoder.proofs.Names.{length-map-range_with_len, common_steps}
 use Rattle.sixel_encoder.specs.Marks.{is_lit}
 use Rattle.sixel_encoder.specs.Text.{Drawing, entry_at, has_dot, row_of, sixel_of}
-use Rattle.sixel_encoder.proofs.band_rows.RowPixels.{is_lit-past, is_struck-zero}
 use Rattle.sixel_encoder.proofs.MaskBits.{is_set-mask, mask-small}
-use Rattle.std.proofs.lemmas.Grind.{common_steps}
+
+-- past its end a row sets nothing
+pub is_lit-past : (row : List ℕ) (from top column line : ℕ) → from + length row ≤ column
+    → is_lit row from top column line ≡ false
+is_lit-past row from top column line h = grind (arith, nat_tests, get_or_past)
 
 -- a row has a sixel for each column
 pub length-row_of : (drawing : Drawing) (band entry : ℕ)
@@ -52,5 +53,5 @@ pub no_dot-own : (drawing : Drawing) (band entry column line : ℕ) → column <
 no_dot-own drawing band entry column line lc at none e =
     let row : List ℕ = row_of drawing band entry in
     both_ways (is_lit row 0 (6 * band) column line)
-    (grind (arith, nat_tests, common_steps, is_struck-zero))
+    (grind (arith, nat_tests, common_steps))
     (own-lit drawing band entry column line lc at e)

@@ -1,17 +1,12 @@
 -- Lanes that differ from those of the column before: the rows of their entries change there.
-use Rattle.std.specs.Prelude.{◌≢◌}
-use Rattle.std.proofs.Common.{arith, length, true, ℕ, ◌*◌, ◌+◌, ◌-◌, ◌<◌, ◌≡◌, ◌≤◌, inl, inr}
-use Rattle.std.proofs.lemmas.Bool.{cases_Bool}
-use Rattle.std.proofs.lemmas.Bool.Decides.{nat_tests}
+use Rattle.sixel_encoder.proofs.Names.{◌≢◌, arith, length, true, ℕ, ◌*◌, ◌+◌, ◌-◌, ◌<◌, ◌≡◌}
+use Rattle.sixel_encoder.proofs.Names.{inl, inr, cases_Bool, nat_tests}
 use Rattle.sixel_encoder.specs.declared.band_entries.BandEntries.{BandEntries}
 use Rattle.sixel_encoder.specs.Text.{entry_at, has_dot, is_entry, row_of, sixel_of}
-use Rattle.sixel_encoder.specs.inside.Bound.{IsChange}
+use Rattle.sixel_encoder.specs.{inside.Bound.IsChange, inside.Indexed.drawing_of}
 use Rattle.sixel_encoder.specs.inside.Compact.{AreLanes, lane_of}
-use Rattle.sixel_encoder.specs.inside.Indexed.{drawing_of}
-use Rattle.sixel_encoder.proofs.band_rows.EntryLaneMasks.{opaque-lane}
-use Rattle.sixel_encoder.proofs.band_rows.EntryRows.{no_dot-own}
-use Rattle.sixel_encoder.proofs.band_rows.Masks.{hits-past}
-use Rattle.sixel_encoder.proofs.MaskBits.{is_set-mask}
+use Rattle.sixel_encoder.proofs.{band_rows.ColumnLanes.opaque-lane, band_rows.EntryRows.no_dot-own}
+use Rattle.sixel_encoder.proofs.{band_rows.Masks.hits-past, MaskBits.is_set-mask}
 
 -- what a pixel shows of the row of its entry, if the pixel in another column has another lane
 record IsOther (entries : BandEntries) (here there lane : ℕ) : Type 0 where
@@ -65,10 +60,3 @@ pub change-right : (entries : BandEntries) (column bit lane next : ℕ) → AreL
 change-right entries column bit lane next are l lb is at apart some =
     let found = other-lane entries column (column - 1) bit lane next are l lb is at apart some in
     record { inside = l; known = found.known; other = found.other; dotted = found.dotted }
-
--- no lane is past that of a transparent pixel
-pub lane-most : (entries : BandEntries) (column bit lane : ℕ) → AreLanes entries
-    → column < entries.image.now.width
-    → lane ≡ lane_of (entry_at (drawing_of entries.image.now) column (6 * entries.band + bit))
-    → lane ≤ 256
-lane-most entries column bit lane are l is = grind (arith, nat_tests, opaque-lane)

@@ -1,12 +1,15 @@
--- A line's dots in the rows of some entries: what a pixel adds there, and a step past those that
--- add none.
-use Rattle.std.proofs.Common.{◌≡◌, ◌≢◌, ℕ, ◌+◌, ◌-◌, ◌*◌, ◌<◌, ◌≤◌, nat_lt, cond, List, get_or}
-use Rattle.std.proofs.Common.{length, set, arith}
-use Rattle.std.proofs.lemmas.Bool.Decides.{nat_tests}
+-- The dots of a line in the rows of some entries: what a pixel adds there, a step past those that
+-- add none, sixteen of one entry at once, and one part after another.
+use Rattle.sixel_encoder.proofs.Names
+use Names.{get_or-put_chunk_below, get_or-put_chunk_above, get_or-put_chunk_at, get_or-set_other, ℕ}
+use Names.{same_from_place, get_or-set_same, length-chunk, get_or-chunk, get_or-zip2, length-set}
+use Names.{nat_tests, replicate, put_chunk, cases_eq, cases_lt, nat_lt, get_or, length, arith, cond}
+use Names.{chunk, List, Bool, true, zip2, ◌≡◌, ◌≢◌, ◌+◌, ◌-◌, ◌*◌, ◌<◌, ◌≤◌, set, ◌%◌, inl, inr}
 use Rattle.sixel_encoder.specs.inside.Indexed.{entry_of}
-use Rattle.sixel_encoder.specs.inside.Grid.{cell, dot_at, pixel_bit}
+use Rattle.sixel_encoder.specs.inside.Grid.{cell, dot_at, pixel_bit, between, AreMarks}
 use Rattle.sixel_encoder.proofs.band_rows.Cells.{cell-dot}
 use Rattle.sixel_palette.proofs.mapped_images.KeptEntries.{entry_of-opaque}
+use Rattle.std.proofs.lemmas.Simd.{get_or-replicate}
 
 -- a pixel of another entry adds nothing
 pub pixel_bit-other : (pixels indices : List ℕ) (weight entry pixel : ℕ)
@@ -21,13 +24,6 @@ pub pixel_bit-dot : (pixels indices : List ℕ) (weight first entry column pixel
 pixel_bit-dot pixels indices weight first entry column pixel e opaque is from =
     grind (arith, nat_tests, entry_of-opaque)
 
--- a column more, and those after it that add nothing
-pub column-more : (bit : ℕ → ℕ) (start was now column n x : ℕ)
-    → was ≡ start + cond (nat_lt x column) (bit x) 0 → (x ≢ column → now ≡ was)
-    → (x ≡ column → now ≡ was + bit column) → (column < x → x < column + (1 + n) → bit x ≡ 0)
-    → now ≡ start + cond (nat_lt x (column + (1 + n))) (bit x) 0
-column-more bit start was now column n x before apart here after = grind (arith, nat_tests)
-
 -- a column with a set pixel more, and those after it that add nothing
 pub column-dot : (bit : ℕ → ℕ) (rows : List ℕ) (width row column weight start n e x : ℕ)
     → row * width + column < length rows → column < width → x < width
@@ -37,4 +33,65 @@ pub column-dot : (bit : ℕ → ℕ) (rows : List ℕ) (width row column weight 
     → cell (set rows (row * width + column) (cell rows width row column + weight)) width e x
     ≡ start + cond (nat_lt x (column + (1 + n))) (bit x) 0
 column-dot bit rows width row column weight start n e x inside lc lx before here after =
-    grind (arith, nat_tests, cell-dot, column-more)
+    grind (arith, nat_tests, cell-dot)
+
+-- no place is between a place and itself
+pub between-none : (from amount place : ℕ) → between from from amount place ≡ 0
+between-none from amount place = grind (arith, nat_tests)
+
+-- sixteen sixels that get the weight in lanes
+pub lanes-more : (rows : List ℕ) (from weight : ℕ) → from + 16 ≤ length rows
+    → ((k : ℕ) → from ≤ k → k < from + 16 → get_or rows k 0 + weight < 256) → (k : ℕ)
+    → get_or (put_chunk from rows
+    (zip2 (λ a b. (a + b) % 256) (chunk from 16 rows) (replicate 16 weight))) k 0
+    ≡ get_or rows k 0 + between from (from + 16) weight k
+lanes-more rows from weight inside fits k =
+    let add = (λ (a b : ℕ). (a + b) % 256) in
+    let old = chunk from 16 rows in
+    let width = length-chunk from 16 rows inside in
+    elim (cases_lt k from) [
+      | inl below ↦ grind (arith, nat_tests, get_or-put_chunk_below)
+      | inr above ↦ elim (cases_lt k (from + 16)) [
+        | inl under ↦
+            let j = k - from in
+            let small : j < 16 = omega arith in
+            let place : from + j ≡ k = omega arith in
+            let lane =
+            get_or-zip2 add old (replicate 16 weight) j 0 0 0 (omega (arith, width)) small in
+            let was = rw place at (get_or-chunk from 16 rows j 0 small) in
+            let amount = get_or-replicate 16 j weight 0 small in
+            grind (arith, nat_tests, get_or-put_chunk_at, fits k)
+        | inr past ↦ grind (arith, nat_tests, get_or-put_chunk_above)
+      ]
+    ]
+
+-- sixteen sixels of an entry that got the weight
+pub cell-run : (rows new : List ℕ) (width row column weight : ℕ)
+    → ((k : ℕ) → get_or new k 0
+    ≡ get_or rows k 0 + between (row * width + column) (row * width + column + 16) weight k)
+    → column + 16 ≤ width → (e x : ℕ) → x < width
+    → cell new width e x
+    ≡ cell rows width e x + between column (column + 16) (dot_at weight row x e x) x
+cell-run rows new width row column weight h lc e x lx =
+    let place = e * width + x in
+    let other =
+    same_from_place e x row (column + (place - (row * width + column))) width lx in
+    let own = h place in
+    grind (arith, nat_tests)
+
+-- they keep the marks
+pub AreMarks-run : (rows new : List ℕ) (used : List Bool) (width row column weight : ℕ)
+    → AreMarks rows used width
+    → ((e x : ℕ) → x < width → cell new width e x
+    ≡ cell rows width e x + between column (column + 16) (dot_at weight row x e x) x)
+    → row < length used → column + 16 ≤ width → 0 < weight
+    → AreMarks new (set used row true) width
+AreMarks-run rows new used width row column weight marks each le lc lw =
+    let count = length-set used row true in
+    record {
+      dotted = λ e l is. elim (cases_eq e row) [
+        | inl same ↦ let own = each e column (omega arith) in grind (arith, nat_tests)
+        | inr apart ↦ grind (arith, nat_tests, get_or-set_other)
+      ];
+      marked = λ e x l lx some. grind (arith, nat_tests, get_or-set_same, get_or-set_other);
+    }

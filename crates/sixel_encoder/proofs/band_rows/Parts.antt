@@ -1,17 +1,19 @@
--- A band's text, entries by parts of the palette: what comes past its last entry is empty.
-use Rattle.std.proofs.Common.{◌≡◌, ℕ, ◌+◌, ◌*◌, ◌<◌, ◌≤◌, not, false, cond, List, ◌++◌, length}
-use Rattle.std.proofs.Common.{get_or, append_assoc, ap, sym, ◌∙◌, arith, []}
-use Rattle.std.specs.Prelude.{◌==◌}
-use Rattle.std.proofs.lemmas.List.Elements.{All-from_get_or}
-use Rattle.std.proofs.lemmas.List.Folds.{list_any_none}
-use Rattle.std.proofs.lemmas.List.FromFn.{length-map-range_with_len, get_or-map-range_with_len}
+-- Writing the rows of a band, entry by entry and by parts of the palette: what is written, cleared
+-- and still to come, and that nothing comes past the last entry.
+use Rattle.sixel_encoder.proofs.Names.{◌≡◌, ℕ, ◌+◌, ◌*◌, ◌<◌, ◌≤◌, not, false, cond, List, ◌++◌}
+use Rattle.sixel_encoder.proofs.Names.{length, get_or, append_assoc, ap, sym, ◌∙◌, arith, [], ◌==◌}
+use Rattle.sixel_encoder.proofs.Names.{All-from_get_or, list_any_none, length-map-range_with_len}
+use Rattle.sixel_encoder.proofs.Names.{get_or-map-range_with_len, ◌≢◌, Bool, true, set, false≢true}
+use Rattle.sixel_encoder.proofs.Names.{get_or-set_same, get_or-set_other, length-set, nat_tests}
 use Rattle.sixel_base.specs.Picture.{joined}
 use Rattle.sixel_encoder.specs.declared.text.IndexedImage.{IndexedImage}
 use Rattle.sixel_encoder.specs.Text.{has_dot, row_text, sixel_of, row_of, entry_text}
 use Rattle.sixel_encoder.specs.inside.Indexed.{IsIndexed, drawing_of}
-use Rattle.sixel_encoder.proofs.band_rows.Dots.{is_dot-zero}
+use Rattle.sixel_encoder.proofs.band_rows.Dots.{is_dot-zero, has_dot-some, has_dot-none}
+use Rattle.sixel_encoder.proofs.band_rows.Dots.{appended-more, appended-none}
 use Rattle.sixel_encoder.proofs.JoinedLists.{joined-add, joined-past}
-use Rattle.sixel_encoder.proofs.band_rows.Masks.{sixel-past}
+use Rattle.sixel_encoder.proofs.{band_rows.Masks.sixel-past, band_rows.RowParts.grid_row-same}
+use Rattle.sixel_encoder.specs.inside.Grid.{cell, grid_row, grid_text, AreMarks, AreClear}
 
 entry_text-past : (image : IndexedImage) (band entry : ℕ) → IsIndexed image
     → length image.colors.now ≤ entry → entry_text (drawing_of image) band entry ≡ []
@@ -43,3 +45,38 @@ appended-part f part count start now new was is =
     is ∙ (ap (λ s. s ++ joined (λ k. f (part * count + k)) count) was
     ∙ (append_assoc start (joined f (part * count)) (joined (λ k. f (part * count + k)) count)
     ∙ ap (λ s. start ++ s) (sym (ap (λ n. joined f n) more ∙ joined-add f (part * count) count))))
+
+-- The entries before n are written and cleared, the others are as they were.
+pub record Progress (start now first rows : List ℕ) (marks used : List Bool) (width from n : ℕ)
+    : Type 0 where
+  pub text : now ≡ start ++ joined (grid_text first width from) n
+  pub clear : AreClear rows used width n
+  pub rest : (e x : ℕ) → n ≤ e → e < length used → x < width
+      → cell rows width e x ≡ cell first width e x
+  pub unread : (e : ℕ) → n ≤ e → get_or used e false ≡ get_or marks e false
+
+module _ (start now first rows : List ℕ) (marks used : List Bool) (width from n : ℕ)
+    (was : Progress start now first rows marks used width from n) where
+  -- an entry with a mark is written and cleared
+  pub progress-used : (new after : List ℕ) → AreMarks first marks width → length used ≡ length marks
+      → n < length used → get_or used n false ≡ true
+      → new ≡ now ++ row_text (from + n) (grid_row rows width n)
+      → ((x : ℕ) → x < width → cell after width n x ≡ 0)
+      → ((e x : ℕ) → e ≢ n → x < width → cell after width e x ≡ cell rows width e x)
+      → Progress start new first after marks (set used n false) width from (n + 1)
+  progress-used new after are size l is text blank others =
+      let row = grid_row-same rows first width n (λ x lx. was.rest n x (omega arith) l lx) in
+      let part : row_text (from + n) (grid_row rows width n) ≡ grid_text first width from n =
+      grind (arith, nat_tests, has_dot-some) in
+      let text = appended-more _ _ _ _ _ _ was.text text part in
+      grind (arith, nat_tests, get_or-set_same, get_or-set_other, length-set)
+
+  -- an entry with no mark has no dot
+  pub progress-unused : AreMarks first marks width → length used ≡ length marks → n < length used
+      → get_or used n false ≡ false → Progress start now first rows marks used width from (n + 1)
+  progress-unused are size l is = grind (arith, nat_tests, false≢true, appended-none, has_dot-none)
+
+  -- equal values have the same progress
+  pub progress-same : (new after : List ℕ) (left : List Bool) → new ≡ now → after ≡ rows
+      → left ≡ used → Progress start new first after marks left width from n
+  progress-same new after left et er eu = grind arith

@@ -1,15 +1,10 @@
 -- An entry's row as a part of the rows: what it has, and what a write to it leaves of the others.
-use Rattle.std.proofs.Common.{◌≡◌, ◌≢◌, ℕ, ◌+◌, ◌*◌, ◌<◌, ◌≤◌, List, length, get_or, take, drop}
-use Rattle.std.proofs.Common.{◌∙◌, inl, inr, arith}
-use Rattle.std.specs.Prelude.{All}
-use borrow.Rule.Slice.PartMut.{put_mid}
-use Rattle.std.proofs.lemmas.Bool.{cases_lt}
-use Rattle.std.proofs.lemmas.Nat.{mul-le}
-use Rattle.std.proofs.lemmas.List.{places, get_or-take, get_or-drop, length-take-le, length-drop}
-use Rattle.std.proofs.lemmas.List.FromFn.{fill_by_all, length-map-range_with_len}
-use Rattle.std.proofs.lemmas.List.FromFn.{get_or-map-range_with_len}
+use Rattle.sixel_encoder.proofs.Names.{◌≡◌, ◌≢◌, ℕ, ◌+◌, ◌*◌, ◌<◌, ◌≤◌, List, length, get_or, take}
+use Rattle.sixel_encoder.proofs.Names.{drop, ◌∙◌, inl, inr, arith, All, put_mid, cases_lt, mul-le}
+use Rattle.sixel_encoder.proofs.Names.{places, get_or-take, get_or-drop, length-take-le}
+use Rattle.sixel_encoder.proofs.Names.{length-drop, fill_by_all, length-map-range_with_len}
+use Rattle.sixel_encoder.proofs.Names.{get_or-map-range_with_len, nat_tests}
 use Rattle.sixel_encoder.specs.inside.Grid.{cell, grid_row}
-use Rattle.std.proofs.lemmas.Bool.Decides.{nat_tests}
 
 -- a part is as long as it is cut
 pub length-part : (rows : List ℕ) (a k : ℕ) → a + k ≤ length rows
@@ -37,19 +32,9 @@ grid_row-same rows others width entry h =
     fill_by_all _ _ _ _ (length-map-range_with_len (cell rows width entry) 0 width)
     (λ x l. get_or-map-range_with_len (cell rows width entry) _ _ _ _ 0 l (omega arith) ∙ h x l)
 
-pub put-before : (xs ys : List ℕ) (a k n : ℕ) → a ≤ length xs → n < a
-    → get_or (put_mid a k xs ys) n 0 ≡ get_or xs n 0
-put-before xs ys a k n h l = grind (arith, places)
-
 pub put-after : (xs ys : List ℕ) (a k n : ℕ) → a + k ≤ length xs → length ys ≡ k → a + k ≤ n
     → get_or (put_mid a k xs ys) n 0 ≡ get_or xs n 0
 put-after xs ys a k n h e l = grind (arith, places)
-
--- a write to an entry's row gives it these sixels
-pub cell-put_own : (rows ys : List ℕ) (width entry k x : ℕ) → k ≡ width → length ys ≡ k
-    → entry * width + width ≤ length rows → x < width
-    → cell (put_mid (entry * width) k rows ys) width entry x ≡ get_or ys x 0
-cell-put_own rows ys width entry k x ek el h lx = grind (arith, nat_tests, places)
 
 -- a write to an entry's row changes no other row
 pub cell-put_other : (rows ys : List ℕ) (width entry k e x : ℕ) → k ≡ width → length ys ≡ k
@@ -57,6 +42,6 @@ pub cell-put_other : (rows ys : List ℕ) (width entry k e x : ℕ) → k ≡ wi
     → cell (put_mid (entry * width) k rows ys) width e x ≡ cell rows width e x
 cell-put_other rows ys width entry k e x ek el h apart lx =
     elim (cases_lt e entry) [
-      | inl lt ↦ grind (arith, nat_tests, put-before, mul-le (e + 1) width entry width)
+      | inl lt ↦ grind (arith, nat_tests, places, mul-le (e + 1) width entry width)
       | inr ge ↦ grind (arith, nat_tests, put-after, mul-le (entry + 1) width e width)
     ]

@@ -1,12 +1,8 @@
 -- How many bytes a run of equal sixels takes, and that cutting it in two saves none.
-use Rattle.std.proofs.Common.{◌≡◌, ℕ, ◌+◌, ◌*◌, ◌/◌, ◌%◌, ◌^◌, ◌<◌, ◌≤◌, nat_lt, List, ◌∷◌, ◌++◌}
-use Rattle.std.proofs.Common.{length, replicate, refl, ap, ◌∙◌, arith, length-append, zero, suc, []}
-use Rattle.std.specs.Prelude.{if◌then◌else◌, decimal}
-use Rattle.std.proofs.lemmas.Bool.{cases_lt}
-use Rattle.std.proofs.lemmas.Bool.Decides.{nat_tests}
-use Rattle.std.proofs.lemmas.Fmt.{decimal_digit, decimal_step}
-use Rattle.std.proofs.lemmas.List.{append-nil}
-use Rattle.std.proofs.lemmas.List.Concat.{flat_map-append}
+use Rattle.sixel_encoder.proofs.Names.{◌≡◌, ℕ, ◌+◌, ◌*◌, ◌/◌, ◌%◌, ◌^◌, ◌<◌, ◌≤◌, nat_lt, List, ◌∷◌}
+use Rattle.sixel_encoder.proofs.Names.{◌++◌, length, replicate, refl, ap, ◌∙◌, arith, length-append}
+use Rattle.sixel_encoder.proofs.Names.{zero, suc, [], if◌then◌else◌, decimal, cases_lt, nat_tests}
+use Rattle.sixel_encoder.proofs.Names.{decimal_digit, decimal_step, append-nil, flat_map-append}
 use Rattle.sixel_base.specs.Limits.{repeat_limit}
 use Rattle.sixel_encoder.specs.RunTokens.{RunToken, Many, spelling, written, cost, run_tokens}
 
@@ -16,14 +12,11 @@ length-decimal_step : (n : ℕ) → 10 ≤ n → n < 2 ^ 64
 length-decimal_step n low high = grind (arith, nat_tests, decimal_step, length-append)
 
 -- how many digits a number has, for numbers of at most k digits
-length-decimal1 : (n : ℕ) → n < 10 → length (decimal n) ≡ 1
+pub length-decimal1 : (n : ℕ) → n < 10 → length (decimal n) ≡ 1
 length-decimal1 n h = ap length (decimal_digit n h)
 
-length-decimal4 : (n : ℕ) → 1000 ≤ n → n < 10000 → length (decimal n) ≡ 4
-length-decimal4 n low high = grind (arith, nat_tests, length-decimal_step, length-decimal1)
-
-length-decimal5 : (n : ℕ) → 10000 ≤ n → n < 100000 → length (decimal n) ≡ 5
-length-decimal5 n low high = grind (arith, nat_tests, length-decimal_step, length-decimal4)
+pub length-decimal5 : (n : ℕ) → 10000 ≤ n → n < 100000 → length (decimal n) ≡ 5
+length-decimal5 n low high = grind (arith, nat_tests, length-decimal_step, length-decimal1)
 
 -- the bytes of fewer equal sixels than the greatest count
 abbrev pub rest_cost : ℕ → ℕ
@@ -43,7 +36,7 @@ data Tier (n : ℕ) : Type 0 where
   tier5 : 10000 ≤ n → n < 100000 → rest_cost n ≡ 7 → Tier n
 
 tier : (n : ℕ) → n < 100000 → Tier n
-tier n h = grind (arith, length-decimal1, length-decimal4, length-decimal5, length-decimal_step)
+tier n h = grind (arith, length-decimal1, nat_tests, length-decimal5, length-decimal_step)
 
 -- what a rest costs at most, and at least
 record Bounds (n c : ℕ) : Type 0 where
@@ -57,19 +50,11 @@ record Bounds (n c : ℕ) : Type 0 where
 bounds : (n : ℕ) → n < 100000 → Bounds n (rest_cost n)
 bounds n h = grind (arith, nat_tests, tier)
 
-add-below : (m n : ℕ) → n ≤ m → m + n < repeat_limit → rest_cost (m + n) ≤ rest_cost m + rest_cost n
-add-below m n le small = grind (arith, nat_tests, bounds, tier)
-
 -- two rests that make no whole run cost at least the rest that they make
 rest_cost-add : (m n : ℕ) → m + n < repeat_limit → rest_cost (m + n) ≤ rest_cost m + rest_cost n
 rest_cost-add m n small =
     let turned : m + n ≡ n + m = omega arith in
-    grind (arith, nat_tests, cases_lt m n, add-below)
-
--- two rests that make a whole run cost at least that run and what is left
-rest_cost-over : (m n k : ℕ) → m < repeat_limit → n < repeat_limit → m + n ≡ repeat_limit + k
-    → 7 + rest_cost k ≤ rest_cost m + rest_cost n
-rest_cost-over m n k hm hn e = grind (arith, nat_tests, length-decimal5, bounds, tier)
+    grind (arith, nat_tests, cases_lt m n, bounds, tier)
 
 run_cost-is : (q r : ℕ) → r < repeat_limit → run_cost (repeat_limit * q + r) ≡ 7 * q + rest_cost r
 run_cost-is q r h = grind (arith, nat_tests)
@@ -80,15 +65,11 @@ cut-at : (p q r s : ℕ) → r < repeat_limit → s < repeat_limit
 cut-at p q r s hr hs =
     let over = cases_lt (r + s) repeat_limit in
     let run = run_cost-is (p + q) (r + s) in
-    grind (arith, nat_tests, rest_cost-add r s, run_cost-is, rest_cost-over)
+    grind (arith, nat_tests, rest_cost-add r s, run_cost-is, length-decimal5, bounds, tier)
 
 -- cutting a run in two saves no byte
 pub run_cut : (m n : ℕ) → run_cost (m + n) ≤ run_cost m + run_cost n
 run_cut m n = grind (arith, nat_tests, cut-at)
-
--- a run costs at most what one token for it would
-pub run_least : (n : ℕ) → 1 ≤ n → n ≤ repeat_limit → run_cost n ≤ 2 + length (decimal n)
-run_least n low high = grind (arith, length-decimal1, length-decimal5)
 
 -- a run takes at least a byte for each of its first three sixels
 pub run_low : (n m : ℕ) → m ≤ n → m ≤ 3 → m ≤ run_cost n

@@ -1,21 +1,17 @@
--- No list of tokens that spells a row takes fewer bytes than the row's own tokens.
-use Rattle.std.proofs.Common.{◌≡◌, ◌≢◌, ℕ, zero, suc, ◌+◌, ◌*◌, ◌<◌, ◌≤◌, List}
-use Rattle.std.proofs.Common.{◌∷◌, ◌++◌, length, replicate, refl, ap, sym, ◌∙◌, arith}
-use Rattle.std.proofs.Common.{length-append, append_assoc, ◌/◌, ◌%◌, []}
-use Rattle.std.specs.Prelude.{flat_map, All}
-use Rattle.std.proofs.lemmas.Bool.{cases_eq}
-use Rattle.std.proofs.lemmas.Bool.Decides.{nat_tests}
-use Rattle.std.proofs.lemmas.List.{append-nil, replicate-append-replicate, replicate_more}
-use Rattle.std.proofs.lemmas.List.Concat.{flat_map-append}
-use Rattle.std.proofs.lemmas.List.Elements.{All-head, All-tail, All-append}
+-- No list of tokens that spells a row takes fewer bytes than the row's own tokens, and what these
+-- are where equal sixels follow.
+use Rattle.sixel_encoder.proofs.Names
+use Names.{◌≡◌, ◌≢◌, ℕ, zero, suc, ◌+◌, ◌*◌, ◌<◌, ◌≤◌, List, ◌∷◌, ◌++◌, length, replicate, refl, ap}
+use Names.{sym, ◌∙◌, arith, length-append, append_assoc, ◌/◌, ◌%◌, [], flat_map, All, cases_eq}
+use Names.{nat_tests, append-nil, replicate-append-replicate, replicate_more, flat_map-append}
+use Names.{All-head, All-tail, All-append, common_steps, get_or, drop, drop-cons}
 use Rattle.sixel_base.specs.Limits.{repeat_limit}
-use Rattle.sixel_encoder.specs.RunTokens.{RunToken, One, Many, sixels, spelling, written}
-use Rattle.sixel_encoder.specs.RunTokens.{cost, IsRunToken, Spells, IsShortest, rest_tokens}
-use Rattle.sixel_encoder.specs.RunTokens.{run_tokens, tokens_after, row_tokens}
-use Rattle.sixel_encoder.proofs.band_rows.RunCost.{run_cost, run_cut, run_least, run_cost0}
-use Rattle.sixel_encoder.proofs.band_rows.RunCost.{run_cost1}
-use Rattle.sixel_encoder.proofs.band_rows.RunCost.{cost-append, cost-run}
-use Rattle.std.proofs.lemmas.Grind.{common_steps}
+use Rattle.sixel_encoder.specs.RunTokens.{RunToken, One, Many, sixels, spelling, written, cost}
+use Rattle.sixel_encoder.specs.RunTokens.{IsRunToken, Spells, IsShortest, rest_tokens, run_tokens}
+use Rattle.sixel_encoder.specs.RunTokens.{tokens_after, row_tokens}
+use Rattle.sixel_encoder.proofs.band_rows.RunCost.{run_cost, run_cut, run_cost0, run_cost1}
+use Rattle.sixel_encoder.proofs.band_rows.RunCost.{cost-append, cost-run, length-decimal1}
+use Rattle.sixel_encoder.proofs.band_rows.RunCost.{length-decimal5}
 
 -- the bytes of the tokens of `n` equal sixels and a row
 abbrev pub left : ℕ → ℕ → List ℕ → ℕ
@@ -63,7 +59,8 @@ left_token : (token : RunToken) (row : List ℕ) → IsRunToken token
     → left 0 0 (sixels token ++ row) ≤ length (spelling token) + left 0 0 row
 unfolding sixels
 left_token (One b) row is = omega (arith, left_many 1 b row, run_cost1)
-left_token (Many n b) row is = grind (arith, nat_tests, run_least, length-append, left_many)
+left_token (Many n b) row is =
+    grind (arith, nat_tests, length-decimal1, length-decimal5, length-append, left_many)
 
 left_tokens : (tokens : List RunToken) → All IsRunToken tokens
     → left 0 0 (flat_map sixels tokens) ≤ cost tokens
@@ -128,3 +125,18 @@ All-after n b (c ∷ row) =
 -- the tokens of a row spell it
 pub spells : (row : List ℕ) → Spells (row_tokens row) row
 spells row = record { each = All-after 0 0 row; joined = sixels-after 0 0 row }
+
+-- equal sixels add to the run
+pub tokens_skip : (n : ℕ) (row : List ℕ) (at count bits : ℕ) → at + n ≤ length row
+    → ((k : ℕ) → at ≤ k → k < at + n → get_or row k 0 ≡ bits)
+    → tokens_after count bits (drop at row) ≡ tokens_after (count + n) bits (drop (at + n) row)
+tokens_skip zero row at count bits l same = grind (arith, nat_tests)
+tokens_skip (suc n) row at count bits l same =
+    let a : at + suc n ≡ at + 1 + n = omega arith in
+    let c : count + suc n ≡ count + 1 + n = omega arith in
+    let one : at + 1 ≡ suc at = omega arith in
+    let cut : drop at row ≡ get_or row at 0 ∷ drop (at + 1) row = grind (arith, one, drop-cons) in
+    ap (tokens_after count bits) cut
+    ∙ tokens_after-same count bits (get_or row at 0) (drop (at + 1) row)
+    (same at (omega arith) (omega arith))
+    ∙ rw (a, c) (grind (arith, nat_tests, tokens_skip n row (at + 1) (count + 1) bits))

@@ -1,23 +1,14 @@
 -- The sixels of a greedy fill, one column more of it, and the blocked pixels after a segment.
-use Rattle.std.specs.Int.Bits.{bit_and, bit_or}
-use Rattle.std.specs.List.{range_with_len}
-use Rattle.std.specs.Prelude.{All, slice_index, ◌==◌}
-use Rattle.std.proofs.Common.{Bool, List, ap, arith, cond, false, length, refl, replicate, set, suc}
-use Rattle.std.proofs.Common.{take, true, ℕ, ◌++◌, ◌+◌, ◌-◌, ◌<◌, ◌∷◌, ◌≡◌, ◌≢◌, ◌≤◌, length-append}
-use Rattle.std.proofs.Common.{[], zero, ◌∙◌, inl, inr}
-use Rattle.std.proofs.lemmas.Bool.Decides.{nat_tests}
-use Rattle.std.proofs.lemmas.Grind.{get_or-set_at, same_number_lists, common_steps}
-use Rattle.std.proofs.lemmas.List.{get_or-set_other, length-replicate, length-set, take_all}
-use Rattle.std.proofs.lemmas.List.{get_or-append-add, get_or-replicate, get_or_append_left}
-use Rattle.std.proofs.lemmas.List.Elements.{All-append, All-replicate}
-use Rattle.std.proofs.lemmas.List.FromFn.{get_or-map-range_with_len, length-map-range_with_len}
-use Rattle.std.proofs.lemmas.Nat.{or_lt}
-use Rattle.sixel_encoder.specs.declared.segments.Segment.{Segment}
+use Rattle.sixel_encoder.proofs.Names
+use Names.{get_or-map-range_with_len, length-map-range_with_len, get_or_append_left, range_with_len}
+use Names.{same_number_lists, get_or-append-add, get_or-set_other, length-replicate, length-append}
+use Names.{get_or-set_at, All-replicate, common_steps, slice_index, bit_at-zero, length-set, bit_or}
+use Names.{All-append, bit_at_and, replicate, nat_tests, bit_at-lt, bit_at_or, take_all, cases_eq}
+use Names.{bit_and, length, bit_at, arith, false, or_lt, ◌==◌, Bool, List, cond, refl, take, true}
+use Names.{◌++◌, zero, All, set, suc, ◌+◌, ◌-◌, ◌<◌, ◌∷◌, ◌≡◌, ◌≢◌, ◌≤◌, ◌∙◌, inl, inr, ap, [], ℕ}
+use Rattle.std.proofs.lemmas.List.{get_or-replicate}
+use Rattle.sixel_encoder.specs.{declared.segments.Segment.Segment, Text.Drawing, Text.sixel_of}
 use Rattle.sixel_encoder.specs.Compact.{blocked_after, fill_after, union}
-use Rattle.sixel_encoder.specs.Text.{Drawing, sixel_of}
-use Rattle.std.specs.Int.{bit_at}
-use Rattle.std.proofs.lemmas.Nat.Bits.{bit_at-lt, bit_at-zero, bit_at_and, bit_at_or}
-use Rattle.std.proofs.lemmas.Bool.{cases_eq}
 
 -- each bit of a is one of b
 abbrev pub IsPart : ℕ → ℕ → Type 0

@@ -1,20 +1,13 @@
 -- The segments of a band that are left to draw, and the pixels that may not be covered.
-use Rattle.std.specs.Int.{bit_at}
-use Rattle.std.specs.List.{range_with_len}
-use Rattle.std.specs.Prelude.{All, None, Some, nat_le, nat_lt, not, slice_index, ◌&&◌, ◌==◌}
-use Rattle.std.proofs.Common.{Bool, List, arith, inl, inr, length, suc, zero, true, ℕ, ◌*◌}
-use Rattle.std.proofs.Common.{◌+◌, ◌-◌, ◌<◌, ◌∙◌, ◌∷◌, ◌≡◌, ◌≤◌}
-use Rattle.std.proofs.lemmas.Bool.{cases_lt}
-use Rattle.std.proofs.lemmas.Bool.Decides.{nat_tests}
-use Rattle.std.proofs.lemmas.List.FromFn.{get_or-map-range_with_len, get_or-range_with_len}
-use Rattle.std.proofs.lemmas.List.FromFn.{length-map-range_with_len, length-range_with_len}
-use Rattle.std.proofs.lemmas.Nat.Bits.{bit_at-lt, bit_at-zero, bit_at_above, bit_at_or}
-use Rattle.sixel_encoder.specs.declared.segments.Segment.{Segment}
+use Rattle.sixel_encoder.proofs.Names
+use Names.{get_or-map-range_with_len, length-map-range_with_len, get_or-range_with_len, slice_index}
+use Names.{length-range_with_len, range_with_len, bit_at_above, bit_at-zero, nat_tests, bit_at-lt}
+use Names.{bit_at_or, cases_lt, bit_at, nat_le, nat_lt, length, arith, None, Some, ◌&&◌, ◌==◌, Bool}
+use Names.{List, zero, true, not, inl, inr, suc, ◌*◌, ◌+◌, ◌-◌, ◌<◌, ◌∙◌, ◌∷◌, ◌≡◌, ◌≤◌, ℕ}
+use Rattle.sixel_encoder.specs.{declared.segments.Segment.Segment, inside.Compact.IsSegment}
 use Rattle.sixel_encoder.specs.Compact.{blocked_after, blocked_sixel, segment_row, union}
-use Rattle.sixel_encoder.specs.inside.Compact.{IsSegment}
 use Rattle.sixel_encoder.specs.Text.{Drawing, entry_at, sixel_of}
-use Rattle.sixel_encoder.proofs.compact_form.FillSteps.{All-fill, AreApart, IsFill-fill, IsPart}
-use Rattle.sixel_encoder.proofs.compact_form.FillSteps.{IsFilled}
+use Rattle.sixel_encoder.proofs.compact_form.FillSteps.{AreApart, IsFill-fill, IsPart, IsFilled}
 use Rattle.sixel_encoder.proofs.compact_form.SegmentTallies.{is_of, one, tally}
 use Rattle.sixel_encoder.proofs.MaskBits.{bit_at-mask, mask-small}
 
@@ -49,11 +42,6 @@ pub first-left : (drawing : Drawing) (band : ℕ) (blocked : List ℕ) (segment 
     (segments : List Segment) → AreLeft drawing band blocked (segment ∷ segments)
     → IsSegment drawing segment
 first-left drawing band blocked segment segments are = grind (arith, nat_tests, segment-is)
-
--- a pixel that is one of a segment's
-pub is_of-entry : (column entry : ℕ) (segment : Segment) → is_of column (Some entry) segment ≡ true
-    → (entry ≡ segment.entry) × (segment.first ≤ column) × (column < segment.end)
-is_of-entry column entry segment is = grind (arith, nat_tests)
 
 -- the bit of a pixel in the sixel of an entry
 pub own-bit : (drawing : Drawing) (band own column bit entry : ℕ) → bit < 6
@@ -154,8 +142,3 @@ IsSegmentRow-left drawing band blocked segment segments from are left =
         | inr low ↦ (filled column low high).none
       ];
     }
-
--- it has six bits in each column
-pub row-small : (drawing : Drawing) (band : ℕ) (blocked : List ℕ) (segment : Segment) (from : ℕ)
-    → All (λ b. b < 64) (segment_row drawing band blocked segment from)
-row-small drawing band blocked segment from = grind (arith, nat_tests, All-fill, mask-small)

@@ -1,15 +1,12 @@
 -- One pixel more of a band, and one segment more of a pass.
-use Rattle.std.specs.Prelude.{None, Option, Some, slice_index_or, ◌/◌, ◌%◌}
-use Rattle.std.proofs.Common.{List, ap, append_assoc, arith, length, refl, replicate}
-use Rattle.std.proofs.Common.{suc, zero, ℕ, ◌*◌, ◌++◌, ◌+◌, ◌<◌, ◌-◌, ◌∷◌, ◌≡◌, []}
-use Rattle.std.proofs.lemmas.Bool.Decides.{nat_tests}
-use Rattle.std.proofs.lemmas.List.{append-nil}
-use Rattle.sixel_encoder.specs.declared.segments.Segment.{Segment}
+use Rattle.sixel_encoder.proofs.Names.{None, Option, Some, slice_index_or, ◌/◌, ◌%◌, List, ap}
+use Rattle.sixel_encoder.proofs.Names.{append_assoc, arith, length, refl, replicate, suc, zero, ℕ}
+use Rattle.sixel_encoder.proofs.Names.{◌*◌, ◌++◌, ◌+◌, ◌<◌, ◌-◌, ◌∷◌, ◌≡◌, [], nat_tests}
+use Rattle.sixel_encoder.proofs.Names.{append-nil, cases_Bool}
+use Rattle.sixel_encoder.specs.{declared.segments.Segment.Segment, Text.Drawing, Text.entry_at}
 use Rattle.sixel_encoder.specs.Segments.{after_pass, gap_of, in_pass, passes, segments_up_to}
 use Rattle.sixel_encoder.specs.Segments.{with_pixel, with_place}
-use Rattle.sixel_encoder.specs.Text.{Drawing, entry_at}
 use Rattle.sixel_encoder.proofs.compact_form.SegmentSteps.{is_near, near-own}
-use Rattle.std.proofs.lemmas.Bool.{cases_Bool}
 
 -- ---- the segments of a band
 
@@ -72,12 +69,6 @@ module _ (drawing : Drawing) (band column bit : ℕ) (items : List Segment) (l :
       → items ≡ segments_up_to drawing band (6 * column + (bit + 1))
   segment-skip none = grind (arith, nat_tests, segments_up_to-bit)
 
--- a place that is added twice
-with_place-twice : (gap column : ℕ) (place : Option ℕ) (segments : List Segment)
-    → with_place gap column place (with_place gap column place segments)
-    ≡ with_place gap column place segments
-with_place-twice gap column place segments = grind (arith, nat_tests, with_pixel-twice)
-
 -- the pixels of a column, each like the first
 pub segment-uniform : (drawing : Drawing) (band column : ℕ) (items : List Segment)
     → items ≡ segments_up_to drawing band (6 * column + 1)
@@ -87,7 +78,7 @@ pub segment-uniform : (drawing : Drawing) (band column : ℕ) (items : List Segm
 segment-uniform drawing band column items first same zero l = first
 segment-uniform drawing band column items first same (suc n) l =
     let before = segment-uniform drawing band column items first same n (omega arith) in
-    grind (arith, segments_up_to-bit, with_place-twice)
+    grind (arith, segments_up_to-bit, nat_tests, with_pixel-twice)
 
 -- one pass of those that are left
 pub passes-step : (n counter : ℕ) (ordered left next rest whole : List Segment) → counter < n

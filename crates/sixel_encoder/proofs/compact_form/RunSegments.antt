@@ -1,18 +1,14 @@
 -- The segments of a band after a run of columns whose pixels all have one entry.
-use Rattle.std.specs.Prelude.{None, Option, Some, slice_index_or}
-use Rattle.std.proofs.Common.{List, ap, arith, false, length, refl, set, []}
-use Rattle.std.proofs.Common.{suc, sym, true, zero, ℕ, ◌++◌, ◌+◌, ◌-◌, ◌*◌, ◌<◌, ◌≤◌, ◌≡◌, ◌∙◌, ◌∷◌}
-use Rattle.std.proofs.lemmas.Bool.Decides.{nat_tests}
-use Rattle.sixel_encoder.specs.declared.segments.Segment.{Segment}
+use Rattle.sixel_encoder.proofs.Names.{None, Option, Some, slice_index_or, List, ap, arith, false}
+use Rattle.sixel_encoder.proofs.Names.{length, refl, set, [], suc, sym, true, zero, ℕ, ◌++◌, ◌+◌}
+use Rattle.sixel_encoder.proofs.Names.{◌-◌, ◌*◌, ◌<◌, ◌≤◌, ◌≡◌, ◌∙◌, ◌∷◌, nat_tests, cases_Bool}
+use Rattle.sixel_encoder.specs.{declared.segments.Segment.Segment, Text.Drawing, Text.entry_at}
 use Rattle.sixel_encoder.specs.inside.Compact.{nth, with_run, AreLast}
 use Rattle.sixel_encoder.specs.Segments.{gap_of, segments_up_to, with_pixel}
-use Rattle.sixel_encoder.specs.Text.{Drawing, entry_at}
 use Rattle.sixel_encoder.proofs.compact_form.PassSteps.{segment-pixel, segment-skip}
 use Rattle.sixel_encoder.proofs.compact_form.PassSteps.{segment-uniform}
 use Rattle.sixel_encoder.proofs.compact_form.SegmentSteps.{AreLast-later, AreLast-near, AreLast-new}
-use Rattle.sixel_encoder.proofs.compact_form.SegmentSteps.{grown}
-use Rattle.sixel_encoder.proofs.compact_form.SegmentSteps.{is_near, near-own}
-use Rattle.std.proofs.lemmas.Bool.{cases_Bool}
+use Rattle.sixel_encoder.proofs.compact_form.SegmentSteps.{grown, is_near, near-own}
 
 -- a run of pixels of an entry
 abbrev pub run_of : ℕ → ℕ → ℕ → Segment

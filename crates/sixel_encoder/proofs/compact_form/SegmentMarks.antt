@@ -1,30 +1,19 @@
 -- The marks of a segment draw its pixels and cover none that may not be covered.
-use Rattle.std.specs.Int.{bit_at}
-use Rattle.std.specs.Prelude.{None, Option, Some, nat_le, slice_index}
-use Rattle.std.proofs.Common.{Bool, List, arith, cond, false, length, refl}
-use Rattle.std.proofs.Common.{true, ℕ, ◌*◌, ◌+◌, ◌-◌, ◌<◌, ◌∙◌, ◌∷◌, ◌≡◌, ◌≤◌, []}
-use Rattle.std.proofs.lemmas.Bool.{cases_eq}
-use Rattle.std.proofs.lemmas.Bool.Decides.{nat_tests}
-use Rattle.std.proofs.lemmas.Nat.Bits.{bit_at-lt}
-use Rattle.sixel_encoder.specs.declared.segments.Segment.{Segment}
-use Rattle.sixel_encoder.specs.Compact.{Drawn, blocked_after, drawn_after, drawn_by, is_selected}
-use Rattle.sixel_encoder.specs.Compact.{segment_marks, segment_row, segments_marks, start_column}
-use Rattle.sixel_encoder.specs.Compact.{to_register, to_segment}
+use Rattle.sixel_encoder.proofs.Names.{bit_at, None, Option, Some, nat_le, slice_index, Bool, List}
+use Rattle.sixel_encoder.proofs.Names.{arith, cond, false, length, refl, true, ℕ, ◌*◌, ◌+◌, ◌-◌}
+use Rattle.sixel_encoder.proofs.Names.{◌<◌, ◌∙◌, ◌∷◌, ◌≡◌, ◌≤◌, [], cases_eq, nat_tests, bit_at-lt}
+use Rattle.sixel_encoder.specs.{declared.segments.Segment.Segment, Compact.segments_marks}
+use Rattle.sixel_encoder.specs.{Compact.start_column, RegisterOrder.number_of, Text.Drawing}
+use Rattle.sixel_encoder.specs.{Text.bands, Text.entry_at, Trip.is_used, inside.Compact.IsSegment}
+use Rattle.sixel_encoder.specs.Compact.{to_register, to_segment, Drawn, blocked_after, drawn_after}
+use Rattle.sixel_encoder.specs.Compact.{drawn_by, is_selected, segment_marks, segment_row}
 use Rattle.sixel_encoder.specs.Marks.{Back, Draw, Pen, Pick, is_lit}
-use Rattle.sixel_encoder.specs.RegisterOrder.{number_of}
-use Rattle.sixel_encoder.specs.Text.{Drawing, bands, entry_at}
-use Rattle.sixel_encoder.specs.Trip.{is_used}
-use Rattle.sixel_encoder.proofs.band_rows.EntryRows.{IsInBand}
-use Rattle.sixel_encoder.proofs.compact_form.LeftSegments.{AreLeft, AreLeft-after}
-use Rattle.sixel_encoder.specs.inside.Compact.{IsSegment}
-use Rattle.sixel_encoder.proofs.compact_form.LeftSegments.{IsSegmentRow}
-use Rattle.sixel_encoder.proofs.compact_form.LeftSegments.{IsSegmentRow-left, first-left}
-use Rattle.sixel_encoder.proofs.compact_form.LeftSegments.{is_of-entry, own-bit}
-use Rattle.sixel_encoder.proofs.compact_form.LeftSegments.{row-small}
+use Rattle.sixel_encoder.proofs.band_rows.EntryRows.{IsInBand, is_lit-past}
+use Rattle.sixel_encoder.proofs.compact_form.LeftSegments.{AreLeft, AreLeft-after, IsSegmentRow}
+use Rattle.sixel_encoder.proofs.compact_form.LeftSegments.{IsSegmentRow-left, first-left, own-bit}
 use Rattle.sixel_encoder.proofs.round_trip.MarkSteps.{Leads, Leads-append, Places}
-use Rattle.sixel_encoder.proofs.compact_form.RegisterNumbers.{AreNumbers}
-use Rattle.sixel_encoder.proofs.band_rows.RowPixels.{is_lit-past}
-use Rattle.sixel_encoder.proofs.compact_form.SegmentTallies.{is_of}
+use Rattle.sixel_encoder.proofs.compact_form.{RegisterNumbers.AreNumbers, SegmentTallies.is_of}
+use Rattle.sixel_encoder.proofs.{compact_form.FillSteps.All-fill, MaskBits.mask-small}
 
 -- ---- within a band
 
@@ -106,12 +95,6 @@ record IsLit (band from end column line value : ℕ) : Type 0 where
   inside : IsInBand band line
   bit : bit_at value (line - 6 * band) ≡ 1
 
--- its column and its bit
-lit-is : (row : List ℕ) (band from end column line : ℕ) → length row ≡ end - from
-    → is_lit row from (6 * band) column line ≡ true
-    → IsLit band from end column line (slice_index row (column - from))
-lit-is row band from end column line size lit = grind (arith, nat_tests, is_lit-past)
-
 -- ---- the row of a segment
 
 -- the row of a segment that is left
@@ -123,7 +106,7 @@ Leads-row : (drawing : Drawing) (band : ℕ) (drawn : Drawn) (segment : Segment)
     → Leads drawing (IsDrawn drawing band (drawn_after drawing band drawn segment)) pen place
     (Draw (segment_row drawing band drawn.blocked segment drawn.column) ∷ [])
 Leads-row drawing band drawn segment segments pen place are lower used left at = record {
-  allowed = grind (arith, nat_tests, row-small, known, is);
+  allowed = grind (arith, nat_tests, All-fill, mask-small, known, is);
   state =
       grind (arith, nat_tests, row, known, is, lit-here, bit-of, at-bit, coverable, keep, draws);
 }
@@ -144,7 +127,7 @@ Leads-row drawing band drawn segment segments pen place are lower used left at =
 
     lit-here : (column line : ℕ) → is_lit row pen.column (6 * pen.band) column line ≡ true
         → IsLit band drawn.column segment.end column line (slice_index row (column - drawn.column))
-    lit-here column line lit = grind (arith, nat_tests, lit-is, row, is, same)
+    lit-here column line lit = grind (arith, nat_tests, is_lit-past, row, is, same)
 
     bit-of : (line : ℕ) → IsInBand band line → line - 6 * band < 6
     bit-of line inside = omega (arith, inside.since, inside.before)
@@ -182,13 +165,13 @@ Leads-row drawing band drawn segment segments pen place are lower used left at =
         (line - 6 * band) ≡ 1 → (b : Bool) → is_lit row pen.column (6 * pen.band) column line ≡ b
         → cond b pen.register (place column line) ≡ Some (number_of drawing entry)
     draws column line entry lc inside e bit true lit =
-        grind (arith, nat_tests, is_of-entry, owned column line entry lc inside e bit, coverable)
+        grind (arith, nat_tests, owned column line entry lc inside e bit, coverable)
     draws column line entry lc inside e bit false unlit =
         let was = cases_eq (bit_at (slice_index drawn.blocked column) (line - 6 * band)) 1 in
         let own = owned column line entry lc inside e bit in
         let at_bit = at-bit column line inside ∙ e in
         let has = own-bit drawing band segment.entry column _ entry (bit-of line inside) at_bit in
-        grind (arith, nat_tests, is_of-entry, bit_at-lt, row, is, same, at.here)
+        grind (arith, nat_tests, bit_at-lt, row, is, same, at.here)
 
 -- ---- some segments
 

@@ -1,30 +1,20 @@
 -- The segments that a compact text draws have each pixel of the drawing once.
-use Rattle.std.specs.Int.{bit_at}
-use Rattle.std.specs.Prelude.{None, Option, Some, is_some, slice_index, slice_index_or, ◌%◌, ◌/◌}
-use Rattle.std.proofs.Common.{Bool, List, arith, false, inl, inr, length, not, refl}
-use Rattle.std.proofs.Common.{suc, true, zero, ℕ, ◌*◌, ◌+◌, ◌<◌, ◌∷◌, ◌≡◌, ◌≤◌, []}
-use Rattle.std.proofs.lemmas.Bool.{cases_eq}
-use Rattle.std.proofs.lemmas.Bool.Decides.{nat_tests}
-use Rattle.std.proofs.lemmas.List.FromFn.{get_or-map-range_with_len, length-map-range_with_len}
-use Rattle.sixel_encoder.specs.declared.segments.Segment.{Segment}
+use Rattle.sixel_encoder.proofs.Names
+use Names.{bit_at, None, Option, Some, slice_index, slice_index_or, ◌%◌, ◌/◌, List}
+use Names.{arith, false, inl, inr, length, not, refl, suc, true, zero, ℕ, ◌*◌, ◌+◌, ◌<◌, ◌∷◌, ◌≡◌}
+use Names.{◌≤◌, [], cases_eq, nat_tests, get_or-map-range_with_len, length-map-range_with_len}
+use Rattle.sixel_encoder.specs.{declared.segments.Segment.Segment, Compact.transparent_sixel}
+use Rattle.sixel_encoder.specs.{Segments.with_place, Text.Drawing, Text.entry_at, Trip.is_used}
 use Rattle.sixel_encoder.specs.Compact.{band_register, register_after, transparent_row}
-use Rattle.sixel_encoder.specs.Compact.{transparent_sixel}
-use Rattle.sixel_encoder.specs.Segments.{drawn_segments, gap_of}
-use Rattle.sixel_encoder.specs.Segments.{segments_up_to, with_pixel, with_place}
-use Rattle.sixel_encoder.specs.Text.{Drawing, entry_at}
-use Rattle.sixel_encoder.specs.Trip.{is_used}
+use Rattle.sixel_encoder.specs.Segments.{drawn_segments, gap_of, segments_up_to, with_pixel}
 use Rattle.sixel_encoder.specs.inside.Compact.{IsSegment, nth}
-use Rattle.sixel_encoder.proofs.compact_form.LeftSegments.{AreLeft, is_segment}
-use Rattle.sixel_encoder.proofs.compact_form.LeftSegments.{segment-is}
-use Rattle.sixel_encoder.proofs.MaskBits.{bit_at-mask}
-use Rattle.sixel_encoder.proofs.compact_form.PassSteps.{passes-none}
-use Rattle.sixel_encoder.proofs.compact_form.SegmentSteps.{some-same}
+use Rattle.sixel_encoder.proofs.compact_form.LeftSegments.{AreLeft, is_segment, segment-is}
+use Rattle.sixel_encoder.proofs.{MaskBits.bit_at-mask, compact_form.PassSteps.passes-none}
+use Rattle.sixel_encoder.proofs.compact_form.{SegmentSteps.some-same, SegmentTallies.tally-drawn}
 use Rattle.sixel_encoder.proofs.round_trip.UsedBands.{unused-places}
 use Rattle.sixel_encoder.proofs.compact_form.SegmentTallies.{each-tally, is_of, one, tally}
-use Rattle.sixel_encoder.proofs.compact_form.SegmentTallies.{tally-drawn}
 use Rattle.sixel_encoder.proofs.compact_form.CutSegments.{AreCut, AreCut-pixel, AreCut-wider}
-use Rattle.sixel_encoder.proofs.compact_form.CutSegments.{few-cut, own-pixel}
-use Rattle.sixel_encoder.proofs.compact_form.CutSegments.{tally-pixel}
+use Rattle.sixel_encoder.proofs.compact_form.CutSegments.{few-cut, own-pixel, tally-pixel}
 
 -- ---- the segments of a band
 
@@ -91,18 +81,12 @@ module _ (drawing : Drawing) (band : ℕ) where
   pub used-drawn : 0 < length (drawn_segments drawing band) → is_used drawing band ≡ true
   used-drawn some = grind (arith, nat_tests, passes-none, unused-segments)
 
--- the bit of a transparent pixel when a band begins
-transparent-bit : (drawing : Drawing) (band column bit : ℕ) → column < drawing.width → bit < 6
-    → (b : Bool) → not (is_some (entry_at drawing column (6 * band + bit))) ≡ b
-    → bit_at (slice_index (transparent_row drawing band) column) bit ≡ one b
-transparent-bit drawing band column bit lc lb b is =
-    grind (arith, nat_tests, get_or-map-range_with_len, not, bit_at-mask)
-
 -- and that of an opaque one
 pub opaque-bit : (drawing : Drawing) (band column bit entry : ℕ) → column < drawing.width → bit < 6
     → entry_at drawing column (6 * band + bit) ≡ Some entry
     → bit_at (slice_index (transparent_row drawing band) column) bit ≡ 0
-opaque-bit drawing band column bit entry lc lb e = grind (arith, nat_tests, not, transparent-bit)
+opaque-bit drawing band column bit entry lc lb e =
+    grind (arith, nat_tests, not, get_or-map-range_with_len, bit_at-mask)
 
 -- when a band begins all its segments are left
 pub AreLeft-drawn : (drawing : Drawing) (band : ℕ) → AreKnown drawing
@@ -112,7 +96,8 @@ AreLeft-drawn drawing band known =
     record {
       size = length-map-range_with_len (transparent_sixel drawing band) 0 drawing.width;
       known = grind (arith, nat_tests, tally-drawn, not, known-cut);
-      transparent = λ column bit lc lb e. grind (arith, nat_tests, bit, transparent-bit);
+      transparent = λ column bit lc lb e.
+          grind (arith, nat_tests, bit, get_or-map-range_with_len, not, bit_at-mask);
       once = λ column bit entry lc lb e.
           let at : (6 * column + bit) / 6 ≡ column = omega arith in
           grind (arith, nat_tests, tally-drawn, few-cut, opaque-bit);

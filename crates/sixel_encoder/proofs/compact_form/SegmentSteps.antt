@@ -1,11 +1,9 @@
 -- One pixel more in the segments of a band, and the last segment of each entry.
-use Rattle.std.specs.Prelude.{None, Option, Some, nat_lt, slice_index_or, ◌&&◌, ◌==◌}
-use Rattle.std.proofs.Common.{Bool, List, arith, false, inl, inr, length, refl, set}
-use Rattle.std.proofs.Common.{true, ℕ, ◌++◌, ◌+◌, ◌<◌, ◌∷◌, ◌≡◌, ◌≢◌, ◌≤◌, length-append, []}
-use Rattle.std.proofs.lemmas.Bool.{cases_eq}
-use Rattle.std.proofs.lemmas.Bool.Decides.{nat_tests}
-use Rattle.std.proofs.lemmas.Grind.{get_or-set_at}
-use Rattle.std.proofs.lemmas.List.{get_or-set_other, get_or_append_left, get_or_push, length-set}
+use Rattle.sixel_encoder.proofs.Names.{None, Option, Some, nat_lt, slice_index_or, ◌&&◌, ◌==◌, Bool}
+use Rattle.sixel_encoder.proofs.Names.{List, arith, false, inl, inr, length, refl, set, true, ℕ}
+use Rattle.sixel_encoder.proofs.Names.{◌++◌, ◌+◌, ◌<◌, ◌∷◌, ◌≡◌, ◌≤◌, length-append, []}
+use Rattle.sixel_encoder.proofs.Names.{cases_eq, nat_tests, get_or-set_at, get_or-set_other}
+use Rattle.sixel_encoder.proofs.Names.{get_or_append_left, get_or_push, length-set}
 use Rattle.sixel_encoder.specs.declared.segments.Segment.{Segment}
 use Rattle.sixel_encoder.specs.inside.Compact.{nth, AreLast}
 
@@ -28,12 +26,6 @@ near-own gap column entry segment same near = grind (arith, nat_tests)
 pub some-same : (a b : ℕ) → Some a ≡ Some b → a ≡ b
 some-same a b h = cc
 
--- no segment but an entry's last one is near
-pub others-far : (segments : List Segment) (last : List (Option ℕ)) (gap column entry k j : ℕ)
-    → AreLast segments last gap column → slice_index_or last entry None ≡ Some k
-    → j < length segments → j ≢ k → is_near gap column entry (nth segments j) ≡ false
-others-far segments last gap column entry k j are is l apart = grind (arith, nat_tests, some-same)
-
 -- no segment at all
 pub AreLast-none : (last : List (Option ℕ)) (gap column : ℕ)
     → ((entry : ℕ) → slice_index_or last entry None ≡ None) → AreLast [] last gap column
@@ -50,7 +42,7 @@ module _ (segments : List Segment) (last : List (Option ℕ)) (gap column : ℕ)
   pub last-far : (entry k j : ℕ) → slice_index_or last entry None ≡ Some k
       → (nth segments k).end + gap ≤ column → j < length segments
       → is_near gap column entry (nth segments j) ≡ false
-  last-far entry k j is far l = grind (arith, nat_tests, others-far)
+  last-far entry k j is far l = grind (arith, nat_tests, some-same)
 
   -- ---- the last segments
 

@@ -1,12 +1,10 @@
 -- How many segments pass a test, pass by pass.
-use Rattle.std.specs.Prelude.{Option, nat_le, nat_lt, ◌&&◌}
-use Rattle.std.proofs.Common.{Bool, List, arith, cond, length, not, refl}
-use Rattle.std.proofs.Common.{suc, true, zero, ℕ, ◌++◌, ◌+◌, ◌<◌, ◌∷◌, ◌≡◌, []}
+use Rattle.sixel_encoder.proofs.Names.{Option, nat_le, nat_lt, ◌&&◌, Bool, List, arith, cond}
+use Rattle.sixel_encoder.proofs.Names.{length, not, refl, suc, true, zero, ℕ, ◌++◌, ◌+◌, ◌<◌, ◌∷◌}
+use Rattle.sixel_encoder.proofs.Names.{◌≡◌, [], nat_tests}
 use Rattle.sixel_encoder.specs.declared.segments.Segment.{Segment}
-use Rattle.sixel_encoder.specs.inside.Compact.{nth}
+use Rattle.sixel_encoder.specs.{inside.Compact.nth, Text.Drawing, Text.is_entry}
 use Rattle.sixel_encoder.specs.Segments.{after_pass, band_segments, drawn_segments, in_pass, passes}
-use Rattle.sixel_encoder.specs.Text.{Drawing, is_entry}
-use Rattle.std.proofs.lemmas.Bool.Decides.{nat_tests}
 
 -- whether a pixel in this column with this entry is one of the segment's
 abbrev pub is_of : ℕ → Option ℕ → Segment → Bool

@@ -1,45 +1,33 @@
 -- Images that show the same have the same indices at their opaque pixels, so one drawing.
-use Rattle.std.proofs.Common.{◌≡◌, ℕ, zero, suc, ◌+◌, ◌*◌, ◌<◌, ◌≤◌, List, length, refl}
-use Rattle.std.proofs.Common.{ap, sym, subst, arith, inl, inr, ◌∙◌}
-use Rattle.std.specs.Prelude.{◌/◌, ◌%◌, None, Option, slice_index}
-use Rattle.std.proofs.lemmas.Nat.{div-add-mod', mod_below}
-use Rattle.std.proofs.lemmas.Bool.{cases_lt}
-use Rattle.std.proofs.lemmas.List.{ext_get_or}
-use Rattle.std.proofs.lemmas.List.FromFn.{length-map-range_with_len}
+use Rattle.sixel_encoder.proofs.Names.{◌≡◌, ℕ, zero, suc, ◌+◌, ◌*◌, ◌<◌, ◌≤◌, List, length, refl}
+use Rattle.sixel_encoder.proofs.Names.{ap, sym, subst, arith, inl, inr, ◌∙◌, ◌/◌, ◌%◌, None, Option}
+use Rattle.sixel_encoder.proofs.Names.{slice_index, div-add-mod', mod_below, cases_lt, ext_get_or}
+use Rattle.sixel_encoder.proofs.Names.{length-map-range_with_len, nat_tests}
 use Rattle.sixel_palette.specs.Palette.{IsOpaque, entry_of}
-use Rattle.sixel_palette.specs.Refined.{opaque_pixels}
+use Rattle.sixel_palette.specs.{Refined.opaque_pixels, declared.dither.Dither.Dither}
+use Rattle.sixel_palette.specs.{declared.mapping.Mapping.Mapping, Gray.source_pixels}
 use Rattle.sixel_base.specs.Payload.{Image}
-use Rattle.sixel_palette.specs.declared.dither.Amplitude.{Amplitude}
-use Rattle.sixel_palette.specs.declared.dither.Dither.{Dither}
+use Rattle.sixel_palette.specs.declared.{dither.Amplitude.Amplitude, mapping.Tolerance.Tolerance}
 use Rattle.sixel_palette.specs.declared.dither.Dither.TheVariants.{Diffusion, Off, Ordered}
-use Rattle.sixel_palette.specs.declared.mapping.Mapping.{Mapping}
-use Rattle.sixel_palette.specs.declared.mapping.Tolerance.{Tolerance}
 use Rattle.sixel_palette.specs.Dithering.{AreDiffused, AreDithered, AreVisited, HasTarget}
 use Rattle.sixel_palette.specs.Dithering.{HaveChoice, HaveIndices, HaveTargets, IsIndex, Mapped}
 use Rattle.sixel_palette.specs.Dithering.{amplitude_of, errors_of, mapped_of, moved_image}
-use Rattle.sixel_palette.specs.Dithering.{moved_pixels, refined_mapping, serpentine}
+use Rattle.sixel_palette.specs.Dithering.{moved_pixels, refined_mapping, serpentine, shift_of}
 use Rattle.sixel_palette.specs.Dithering.{target_of_visit, tolerance_of, undithered_of, with_pixels}
 use Rattle.sixel_encoder.specs.Encoding.{shown_image}
-use Rattle.sixel_palette.specs.Gray.{source_pixels}
 use Rattle.sixel_encoder.specs.IndexedDrawing.{entries_of, indexed_drawing}
 use Rattle.sixel_palette.proofs.mapped_images.DitheredIndices.{AreRowsOf, visit-inside}
 use Rattle.sixel_palette.proofs.mapped_images.GraySource.{AreRowsOf-source, IsSource-pixels}
-use Rattle.sixel_palette.proofs.mapped_images.GraySource.{dithered-count}
-use Rattle.sixel_palette.proofs.mapped_images.GraySource.{entry-source, measured-alike}
-use Rattle.sixel_palette.proofs.mapped_images.GraySource.{source-alike}
-use Rattle.sixel_encoder.proofs.drawings.IndexedDrawing.{get_or-entries}
+use Rattle.sixel_palette.proofs.mapped_images.GraySource.{dithered-count, entry-source}
+use Rattle.sixel_palette.proofs.mapped_images.GraySource.{measured-alike, source-alike}
+use Rattle.sixel_encoder.proofs.drawings.{IndexedText.get_or-entries, SameDrawing.AreAlike-images}
 use Rattle.sixel_palette.proofs.mapped_images.KeptEntries.{IsIndex-same}
 use Rattle.sixel_palette.proofs.mapped_images.MovedPixels.{moved-alike, moved-entry}
 use Rattle.sixel_palette.proofs.mapped_images.PaletteError.{number-dark, number-light, sum_to-same}
-use Rattle.sixel_encoder.proofs.drawings.SameDrawing.{drawing-fields}
 use Rattle.sixel_palette.proofs.mapped_images.UnditheredAlike.{AreChosen-alike, chosen-alike}
 use Rattle.sixel_palette.proofs.mapped_images.UnditheredAlike.{indices-alike}
-use Rattle.sixel_palette.proofs.mapped_images.SameVisits.{AreAlike, AreSameOpaque}
-use Rattle.sixel_palette.proofs.mapped_images.SameVisits.{entry-before, errors-alike}
-use Rattle.sixel_palette.proofs.mapped_images.SameVisits.{neighbor-alike}
-use Rattle.sixel_palette.proofs.mapped_images.SameVisits.{target-alike}
-use Rattle.std.proofs.lemmas.Bool.Decides.{nat_tests}
-use Rattle.sixel_encoder.proofs.drawings.SameDrawing.{AreAlike-images}
+use Rattle.sixel_palette.proofs.mapped_images.SameVisits.{neighbor-alike, AreSameOpaque, AreAlike}
+use Rattle.sixel_palette.proofs.mapped_images.SameVisits.{entry-before, errors-alike, target-alike}
 
 -- ---- all kinds
 
@@ -155,8 +143,8 @@ HaveIndices-alike Off m q a alike rows have = other-choice m q a alike have
 HaveIndices-alike (Ordered amplitude) m q a alike rows have =
     let moved = amplitude_of amplitude m.colors m.pixels in
     rw (amplitude-alike amplitude m.colors m.pixels q alike) at
-    (other-choice (moved_image m moved) (moved_pixels moved m.width q) a
-    (moved-alike moved m.width m.pixels q alike) have)
+    (other-choice (moved_image m moved) (moved_pixels moved (shift_of m.colors) m.width q) a
+    (moved-alike moved (shift_of m.colors) m.width m.pixels q alike) have)
 HaveIndices-alike (Diffusion strength) m q a alike rows have = other-diffused m q a alike rows have
 
 -- and the entries
@@ -177,13 +165,13 @@ have-alike Off m q a b pixel alike rows first second l =
     choice-entry m q a b pixel alike rows.some first second
 have-alike (Ordered amplitude) m q a b pixel alike rows first second l =
     let moved = amplitude_of amplitude m.colors m.pixels in
-    let other = moved_pixels moved m.width q in
+    let other = moved_pixels moved (shift_of m.colors) m.width q in
     let also : HaveChoice (with_pixels m other) b =
     rw (amplitude-alike amplitude m.colors m.pixels q alike) second in
-    moved-entry moved m.width m.pixels a pixel l
+    moved-entry moved (shift_of m.colors) m.width m.pixels a pixel l
     ∙ (choice-entry (moved_image m moved) other a b pixel
-    (moved-alike moved m.width m.pixels q alike) rows.some first also
-    ∙ sym (moved-entry moved m.width q b pixel (omega (arith, l, alike.count))))
+    (moved-alike moved (shift_of m.colors) m.width m.pixels q alike) rows.some first also
+    ∙ sym (moved-entry moved (shift_of m.colors) m.width q b pixel (omega (arith, l, alike.count))))
 have-alike (Diffusion strength) m q a b pixel alike rows first second l =
     let count = length m.pixels / 4 in
     entry-before m q a b count pixel alike rows.some l (same-opaque m q a b count alike rows
@@ -252,4 +240,4 @@ module _ (mapping : Mapping) (colors : List (List ℕ)) (a b : List ℕ) where
       let own : pixel < length a = grind (arith, nat_tests, length-map-range_with_len) in
       let both = entry-alike image.width image.pixels other.pixels pixel alike rows first also in
       grind (arith, nat_tests, get_or-entries)) in
-      grind (arith, nat_tests, drawing-fields)
+      grind (arith, nat_tests)

@@ -1,18 +1,12 @@
 -- Images that show the same have one drawing.
-use Rattle.std.proofs.Common.{◌≡◌, ℕ, ◌+◌, ◌*◌, ◌/◌, ◌<◌, List, length}
-use Rattle.std.proofs.Common.{get_or, ap, arith, Some, None}
-use Rattle.std.proofs.lemmas.Bool.Decides.{nat_tests}
-use Rattle.std.proofs.lemmas.List.{ext_get_or}
-use Rattle.std.proofs.lemmas.List.FromFn.{length-map-range_with_len, get_or-map-range_with_len}
+use Rattle.sixel_encoder.proofs.Names.{◌≡◌, ℕ, ◌+◌, ◌*◌, ◌/◌, ◌<◌, List, length, get_or, ap, arith}
+use Rattle.sixel_encoder.proofs.Names.{None, nat_tests, ext_get_or, length-map-range_with_len}
+use Rattle.sixel_encoder.proofs.Names.{get_or-map-range_with_len}
 use Rattle.sixel_palette.specs.Palette.{color_at, IsOpaque, IsShown, IsNearest}
 use Rattle.sixel_base.specs.Payload.{Image}
 use Rattle.sixel_encoder.specs.Text.{Drawing}
 use Rattle.sixel_encoder.specs.Encoding.{IsDrawing, ShownImage, shown_color, shown_image}
 use Rattle.sixel_palette.proofs.mapped_images.SameVisits.{AreAlike}
-
-shown_color-opaque : (pixels : List ℕ) (pixel : ℕ) → IsOpaque pixels pixel
-    → shown_color pixels pixel ≡ Some (color_at pixels pixel)
-shown_color-opaque pixels pixel h = grind (arith, nat_tests)
 
 module _ (image other : Image) (e : shown_image image ≡ shown_image other) where
   -- as many pixels
@@ -32,20 +26,15 @@ module _ (image other : Image) (e : shown_image image ≡ shown_image other) whe
   pub opaque-other : (pixel : ℕ) → pixel < length image.pixels / 4 → IsOpaque image.pixels pixel
       → IsOpaque other.pixels pixel × (color_at other.pixels pixel ≡ color_at image.pixels pixel)
   opaque-other pixel l is =
-      grind (arith, nat_tests, color-same pixel, shown_color-opaque)
+      grind (arith, nat_tests, color-same pixel)
 
   pub transparent-other : (pixel : ℕ) → pixel < length image.pixels / 4
       → get_or image.pixels (4 * pixel + 3) 0 < 128 → get_or other.pixels (4 * pixel + 3) 0 < 128
-  transparent-other pixel l is = grind (arith, nat_tests, color-same pixel, shown_color-opaque)
+  transparent-other pixel l is = grind (arith, nat_tests, color-same pixel)
 
   -- they show the same colors
   pub IsShown-other : (c : List ℕ) → IsShown image.pixels c → IsShown other.pixels c
   IsShown-other c shown = grind (arith, nat_tests, opaque-other, count-same)
-
-pub drawing-fields : (a b : Drawing) → a.width ≡ b.width → a.height ≡ b.height
-    → a.aspect_ratio ≡ b.aspect_ratio → a.background_mode ≡ b.background_mode → a.colors ≡ b.colors
-    → a.entries ≡ b.entries → a ≡ b
-drawing-fields a b w h r m c e = grind (arith, nat_tests)
 
 module _ (image other : Image) (max_colors : ℕ) (drawing another : Drawing)
     (one : (entries : List (List ℕ)) (c : List ℕ) (i j : ℕ) → IsNearest entries c i
@@ -63,7 +52,7 @@ module _ (image other : Image) (max_colors : ℕ) (drawing another : Drawing)
       ext_get_or None drawing.entries another.entries
       (omega (arith, is.size, also.size, count-same image other e))
       (λ pixel l. entry-same pixel (omega (arith, is.size))) in
-      grind (arith, nat_tests, drawing-fields)
+      grind (arith, nat_tests)
 
 -- as those of images that show the same
 pub AreAlike-images : (image other : Image) → shown_image image ≡ shown_image other

@@ -1,19 +1,29 @@
--- Sixels that change bound the bytes of a band of the plain text from below.
-use Rattle.std.proofs.Common.{◌≡◌, ◌≢◌, ℕ, zero, suc, ◌+◌, ◌-◌, ◌<◌, ◌≤◌, List}
-use Rattle.std.proofs.Common.{length, length-append, ap, arith, refl, replicate}
-use Rattle.std.specs.Prelude.{if◌then◌else◌, slice_index, ◌==◌}
-use Rattle.std.proofs.lemmas.Bool.{cases_eq}
-use Rattle.std.proofs.lemmas.Bool.Decides.{nat_tests}
-use Rattle.std.proofs.lemmas.Fmt.{decimal_nonempty}
+-- Sixels that change bound the bytes of a band of the plain text from below, and bands bound those
+-- of the whole text.
+use Rattle.std.proofs.Common.{List, arith, length, length-append, ℕ, ◌+◌, ◌-◌, ◌≡◌, ◌≤◌}
 use Rattle.sixel_base.specs.Picture.{joined}
-use Rattle.sixel_encoder.specs.declared.bound.RowRuns.{RowRuns}
-use Rattle.sixel_encoder.specs.Text.{Drawing, band_text}
+use Rattle.sixel_encoder.specs.{Text.Drawing, Text.band_text, declared.bound.RowRuns.RowRuns}
+use Rattle.sixel_encoder.proofs.JoinedLists.{joined-add, joined-more}
+use Rattle.std.proofs.lemmas.Bool.Decides.{nat_tests}
+use Rattle.sixel_encoder.proofs.Names.{◌≢◌, zero, suc, ◌<◌, ap, refl, replicate, if◌then◌else◌}
+use Rattle.sixel_encoder.proofs.Names.{slice_index, ◌==◌, cases_eq, decimal_nonempty}
 use Rattle.sixel_encoder.specs.inside.Bound.{IsBound, IsChange, bytes_due, bytes_from, bytes_left}
 use Rattle.sixel_encoder.specs.inside.Bound.{row_bytes, total}
 use Rattle.sixel_encoder.proofs.band_rows.RowBounds.{bytes_from-end, bytes_from-last}
-use Rattle.sixel_encoder.proofs.band_rows.RowBounds.{bytes_from-start}
-use Rattle.sixel_encoder.proofs.band_rows.RowBounds.{bytes_from-step}
+use Rattle.sixel_encoder.proofs.band_rows.RowBounds.{bytes_from-start, bytes_from-step}
 use Rattle.sixel_encoder.proofs.band_rows.RunCost.{run_low}
+
+-- the first n lists are no longer than more of them
+pub length-joined : (f : ℕ → List ℕ) (n m : ℕ) → n ≤ m → length (joined f n) ≤ length (joined f m)
+length-joined f n m l =
+    let e : m ≡ n + (m - n) = omega arith in
+    grind (arith, nat_tests, joined-add, length-append)
+
+-- one more band adds at least what it has at least
+pub length-band : (drawing : Drawing) (band old least new : ℕ)
+    → old ≤ length (joined (band_text drawing) band) → least ≤ length (band_text drawing band)
+    → new ≤ old + least → new ≤ length (joined (band_text drawing) (band + 1))
+length-band drawing band old least new low more le = grind (arith, joined-more, length-append)
 
 -- ---- sums
 

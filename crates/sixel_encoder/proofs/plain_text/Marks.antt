@@ -1,33 +1,60 @@
--- The plain definitions and marks draw the drawing: entry by entry, and band by band.
-use Rattle.std.specs.Prelude.{None, Option, Some, slice_index_or, ◌==◌}
-use Rattle.std.proofs.Common.{List, arith, cond, length, refl, []}
-use Rattle.std.proofs.Common.{suc, true, zero, ℕ, ◌*◌, ◌++◌, ◌+◌, ◌<◌, ◌∷◌, ◌≡◌, ◌≤◌}
-use Rattle.std.proofs.lemmas.Bool.{cases_Bool, cases_eq}
-use Rattle.std.proofs.lemmas.Bool.Decides.{nat_tests}
-use Rattle.std.proofs.lemmas.List.{get_or_past}
+-- The plain text of a drawing as definitions and marks that draw it: each entry is defined in the
+-- register of its number, each row returns to the left, and each band goes down to the next.
+use Rattle.sixel_encoder.proofs.Names.{List, append_assoc, cond, length, ℕ, ◌++◌, ◌∷◌, ◌≡◌, arith}
+use Rattle.sixel_encoder.proofs.Names.{[], flat_map-append, append-nil, None, Option, Some}
+use Rattle.sixel_encoder.proofs.Names.{slice_index_or, ◌==◌, refl, suc, true, zero, ◌*◌, ◌+◌, ◌<◌}
+use Rattle.sixel_encoder.proofs.Names.{◌≤◌, cases_Bool, cases_eq, nat_tests, get_or_past}
 use Rattle.sixel_base.specs.Picture.{joined}
-use Rattle.sixel_encoder.specs.Marks.{AreDefinitions, Back, Definition, Draw, Draws}
-use Rattle.sixel_encoder.specs.Marks.{Pen, Pick, first_pen, register_entry}
-use Rattle.sixel_encoder.specs.Text.{Drawing, bands, entry_at, has_dot, row_of}
-use Rattle.sixel_encoder.specs.Trip.{IsWritable}
+use Rattle.sixel_encoder.specs.Marks.{Back, Definition, Draw, Mark, Next, Pick, marks_payload}
+use Rattle.sixel_encoder.specs.Marks.{AreDefinitions, Draws, Pen, first_pen, register_entry}
+use Rattle.sixel_encoder.specs.Text.{Drawing, bands, has_dot, row_of, entry_at}
+use Rattle.sixel_encoder.specs.Trip.{payload_text, IsWritable}
+use Rattle.sixel_encoder.proofs.{JoinedLists.flat_map-joined, round_trip.UsedBands.unused-dots}
 use Rattle.sixel_encoder.proofs.band_rows.EntryRows.{IsInBand, length-row_of, lit-own, no_dot-own}
-use Rattle.sixel_encoder.proofs.band_rows.EntryRows.{own-lit}
-use Rattle.sixel_encoder.proofs.band_rows.EntryRows.{row_of-small}
+use Rattle.sixel_encoder.proofs.band_rows.EntryRows.{own-lit, row_of-small}
 use Rattle.sixel_encoder.proofs.round_trip.MarkSteps.{Leads, Leads-append, Leads-joined, Places}
 use Rattle.sixel_encoder.proofs.round_trip.MarkSteps.{painted-place}
-use Rattle.sixel_encoder.proofs.round_trip.UsedBands.{unused-dots}
-use Rattle.sixel_encoder.proofs.plain_text.Payload.{plain_entry, plain_band, plain_marks}
-use Rattle.sixel_encoder.proofs.plain_text.Payload.{plain_definition, plain_definitions}
+
+-- ---- the marks
+
+-- an entry that is used in the band: its register, its row, and back to the left
+abbrev pub plain_entry : Drawing → ℕ → ℕ → List Mark
+plain_entry drawing band entry =
+    cond (has_dot (row_of drawing band entry))
+    (Pick entry ∷ Draw (row_of drawing band entry) ∷ Back ∷ []) []
+
+-- the entries of a band, and down to the next
+abbrev pub plain_band : Drawing → ℕ → List Mark
+plain_band drawing band = joined (plain_entry drawing band) (length drawing.colors) ++ Next ∷ []
+
+-- all bands
+abbrev pub plain_marks : Drawing → List Mark
+plain_marks drawing = joined (plain_band drawing) (bands drawing.height)
+
+-- an entry is defined in the register of its number
+abbrev pub plain_definition : ℕ → List Definition
+plain_definition entry = record { register = entry; entry = entry } ∷ []
+
+-- all entries
+abbrev pub plain_definitions : Drawing → List Definition
+plain_definitions drawing = joined plain_definition (length drawing.colors)
+
+-- ---- their text
+
+-- the bytes of a row in one order of joining
+row-joined : (d w : List ℕ)
+    → (35 ∷ d) ++ (w ++ ((36 ∷ []) ++ [])) ≡ (35 ∷ []) ++ d ++ w ++ (36 ∷ [])
+row-joined d w = simp append_assoc
+
+-- together they have the data of the plain text
+pub payload-plain : (drawing : Drawing)
+    → marks_payload drawing (plain_definitions drawing) (plain_marks drawing) ≡ payload_text drawing
+payload-plain drawing = grind (arith, flat_map-joined, append-nil, flat_map-append, row-joined)
 
 -- an entry that a place has is one of the drawing's
 pub known_place : (drawing : Drawing) (place entry : ℕ) → IsWritable drawing
     → slice_index_or drawing.entries place None ≡ Some entry → entry < length drawing.colors
 known_place drawing place entry is e = grind (arith, nat_tests, get_or_past)
-
--- so is the entry of a pixel
-pub known_entry : (drawing : Drawing) (column line entry : ℕ) → IsWritable drawing
-    → entry_at drawing column line ≡ Some entry → entry < length drawing.colors
-known_entry drawing column line entry is e = grind (arith, nat_tests, known_place)
 
 -- The pen is at the left of a band. No transparent pixel is set. The pixels of the bands above and,
 -- in this band, of the entries before this one are drawn in their own registers.
@@ -65,7 +92,7 @@ Leads-band drawing band pen place is lower at =
     let first =
     Leads-joined drawing (IsDrawnTo drawing band) (plain_entry drawing band) (length drawing.colors)
     (λ k p d l is_at. Leads-entry drawing band k p d (omega arith) lower is_at) pen place at in
-    Leads-append _ _ _ _ _ _ _ first (grind (arith, nat_tests, known_entry))
+    Leads-append _ _ _ _ _ _ _ first (grind (arith, nat_tests, known_place))
 
 -- the entry of a register after definitions, and then more
 pub register_entry-append : (a b : List Definition) (before : Option ℕ) (register : ℕ)
@@ -118,4 +145,4 @@ Draws-plain drawing is =
     let drawn = painted-place (plain_marks drawing) first_pen nothing_drawn in
     let entry = register_entry-plain (length drawing.colors) in
     let defined = AreDefinitions-plain drawing (length drawing.colors) is.few (omega arith) in
-    grind (arith, nat_tests, known_entry)
+    grind (arith, nat_tests, known_place)

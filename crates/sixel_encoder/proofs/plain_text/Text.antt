@@ -1,30 +1,22 @@
 -- The plain text of a drawing is a text of marks that draw it, so it is read back as they are.
-use Rattle.std.specs.List.{list_all}
-use Rattle.std.specs.Prelude.{IsTrue, None, Some, codes}
-use Rattle.std.proofs.Common.{List, ap, append_assoc, subst, sym, ℕ, ◌*◌, ◌++◌, ◌∙◌, ◌∷◌, ◌≡◌, ◌≤◌}
+use Rattle.sixel_encoder.proofs.Names.{list_all, IsTrue, None, Some, codes, List, ap, append_assoc}
+use Rattle.sixel_encoder.proofs.Names.{subst, sym, ℕ, ◌*◌, ◌++◌, ◌∙◌, ◌∷◌, ◌≡◌, ◌≤◌, nat_tests}
+use Rattle.sixel_encoder.proofs.{Names.arith, plain_text.Marks.plain_marks}
 use Rattle.sixel_base.specs.Bytes.{before_terminator, first_terminator, front}
-use Rattle.sixel_base.specs.Dcs.{Reading, stage}
-use Rattle.sixel_base.specs.Decoder.{origin_of}
-use Rattle.sixel_base.specs.Limits.{Limit}
+use Rattle.sixel_base.specs.{Dcs.Reading, Dcs.stage, Decoder.origin_of, Limits.Limit, Size.banded}
 use Rattle.sixel_base.specs.OneShot.{Payload, found}
 use Rattle.sixel_base.specs.Payload.{payload_fault, payload_image}
-use Rattle.sixel_base.specs.Size.{banded}
 use Rattle.sixel_base.specs.declared.state.DecoderState.{DecoderState}
 use Rattle.sixel_base.proofs.Histories.{carries}
-use Rattle.sixel_encoder.specs.Marks.{IsDrawnText}
-use Rattle.sixel_encoder.specs.Text.{Drawing, parameters_text, text_of}
+use Rattle.sixel_encoder.specs.{Marks.IsDrawnText, Text.Drawing, Text.parameters_text, Text.text_of}
 use Rattle.sixel_encoder.specs.Trip.{CanRead, CanShow, IsOneString, IsReadAs, IsWritable}
 use Rattle.sixel_encoder.specs.Trip.{drawing_settings, payload_text, trip}
 use Rattle.sixel_encoder.proofs.round_trip.DcsText.{IsOneString-drawn, IsReadAs-drawn}
-use Rattle.sixel_encoder.proofs.round_trip.DcsText.{found-sequence}
-use Rattle.sixel_encoder.proofs.round_trip.DcsText.{stage-sequence}
-use Rattle.sixel_encoder.proofs.plain_text.Marks.{Draws-plain}
-use Rattle.sixel_encoder.proofs.plain_text.Payload.{payload-plain, plain_definitions, plain_marks}
+use Rattle.sixel_encoder.proofs.round_trip.DcsText.{found-sequence, stage-sequence}
+use Rattle.sixel_encoder.proofs.plain_text.Marks.{Draws-plain, payload-plain, plain_definitions}
 use Rattle.sixel_encoder.proofs.round_trip.Trip.{payload-sound, payload-trip}
 use Rattle.sixel_encoder.proofs.round_trip.TextHistory.{before_terminator-carrying, carries-payload}
 use Rattle.sixel_encoder.proofs.round_trip.TextHistory.{first_terminator-carrying, front-carrying}
-use Rattle.std.proofs.lemmas.Bool.Decides.{nat_tests}
-use Rattle.std.proofs.Common.{arith}
 
 -- the parts of a text in one order of joining
 payload-joined : (p r c b e : List ℕ) → p ++ r ++ c ++ b ++ e ≡ p ++ ((r ++ c ++ b) ++ e)

@@ -1,21 +1,14 @@
 -- How far the tokens of a text reach: within the width, within the bands, and so without a fault.
-use Rattle.std.specs.Option.{option_or}
-use Rattle.std.specs.Prelude.{None, Option, flat_map}
-use Rattle.std.proofs.Common.{List, arith, length, length-append, max, refl, ℕ, ◌*◌, ◌+◌, ◌<◌, ◌∷◌}
-use Rattle.std.proofs.Common.{◌≡◌, ◌≤◌, [], ◌∙◌}
-use Rattle.std.proofs.lemmas.Bool.Decides.{nat_tests}
-use Rattle.std.proofs.lemmas.List.{length-replicate}
-use Rattle.std.proofs.lemmas.Nat.{mul-le}
-use Rattle.sixel_base.specs.Fault.{Fault}
+use Rattle.sixel_encoder.proofs.Names.{option_or, None, Option, flat_map, List, arith, length}
+use Rattle.sixel_encoder.proofs.Names.{length-append, max, refl, ℕ, ◌*◌, ◌+◌, ◌<◌, ◌∷◌, ◌≡◌, ◌≤◌}
+use Rattle.sixel_encoder.proofs.Names.{[], ◌∙◌, nat_tests, length-replicate, mul-le, common_steps}
+use Rattle.sixel_base.specs.{Fault.Fault, Limits.Limit, Payload.fault_of, Payload.first_fault}
 use Rattle.sixel_base.specs.History.{Color, History, Token}
-use Rattle.sixel_base.specs.Limits.{Limit}
-use Rattle.sixel_base.specs.Payload.{fault_of, first_fault}
 use Rattle.sixel_base.specs.Place.{across, down, height, span, width}
 use Rattle.sixel_encoder.specs.RunTokens.{RunToken, sixels}
 use Rattle.sixel_encoder.proofs.round_trip.RowSteps.{Moved-run_token, field-decimal}
 use Rattle.sixel_encoder.proofs.round_trip.TextHistory.{AreSound, IsSound}
 use Rattle.sixel_encoder.proofs.round_trip.Tokens.{with_run_token, with_run_tokens}
-use Rattle.std.proofs.lemmas.Grind.{common_steps}
 
 -- a size that is within the limits
 pub record IsWithinLimits (limit : Limit) (w h : ℕ) : Type 0 where

@@ -1,10 +1,9 @@
 -- Marks made step by step: each step may count on what the steps before it established.
-use Rattle.std.specs.Prelude.{Option}
-use Rattle.std.proofs.Common.{List, arith, refl, suc, zero, ℕ, ◌++◌, ◌+◌, ◌<◌, ◌∷◌, ◌≡◌, []}
+use Rattle.sixel_encoder.proofs.Names.{Option, List, arith, refl, suc, zero, ℕ, ◌++◌, ◌+◌, ◌<◌, ◌∷◌}
+use Rattle.sixel_encoder.proofs.Names.{◌≡◌, [], nat_tests}
 use Rattle.sixel_base.specs.Picture.{joined}
 use Rattle.sixel_encoder.specs.Marks.{AreAllowed, Mark, Pen, covered, moved, moved_by, painted}
 use Rattle.sixel_encoder.specs.Text.{Drawing}
-use Rattle.std.proofs.lemmas.Bool.Decides.{nat_tests}
 
 -- the register that each pixel is drawn in, by column and line
 abbrev pub Places : Type 0

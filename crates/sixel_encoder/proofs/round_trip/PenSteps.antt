@@ -1,23 +1,17 @@
 -- What marks do to the place, the colors and the sizes: the history is where the pen is.
-use Rattle.std.specs.Prelude.{Some}
-use Rattle.std.proofs.Common.{List, arith, false, refl, ℕ, ◌*◌, ◌<◌, ◌∷◌, ◌≡◌, []}
-use Rattle.sixel_base.specs.History.{Color, History}
-use Rattle.sixel_base.specs.Limits.{whole_limit}
+use Rattle.sixel_encoder.proofs.Names.{Some, List, arith, false, refl, ℕ, ◌*◌, ◌<◌, ◌∷◌, ◌≡◌, []}
+use Rattle.sixel_encoder.proofs.{Names.nat_tests, round_trip.RowSteps.Moved-row}
+use Rattle.sixel_encoder.proofs.{band_rows.ShortestRows.spells, round_trip.TextHistory.AreSound-row}
+use Rattle.sixel_base.specs.{History.Color, History.History, Limits.whole_limit}
 use Rattle.sixel_base.specs.Place.{across, down, span}
 use Rattle.sixel_base.specs.Stroke.{is_definition, named_by, ratio, registers, selected}
 use Rattle.sixel_base.specs.declared.settings.PixelAspectRatio.{PixelAspectRatio}
 use Rattle.sixel_encoder.specs.Marks.{AreAllowed, Back, Draw, IsAllowed, Mark, Next, Pen, Pick}
 use Rattle.sixel_encoder.specs.Marks.{moved, moved_by}
-use Rattle.sixel_encoder.specs.RunTokens.{row_tokens}
-use Rattle.sixel_encoder.specs.Text.{Drawing, bands}
-use Rattle.sixel_encoder.specs.Trip.{IsWritable}
+use Rattle.sixel_encoder.specs.{RunTokens.row_tokens, Text.Drawing, Text.bands, Trip.IsWritable}
 use Rattle.sixel_encoder.proofs.round_trip.Digits.{fields-numbers, numbers}
 use Rattle.sixel_encoder.proofs.round_trip.Extent.{Fits, Fits-run_tokens, IsWithinLimits}
-use Rattle.sixel_encoder.proofs.round_trip.RowSteps.{Moved-row}
-use Rattle.sixel_encoder.proofs.band_rows.ShortestRows.{spells}
-use Rattle.sixel_encoder.proofs.round_trip.TextHistory.{AreSound-row}
 use Rattle.sixel_encoder.proofs.round_trip.Tokens.{with_mark, with_marks}
-use Rattle.std.proofs.lemmas.Bool.Decides.{nat_tests}
 
 -- ---- a color introducer of one number
 

@@ -1,38 +1,26 @@
 -- The tokens of a text of marks are its history, and the text's front is the whole of it.
-use Rattle.std.specs.List.{list_all}
-use Rattle.std.specs.Prelude.{All, IsTrue, Some, flat_map, slice_index_or}
-use Rattle.std.proofs.Common.{List, arith, length-append, refl, replicate, []}
-use Rattle.std.proofs.Common.{suc, sym, true, zero, ℕ, ◌++◌, ◌+◌, ◌<◌, ◌∷◌, ◌≡◌, ◌≤◌}
-use Rattle.std.proofs.lemmas.Bool.Decides.{nat_tests}
-use Rattle.std.proofs.lemmas.Grind.{common_steps}
-use Rattle.std.proofs.lemmas.List.{get_or-append-add}
-use Rattle.std.proofs.lemmas.List.Elements.{All-head, All-same, All-tail}
-use Rattle.sixel_base.specs.Limits.{repeat_limit}
+use Rattle.sixel_encoder.proofs.Names
+use Names.{list_all, All, IsTrue, Some, flat_map, slice_index_or, List, arith, length-append, refl}
+use Names.{replicate, [], suc, sym, true, zero, ℕ, ◌++◌, ◌+◌, ◌<◌, ◌∷◌, ◌≡◌, ◌≤◌, nat_tests}
+use Names.{common_steps, get_or-append-add, All-head, All-same, All-tail}
+use Rattle.sixel_base.specs.{Limits.repeat_limit, Bytes.is_digit, Bytes.is_parameter}
+use Rattle.sixel_base.specs.{Dcs.after_terminator, History.spellings, Settings.pad_of}
 use Rattle.sixel_base.specs.Bytes.{before_terminator, carrying, count, first_terminator, front}
-use Rattle.sixel_base.specs.Bytes.{is_digit, is_parameter}
-use Rattle.sixel_base.specs.Dcs.{after_terminator}
 use Rattle.sixel_base.specs.History.{AreTokens, Color, History, IsHistory, IsToken, Newline, Raster}
 use Rattle.sixel_base.specs.History.{Repeat, Return, Sixel, Skip, Token, history_of, spelling}
-use Rattle.sixel_base.specs.History.{spellings}
-use Rattle.sixel_base.specs.Settings.{pad_of}
 use Rattle.sixel_base.specs.declared.settings.PixelAspectRatio.{PixelAspectRatio}
 use Rattle.sixel_base.proofs.Histories.{carries, history_unique}
 use Rattle.sixel_encoder.specs.Marks.{AreAllowed, AreDefinitions, Back, Definition, Draw, Draws}
 use Rattle.sixel_encoder.specs.Marks.{IsAllowed, Mark, Next, Pen, Pick, first_pen, marks_payload}
-use Rattle.sixel_encoder.specs.Marks.{moved}
+use Rattle.sixel_encoder.specs.{Marks.moved, Text.Drawing, Trip.IsColor, Trip.IsWritable}
 use Rattle.sixel_encoder.specs.RunTokens.{IsRunToken, Many, One, RunToken, row_tokens, sixels}
-use Rattle.sixel_encoder.specs.Text.{Drawing}
-use Rattle.sixel_encoder.specs.Trip.{IsColor, IsWritable}
 use Rattle.sixel_encoder.proofs.round_trip.Digits.{AreFields, all_digits-decimal}
-use Rattle.sixel_encoder.proofs.round_trip.Digits.{all_parameters-numbers}
-use Rattle.sixel_encoder.proofs.round_trip.Digits.{numbers}
+use Rattle.sixel_encoder.proofs.round_trip.Digits.{all_parameters-numbers, numbers}
 use Rattle.sixel_encoder.proofs.band_rows.ShortestRows.{spells}
 use Rattle.sixel_encoder.proofs.round_trip.Tokens.{percentages, raster_of, sizes, spellings-tokens}
-use Rattle.sixel_encoder.proofs.round_trip.Tokens.{token-more}
-use Rattle.sixel_encoder.proofs.round_trip.Tokens.{tokens, with_definition, with_definitions}
-use Rattle.sixel_encoder.proofs.round_trip.Tokens.{with_mark}
-use Rattle.sixel_encoder.proofs.round_trip.Tokens.{with_marks, with_palette, with_run_token}
-use Rattle.sixel_encoder.proofs.round_trip.Tokens.{with_run_tokens}
+use Rattle.sixel_encoder.proofs.round_trip.Tokens.{token-more, tokens, with_definition}
+use Rattle.sixel_encoder.proofs.round_trip.Tokens.{with_definitions, with_mark, with_marks}
+use Rattle.sixel_encoder.proofs.round_trip.Tokens.{with_palette, with_run_token, with_run_tokens}
 
 -- a run-length token of six bits whose count can be written
 abbrev pub IsSound : RunToken → Type 0
@@ -164,16 +152,11 @@ carries-token Return is = refl
 carries-token Newline is = refl
 carries-token (Skip b) is = carries-byte b (carries-skip b is)
 
--- two lists that carry meaning, joined
-carries-joined : (a b : List ℕ) → IsTrue (list_all carries a) → IsTrue (list_all carries b)
-    → IsTrue (list_all carries (a ++ b))
-carries-joined a b ha hb = grind (arith, common_steps)
-
 -- all bytes of a history carry meaning
 carries-spellings : (h : History) → AreTokens h → IsTrue (list_all carries (spellings h))
 carries-spellings [] are = refl
 carries-spellings (token ∷ older) are =
-    grind (arith, nat_tests, carries-joined, carries-token, carries-spellings older are.2)
+    grind (arith, nat_tests, common_steps, carries-token, carries-spellings older are.2)
 
 -- what carries meaning goes on up to the terminator
 pub before_terminator-carrying : (bytes rest : List ℕ) → IsTrue (list_all carries bytes)

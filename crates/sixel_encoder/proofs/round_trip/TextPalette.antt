@@ -1,31 +1,50 @@
--- What the definitions of a text leave: in each register the color of the last entry that was
--- defined in it, rounded.
-use Rattle.std.specs.Prelude.{None, Option, Some, slice_index_or, slice_set, ◌==◌}
-use Rattle.std.proofs.Common.{List, arith, cond, length}
-use Rattle.std.proofs.Common.{nat_lt, refl, ℕ, ◌*◌, ◌<◌, ◌∙◌, ◌∷◌, ◌≡◌, []}
-use Rattle.std.proofs.lemmas.Bool.Decides.{nat_tests}
-use Rattle.std.proofs.lemmas.List.{get_or-set_other, get_or-set_same, length-set}
-use Rattle.sixel_base.specs.Fields.{fields}
-use Rattle.sixel_base.specs.History.{History}
-use Rattle.sixel_base.specs.Limits.{whole_limit}
-use Rattle.sixel_base.specs.Place.{across, down, height, raster_height, span}
-use Rattle.sixel_base.specs.Stroke.{Origin, background, pixel, ratio, registers}
-use Rattle.sixel_encoder.specs.Marks.{AreDefinitions, Definition, IsDefinition, first_pen}
-use Rattle.sixel_encoder.specs.Marks.{register_entry}
-use Rattle.sixel_encoder.specs.Text.{Drawing, bands}
-use Rattle.sixel_encoder.specs.Trip.{IsColor, IsWritable}
+-- What the raster attributes and the definitions of a text leave: the drawing's sizes and shape,
+-- and in each register the color of the last entry that was defined in it, rounded.
+use Rattle.sixel_encoder.proofs.Names.{ap, arith, get_or, ◌*◌, ◌∷◌, ◌≡◌, [], mul-le, nat_tests}
+use Rattle.sixel_encoder.proofs.Names.{None, Option, Some, slice_index_or, slice_set, ◌==◌, List}
+use Rattle.sixel_encoder.proofs.Names.{cond, length, nat_lt, refl, ℕ, ◌<◌, ◌∙◌, get_or-set_other}
+use Rattle.sixel_encoder.proofs.Names.{get_or-set_same, length-set, common_steps}
+use Rattle.sixel_base.specs.{Fields.field, Fields.fields, Limits.whole_limit, Settings.pad_of}
+use Rattle.sixel_base.specs.{declared.settings.PixelAspectRatio.PixelAspectRatio, History.History}
+use Rattle.sixel_base.specs.Place.{height, across, down, raster_height, span}
+use Rattle.sixel_base.specs.Stroke.{ratio, Origin, background, pixel, registers}
+use Rattle.sixel_encoder.specs.{Text.Drawing, Text.bands, Marks.first_pen}
+use Rattle.sixel_encoder.specs.Marks.{register_entry, AreDefinitions, Definition, IsDefinition}
+use Rattle.sixel_encoder.specs.Trip.{IsWritable, IsColor}
+use Rattle.sixel_encoder.proofs.{drawings.Sizes.covered, round_trip.PenSteps.Follows}
 use Rattle.sixel_encoder.proofs.round_trip.Digits.{fields-numbers, numbers}
 use Rattle.sixel_encoder.proofs.round_trip.Extent.{Fits, Fits-color}
-use Rattle.sixel_encoder.proofs.round_trip.PenSteps.{Follows}
-use Rattle.sixel_encoder.proofs.round_trip.TextHistory.{AreFields-percentages}
-use Rattle.sixel_encoder.proofs.round_trip.TripPixels.{rounded_entry}
-use Rattle.sixel_encoder.proofs.round_trip.Tokens.{percentages, raster_of, with_definition}
-use Rattle.sixel_encoder.proofs.round_trip.Tokens.{with_definitions}
-use Rattle.sixel_encoder.proofs.round_trip.Tokens.{with_palette}
-use Rattle.sixel_encoder.proofs.round_trip.RasterAttributes.{raster-field3, raster-height}
-use Rattle.sixel_encoder.proofs.round_trip.RasterAttributes.{raster-shape}
-use Rattle.sixel_encoder.proofs.round_trip.RasterAttributes.{Fits-raster}
-use Rattle.std.proofs.lemmas.Grind.{common_steps}
+use Rattle.sixel_encoder.proofs.round_trip.TextHistory.{AreFields-percentages, AreFields-sizes}
+use Rattle.sixel_encoder.proofs.round_trip.{TextHistory.pad-small, TripPixels.rounded_entry}
+use Rattle.sixel_encoder.proofs.round_trip.Tokens.{raster_of, sizes, percentages, with_definition}
+use Rattle.sixel_encoder.proofs.round_trip.Tokens.{with_definitions, with_palette}
+
+-- the fields of the raster attributes
+raster-fields : (drawing : Drawing) → IsWritable drawing
+    → fields (numbers (pad_of drawing.aspect_ratio) (sizes drawing))
+    ≡ pad_of drawing.aspect_ratio ∷ sizes drawing
+raster-fields drawing is =
+    fields-numbers _ _ (omega (arith, pad-small drawing.aspect_ratio)) (AreFields-sizes _ is)
+
+-- the fourth is the height
+pub raster-field3 : (drawing : Drawing) → IsWritable drawing
+    → field (numbers (pad_of drawing.aspect_ratio) (sizes drawing)) 3 ≡ drawing.height
+raster-field3 drawing is = ap (λ ns. get_or ns 3 0) (raster-fields drawing is)
+
+-- and as high
+pub raster-height : (drawing : Drawing) → IsWritable drawing
+    → height (raster_of drawing ∷ []) ≡ drawing.height
+raster-height drawing is = omega (arith, raster-field3 drawing is, is.some_height)
+
+-- the first two fields say the shape
+pub raster-shape : (drawing : Drawing) (other : PixelAspectRatio) → IsWritable drawing
+    → ratio other (raster_of drawing ∷ []) ≡ drawing.aspect_ratio
+raster-shape drawing other is = grind (arith, nat_tests, raster-fields)
+
+-- the raster attributes of a drawing are within its sizes
+pub Fits-raster : (drawing : Drawing) → IsWritable drawing
+    → Fits whole_limit drawing.width (6 * bands drawing.height) (raster_of drawing ∷ [])
+Fits-raster drawing is = grind (arith, covered, mul-le, raster-field3, raster-fields)
 
 -- the fields of a definition
 defines : (entry : ℕ) (color : List ℕ) → entry < 256 → IsColor color

@@ -1,16 +1,12 @@
 -- What the tokens of a text show: each pixel in the register that it was last drawn in.
-use Rattle.std.specs.Prelude.{None, Option, Some, slice_index_or}
-use Rattle.std.proofs.Common.{Bool, List, cond, ℕ, ◌++◌, ◌∷◌, ◌≡◌, arith, []}
-use Rattle.sixel_base.specs.History.{History}
-use Rattle.sixel_base.specs.Stroke.{Origin, pixel}
+use Rattle.sixel_encoder.proofs.Names.{None, Option, Some, slice_index_or, List, ℕ}
+use Rattle.sixel_encoder.proofs.Names.{◌++◌, ◌∷◌, ◌≡◌, arith, [], nat_tests}
+use Rattle.sixel_base.specs.{History.History, Stroke.Origin, Stroke.pixel}
 use Rattle.sixel_encoder.specs.Marks.{AreAllowed, Back, Draw, IsAllowed, Mark, Next, Pen, Pick}
 use Rattle.sixel_encoder.specs.Marks.{covered, moved, painted}
-use Rattle.sixel_encoder.specs.Text.{Drawing}
-use Rattle.sixel_encoder.specs.Trip.{IsWritable}
+use Rattle.sixel_encoder.specs.{Text.Drawing, Trip.IsWritable}
 use Rattle.sixel_encoder.proofs.round_trip.PenSteps.{Follows, Follows-mark}
-use Rattle.sixel_encoder.proofs.round_trip.RowSteps.{Moved-row}
-use Rattle.sixel_encoder.proofs.round_trip.Tokens.{with_mark, with_marks}
-use Rattle.std.proofs.lemmas.Bool.Decides.{nat_tests}
+use Rattle.sixel_encoder.proofs.round_trip.{RowSteps.Moved-row, Tokens.with_mark, Tokens.with_marks}
 
 -- the color of a pixel in this register of the palette, or the color that it had before
 abbrev pub color_in : List (List ℕ) → List ℕ → Option ℕ → List ℕ
@@ -18,12 +14,6 @@ color_in palette before None = before
 color_in palette before (Some register) = slice_index_or palette register [] ++ 255 ∷ []
 
 module _ (palette : List (List ℕ)) (base : List ℕ) where
-  -- a choice of colors is the color of the chosen register
-  color_in-cond : (b : Bool) (x y : Option ℕ)
-      → cond b (color_in palette base x) (color_in palette base y)
-      ≡ color_in palette base (cond b x y)
-  color_in-cond b x y = grind (arith, nat_tests)
-
   -- a mark sets the pixels of its row
   pixel-mark : (drawing : Drawing) (origin : Origin) (pen : Pen) (mark : Mark) (before : Option ℕ)
       (h : History) (column line : ℕ) → IsAllowed drawing pen mark
@@ -33,7 +23,7 @@ module _ (palette : List (List ℕ)) (base : List ℕ) where
       ≡ color_in palette base (covered pen mark before column line)
   pixel-mark drawing origin pen (Pick register) before h column line may follows was = was
   pixel-mark drawing origin pen (Draw row) before h column line may follows was =
-      grind (arith, nat_tests, Moved-row row h, color_in-cond)
+      grind (arith, nat_tests, Moved-row row h)
   pixel-mark drawing origin pen Back before h column line may follows was = was
   pixel-mark drawing origin pen Next before h column line may follows was = was
 

@@ -1,20 +1,15 @@
 -- The tokens of definitions and marks, newest first, and that they spell the text.
-use Rattle.std.specs.Prelude.{decimal, slice_index, slice_index_or}
-use Rattle.std.proofs.Common.{List, append_assoc, arith, false, sym, ℕ, ◌++◌, ◌∷◌, ◌≡◌, []}
-use Rattle.std.proofs.lemmas.Bool.Decides.{nat_tests}
-use Rattle.std.proofs.lemmas.Fmt.{decimal_digit}
-use Rattle.std.proofs.lemmas.List.{append-nil}
-use Rattle.sixel_base.specs.Bytes.{count, is_parameter}
+use Rattle.sixel_encoder.proofs.Names.{decimal, slice_index, slice_index_or, List, append_assoc}
+use Rattle.sixel_encoder.proofs.Names.{arith, false, sym, ℕ, ◌++◌, ◌∷◌, ◌≡◌, [], nat_tests}
+use Rattle.sixel_encoder.proofs.{Names.decimal_digit, Names.append-nil, round_trip.Digits.numbers}
+use Rattle.sixel_base.specs.{Bytes.count, Bytes.is_parameter, Settings.pad_of}
 use Rattle.sixel_base.specs.History.{AreTokens, Color, History, IsToken, Newline, Raster, Repeat}
 use Rattle.sixel_base.specs.History.{Return, Sixel, Token, goes_on, spellings, start}
-use Rattle.sixel_base.specs.Settings.{pad_of}
 use Rattle.sixel_palette.specs.Refined.{percentage}
 use Rattle.sixel_encoder.specs.Marks.{Back, Definition, Draw, Mark, Next, Pick, definitions_text}
 use Rattle.sixel_encoder.specs.Marks.{mark_text, marks_payload, marks_text}
-use Rattle.sixel_encoder.specs.RunTokens.{Many, One, RunToken, row_tokens}
-use Rattle.sixel_encoder.specs.RunTokens.{written, spelling as run_token_spelling}
-use Rattle.sixel_encoder.specs.Text.{Drawing, color_definition}
-use Rattle.sixel_encoder.proofs.round_trip.Digits.{numbers}
+use Rattle.sixel_encoder.specs.RunTokens.{Many, One, RunToken, row_tokens, written}
+use Rattle.sixel_encoder.specs.{RunTokens.spelling as run_token_spelling, Text.Drawing}
 
 -- a byte that no text takes begins a token after any
 goes_on-apart : (h : History) (byte : ℕ) → is_parameter byte ≡ false → goes_on h byte ≡ false
@@ -116,11 +111,6 @@ definition-joined : (e r g b : List ℕ)
     ≡ (35 ∷ []) ++ e ++ (59 ∷ 50 ∷ 59 ∷ []) ++ r ++ (59 ∷ []) ++ g ++ (59 ∷ []) ++ b
 definition-joined e r g b = simp append_assoc
 
--- a definition is spelled as it is written
-spelling-definition : (entry : ℕ) (color : List ℕ)
-    → 35 ∷ numbers entry (percentages color) ≡ color_definition entry color
-spelling-definition entry color = grind (arith, nat_tests, decimal_digit, definition-joined)
-
 -- definitions append their text
 spellings-definitions : (drawing : Drawing) (definitions : List Definition) (h : History)
     → spellings (with_definitions drawing definitions h)
@@ -128,7 +118,7 @@ spellings-definitions : (drawing : Drawing) (definitions : List Definition) (h :
 spellings-definitions drawing [] h = sym (append-nil (spellings h))
 spellings-definitions drawing (definition ∷ definitions) h =
     let rest = spellings-definitions drawing definitions (with_definition drawing definition h) in
-    grind (arith, nat_tests, spelling-definition, append_assoc)
+    grind (arith, nat_tests, decimal_digit, definition-joined, append_assoc)
 
 -- the bytes of the raster attributes in one order of joining
 raster-joined : (p w h : List ℕ)

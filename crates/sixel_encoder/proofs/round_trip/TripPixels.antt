@@ -1,16 +1,39 @@
--- What the trip of a drawing shows: each pixel with an entry in its rounded color, and no other.
-use Rattle.std.proofs.Common.{◌≡◌, ℕ, Bool, ◌+◌, ◌*◌, ◌<◌, List, ◌∷◌, ◌++◌, map, length, get_or}
-use Rattle.std.proofs.Common.{refl, sym, ◌∙◌, arith, length-append, []}
-use Rattle.std.specs.Prelude.{Option, Some, None, slice_index, slice_index_or, Contains}
-use Rattle.std.proofs.lemmas.Nat.{div-add-mod'}
-use Rattle.std.proofs.lemmas.List.{get_or_past, length-map, get_or-map}
+-- What the trip of a drawing shows, byte by byte: each pixel with an entry in its rounded color,
+-- and no other.
+use Rattle.sixel_encoder.proofs.Names.{◌≡◌, ℕ, ◌+◌, ◌*◌, ◌<◌, List, length, get_or, arith, ◌/◌, ◌%◌}
+use Rattle.sixel_encoder.proofs.Names.{slice_index, mul_comm, div-add-mod', div_below, mod_below}
+use Rattle.sixel_encoder.proofs.Names.{nat_tests, Bool, ◌∷◌, ◌++◌, map, refl, sym, ◌∙◌}
+use Rattle.sixel_encoder.proofs.Names.{length-append, [], Option, Some, None, slice_index_or}
+use Rattle.sixel_encoder.proofs.Names.{Contains, get_or_past, length-map, get_or-map, common_steps}
+use Rattle.sixel_base.specs.Picture.{picture}
+use Rattle.sixel_base.proofs.PictureBytes.{get_or-joined, length-joined_below}
 use Rattle.sixel_base.specs.declared.settings.BackgroundMode.TheVariants.{Transparent}
 use Rattle.sixel_palette.specs.Palette.{IsShown, color_at}
 use Rattle.sixel_encoder.specs.Text.{Drawing, entry_at}
 use Rattle.sixel_encoder.specs.Trip.{IsWritable, rounded, trip_pixel, trip_height, trip}
-use Rattle.sixel_encoder.proofs.round_trip.PictureBytes.{length-picture, slice_index-picture}
-use Rattle.std.proofs.lemmas.Bool.Decides.{nat_tests}
-use Rattle.std.proofs.lemmas.Grind.{common_steps}
+
+-- the pixels of a picture have four bytes each
+pub length-picture : (p : ℕ → ℕ → List ℕ) (w h : ℕ)
+    → ((column line : ℕ) → column < w → line < h → length (p column line) ≡ 4)
+    → length (picture p w h) ≡ h * (w * 4)
+unfolding picture
+length-picture p w h four = grind (arith, nat_tests, length-joined_below)
+
+-- a byte of a pixel
+pub get_or-picture : (p : ℕ → ℕ → List ℕ) (w h column line i : ℕ)
+    → ((column line : ℕ) → column < w → line < h → length (p column line) ≡ 4) → column < w
+    → line < h → i < 4
+    → get_or (picture p w h) (line * (w * 4) + (column * 4 + i)) 0 ≡ get_or (p column line) i 0
+unfolding picture
+get_or-picture p w h column line i four lc ll li = grind (arith, get_or-joined, length-joined_below)
+
+-- a byte of the pixel at a place
+pub slice_index-picture : (p : ℕ → ℕ → List ℕ) (w h place i : ℕ)
+    → ((column line : ℕ) → column < w → line < h → length (p column line) ≡ 4) → 0 < w
+    → place < w * h → i < 4
+    → slice_index (picture p w h) (4 * place + i) ≡ get_or (p (place % w) (place / w)) i 0
+slice_index-picture p w h place i four some l li =
+    grind (arith, nat_tests, div-add-mod', mod_below, div_below, mul_comm, get_or-picture)
 
 -- the entry at a place, counted row by row
 abbrev pub entry_in : Drawing → ℕ → Option ℕ

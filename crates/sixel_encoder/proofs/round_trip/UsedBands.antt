@@ -1,18 +1,12 @@
 -- Which bands of a drawing are used: those with a pixel that has an entry.
-use Rattle.std.specs.List.{list_any}
-use Rattle.std.specs.Prelude.{None, Option, Some, is_some, ◌/◌}
-use Rattle.std.proofs.Common.{List, ap, arith, drop, false, get_or, length}
-use Rattle.std.proofs.Common.{take, true, ℕ, ◌%◌, ◌*◌, ◌+◌, ◌-◌, ◌<◌, ◌∙◌, ◌≡◌, ◌≤◌}
-use Rattle.std.proofs.lemmas.List.{get_or-drop, get_or-take, get_or_default, get_or_past}
-use Rattle.std.proofs.lemmas.List.{length-drop, length-take}
-use Rattle.std.proofs.lemmas.List.Folds.{Any-from_list_any, list_any_at, list_any_none}
-use Rattle.std.proofs.lemmas.List.FromFn.{get_or-map-range_with_len}
-use Rattle.std.proofs.lemmas.Nat.{div_below, mod_below, mul-add-lt, mul-le}
+use Rattle.sixel_encoder.proofs.Names
+use Names.{get_or-map-range_with_len, Any-from_list_any, get_or_default, list_any_none, get_or-drop}
+use Names.{get_or-take, get_or_past, length-drop, length-take, list_any_at, mul-add-lt, div_below}
+use Names.{mod_below, nat_tests, list_any, is_some, Option, get_or, length, mul-le, arith, false}
+use Names.{None, Some, List, drop, take, true, ◌/◌, ◌%◌, ◌*◌, ◌+◌, ◌-◌, ◌<◌, ◌∙◌, ◌≡◌, ap, ℕ}
 use Rattle.sixel_encoder.specs.Text.{Drawing, entry_at, has_dot, row_of}
 use Rattle.sixel_encoder.specs.Trip.{IsWritable, is_used}
-use Rattle.sixel_encoder.proofs.MaskBits.{mask-nothing}
-use Rattle.sixel_encoder.proofs.band_rows.EntryRows.{length-row_of}
-use Rattle.std.proofs.lemmas.Bool.Decides.{nat_tests}
+use Rattle.sixel_encoder.proofs.{MaskBits.mask-nothing, band_rows.EntryRows.length-row_of}
 
 -- ---- where a part of a list has a value
 
@@ -21,11 +15,6 @@ pub window-any : (xs : List (Option ℕ)) (from n i entry : ℕ) → i < n → f
     → get_or xs (from + i) None ≡ Some entry → list_any is_some (take n (drop from xs)) ≡ true
 window-any xs from n i entry l inside e =
     grind (arith, nat_tests, list_any_at, length-take, length-drop, get_or-take, get_or-drop)
-
--- no value in a part of the list
-window-none : (xs : List (Option ℕ)) (from n i : ℕ)
-    → list_any is_some (take n (drop from xs)) ≡ false → i < n → get_or xs (from + i) None ≡ None
-window-none xs from n i none l = grind (arith, nat_tests, get_or_past, window-any)
 
 -- a value that is there
 some_value : (place : Option ℕ) → is_some place ≡ true → (entry : ℕ) × (place ≡ Some entry)
@@ -53,7 +42,7 @@ pub unused-places : (drawing : Drawing) (band bit column : ℕ) → is_used draw
     → bit < 6 → column < drawing.width → entry_at drawing column (6 * band + bit) ≡ None
 unused-places drawing band bit column none lb lc =
     let place = place-in_band band bit drawing.width column in
-    grind (arith, nat_tests, window-none, mul-add-lt bit drawing.width column 6)
+    grind (arith, nat_tests, get_or_past, window-any, mul-add-lt bit drawing.width column 6)
 
 -- so no entry has a dot there
 pub unused-dots : (drawing : Drawing) (band entry : ℕ) → is_used drawing band ≡ false
@@ -92,9 +81,3 @@ used-here drawing column line entry is lc ll e =
     let here : 6 * (line / 6) + bit ≡ line = omega arith in
     let place = place-in_band (line / 6) bit drawing.width column in
     grind (arith, nat_tests, mul-add-lt, window-any)
-
--- no value at any place of a part of the list
-pub window-blank : (xs : List (Option ℕ)) (from n : ℕ)
-    → ((k : ℕ) → from ≤ k → k < from + n → k < length xs → get_or xs k None ≡ None)
-    → list_any is_some (take n (drop from xs)) ≡ false
-window-blank xs from n none = grind (arith, nat_tests, window-some)

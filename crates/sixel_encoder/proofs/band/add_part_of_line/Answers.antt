@@ -1,18 +1,11 @@
 use Rattle.std.proofs.Common.{◌≡◌, ℕ, ◌+◌, ◌-◌, ◌*◌, ◌<◌, length, ap, ◌∙◌, arith}
-use Rattle.sixel_encoder.specs.inside.Indexed.{entry_of}
-use Rattle.sixel_encoder.specs.inside.Grid.{cell, pixel_bit}
+use Rattle.sixel_encoder.specs.{inside.Indexed.entry_of, inside.Grid.cell, inside.Grid.pixel_bit}
 use Rattle.sixel_encoder.proofs.band_rows.Cells.{AreMarks-dot, AreMarks-same, place_inside}
-use Rattle.sixel_encoder.proofs.band_rows.Lines.{pixel_bit-other}
-use Rattle.sixel_encoder.proofs.band_rows.Lines.{pixel_bit-dot}
-use Rattle.sixel_encoder.proofs.band_rows.Lines.{column-dot, column-more}
-use Rattle.sixel_encoder.proofs.band.add_part_of_line.Goals as goal
-use Rattle.sixel_encoder.proofs.band.add_part_of_line.Goals.{then-has_row+then-is_opaque}
-use Rattle.sixel_encoder.proofs.band.add_part_of_line.Goals.{else-has_row}
-use Rattle.sixel_encoder.proofs.band.add_part_of_line.Goals.{
-  else-has_row-via-then-has_row+else-is_opaque,
-}
-use Rattle.sixel_encoder.proofs.band.add_part_of_line.Goals.{else-has_row-via-else-has_row}
+use Rattle.sixel_encoder.proofs.band_rows.Lines.{pixel_bit-other, pixel_bit-dot, column-dot}
 use Rattle.std.proofs.lemmas.Bool.Decides.{nat_tests}
+use Rattle.sixel_encoder.proofs.band.add_part_of_line.Goals as goal
+use goal.{then-has_row+then-is_opaque, else-has_row, else-has_row-via-then-has_row+else-is_opaque}
+use goal.{else-has_row-via-else-has_row}
 
 pub columns-preserved : goal.columns-preserved
 columns-preserved c =
@@ -64,7 +57,7 @@ columns-preserved c =
                   let other = c.has_row.ensures.outside v.if-has_row.false e count in
                   grind (arith, nat_tests, pixel_bit-other, weight, first, c.from-entry.ensures)
             ] in
-            grind (arith, nat_tests, column-more, c.columns.invariant.cells);
+            grind (arith, nat_tests, c.columns.invariant.cells);
         marks = AreMarks-same w.rows-is w.used-is c.columns.invariant.marks;
       }
     ]

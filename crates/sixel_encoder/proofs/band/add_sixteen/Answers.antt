@@ -1,8 +1,6 @@
-use Rattle.std.proofs.Common.{◌≡◌, ◌+◌, ◌-◌, ◌*◌, arith}
-use Rattle.sixel_encoder.proofs.band_rows.LineRuns.{between-none, cell-run}
-use Rattle.sixel_encoder.proofs.band_rows.LineRuns.{AreMarks-run}
+use Rattle.sixel_encoder.proofs.Names.{◌≡◌, ◌+◌, ◌-◌, ◌*◌, arith, nat_tests}
+use Rattle.sixel_encoder.proofs.band_rows.Lines.{between-none, cell-run, AreMarks-run}
 use Rattle.sixel_encoder.proofs.band.add_sixteen.Goals as goal
-use Rattle.std.proofs.lemmas.Bool.Decides.{nat_tests}
 
 pub returns-then-is_run-clause-cells : goal.returns-then-is_run-clause-cells
 returns-then-is_run-clause-cells c = λ e x le lx.

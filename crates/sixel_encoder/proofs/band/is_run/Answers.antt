@@ -1,6 +1,5 @@
-use Rattle.std.proofs.Common.{◌≡◌, ◌+◌, ◌-◌, arith}
+use Rattle.sixel_encoder.proofs.Names.{◌≡◌, ◌+◌, ◌-◌, arith, nat_tests}
 use Rattle.sixel_encoder.proofs.band.is_run.Goals as goal
-use Rattle.std.proofs.lemmas.Bool.Decides.{nat_tests}
 
 pub returns : goal.returns
 returns c = λ is k l m.

@@ -1,5 +1,4 @@
-use Rattle.std.proofs.Common.{arith}
-use Rattle.std.proofs.lemmas.Bool.Decides.{nat_tests}
+use Rattle.std.proofs.{Common.arith, lemmas.Bool.Decides.nat_tests}
 use Rattle.sixel_encoder.proofs.band_rows.ColumnLanes.{equal-lanes}
 use Rattle.sixel_encoder.proofs.band_entries.have_equal_lanes.Goals as goal
 

@@ -1,5 +1,4 @@
-use Rattle.std.proofs.Common.{arith}
-use Rattle.std.proofs.lemmas.Bool.Decides.{nat_tests}
+use Rattle.sixel_encoder.proofs.Names.{arith, nat_tests}
 use Rattle.sixel_encoder.proofs.band_rows.Masks.{entry_at-below, entry_at-inside}
 use Rattle.sixel_encoder.proofs.band_entries.lane_at.Goals as goal
 

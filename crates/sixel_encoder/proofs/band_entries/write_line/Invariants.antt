@@ -1,8 +1,5 @@
-use Rattle.std.proofs.Common.{◌≡◌, ◌+◌, ◌*◌, ◌<◌, ℕ, length, slice_index}
-use Rattle.std.specs.Prelude.{◌≢◌}
-use Rattle.sixel_encoder.specs.Text.{entry_at}
-use Rattle.sixel_encoder.specs.inside.Compact.{lane_of}
-use Rattle.sixel_encoder.specs.inside.Indexed.{drawing_of}
+use Rattle.sixel_encoder.proofs.Names.{◌≡◌, ◌+◌, ◌*◌, ◌<◌, ℕ, length, slice_index, ◌≢◌}
+use Rattle.sixel_encoder.specs.{Text.entry_at, inside.Compact.lane_of, inside.Indexed.drawing_of}
 use Rattle.sixel_encoder.proofs.band_entries.write_line.Given as goal
 
 abbrev pub invariant-loop-column : goal.invariant-loop-column

@@ -1,13 +1,12 @@
-use Rattle.std.proofs.Common.{◌<◌, arith, refl, sym}
+use Rattle.sixel_encoder.proofs.Names.{◌<◌, arith, refl, sym, nat_tests}
 use Rattle.sixel_encoder.specs.inside.Indexed.{drawing_of}
-use Rattle.sixel_encoder.proofs.band_rows.LaneChanges.{change-left, change-right, lane-most}
+use Rattle.sixel_encoder.proofs.band_rows.LaneChanges.{change-left, change-right}
 use Rattle.sixel_encoder.proofs.plain_text.Bound.{bound-start, bound-step, bound-whole}
 use Rattle.sixel_encoder.proofs.plain_text.Bound.{zero-replicated}
 use Rattle.sixel_encoder.proofs.bound.least_bytes.Goals as goal
-use Rattle.sixel_encoder.proofs.bound.least_bytes.Goals.{else-left-right, else-not-is_repeated}
-use Rattle.sixel_encoder.proofs.bound.least_bytes.Goals.{then-left-right}
-use Rattle.sixel_encoder.proofs.bound.least_bytes.Goals.{then-not-is_repeated+else-loop-bit-test}
-use Rattle.std.proofs.lemmas.Bool.Decides.{nat_tests}
+use goal.{else-left-right, else-not-is_repeated, then-left-right}
+use goal.{then-not-is_repeated+else-loop-bit-test}
+use Rattle.sixel_encoder.proofs.band_rows.ColumnLanes.{opaque-lane}
 
 pub loop-column-init : goal.loop-column-init
 loop-column-init c = record {
@@ -19,10 +18,10 @@ loop-column-init c = record {
 }
 
 pub end-requires-clause-lane : goal.end-requires-clause-lane
-end-requires-clause-lane c = grind (arith, nat_tests, lane-most, c.requires, c.lane-left.ensures)
+end-requires-clause-lane c = grind (arith, nat_tests, opaque-lane, c.requires, c.lane-left.ensures)
 
 pub end-requires-then-left-right-clause-lane : goal.end-requires-then-left-right-clause-lane
-end-requires-then-left-right-clause-lane c = grind (arith, nat_tests, lane-most)
+end-requires-then-left-right-clause-lane c = grind (arith, nat_tests, opaque-lane)
 
 pub end-requires-then-left-right-clause-order : goal.end-requires-then-left-right-clause-order
 end-requires-then-left-right-clause-order c =

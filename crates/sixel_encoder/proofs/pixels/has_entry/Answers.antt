@@ -1,9 +1,6 @@
-use Rattle.std.proofs.Common.{arith}
-use Rattle.std.proofs.lemmas.List.{get_or_past}
-use Rattle.std.proofs.lemmas.List.FromFn.{length-map-range_with_len}
-use Rattle.sixel_encoder.proofs.drawings.IndexedDrawing.{get_or-entries}
+use Rattle.sixel_encoder.proofs.Names.{arith, get_or_past, length-map-range_with_len, nat_tests}
+use Rattle.sixel_encoder.proofs.drawings.IndexedText.{get_or-entries}
 use Rattle.sixel_encoder.proofs.pixels.has_entry.Goals as goal
-use Rattle.std.proofs.lemmas.Bool.Decides.{nat_tests}
 
 pub returns-then-pixel-image : goal.returns-then-pixel-image
 returns-then-pixel-image c =

@@ -1,9 +1,8 @@
-use Rattle.std.proofs.Common.{◌≡◌, ◌+◌, ◌-◌, ◌*◌, ◌<◌, length, arith}
-use Rattle.sixel_encoder.proofs.drawings.IndexedDrawing.{get_or-entries}
+use Rattle.sixel_encoder.proofs.Names.{◌≡◌, ◌+◌, ◌-◌, ◌*◌, ◌<◌, length, arith, nat_tests}
+use Rattle.sixel_encoder.proofs.drawings.IndexedText.{get_or-entries}
 use Rattle.sixel_encoder.proofs.band_rows.Masks.{length-entries}
-use Rattle.sixel_encoder.proofs.round_trip.UsedBands.{window-any, window-blank}
+use Rattle.sixel_encoder.proofs.round_trip.UsedBands.{window-any, window-some}
 use Rattle.sixel_encoder.proofs.pixels.is_used.Goals as goal
-use Rattle.std.proofs.lemmas.Bool.Decides.{nat_tests}
 
 pub returns-in-Some : goal.returns-in-Some
 returns-in-Some c =
@@ -17,4 +16,4 @@ returns-in-Some c =
     (arith, nat_tests, get_or-entries image.pixels.now image.indices.now pixel low, window-any)
 
 pub returns : goal.returns
-returns c = grind (arith, nat_tests, length-entries, window-blank, get_or-entries)
+returns c = grind (arith, nat_tests, length-entries, window-some, get_or-entries)

@@ -1,6 +1,5 @@
 use Rattle.std.proofs.Common.{sym, arith}
-use Rattle.sixel_encoder.specs.Trip.{is_used}
-use Rattle.sixel_encoder.specs.inside.Indexed.{drawing_of}
+use Rattle.sixel_encoder.specs.{Trip.is_used, inside.Indexed.drawing_of}
 use Rattle.sixel_encoder.proofs.round_trip.DrawnHeight.{bands_up_to-more, bands_up_to-none}
 use Rattle.sixel_encoder.proofs.pixels.used_bands.Goals as goal
 

@@ -1,13 +1,10 @@
-use Rattle.std.proofs.Common.{◌≡◌, ◌-◌, ◌*◌, ◌∙◌, ◌∷◌, ap, arith, length, map, max, ℕ}
+use Rattle.sixel_encoder.proofs.Names.{with_items_is, IfOk-weaker, get_or-map, length-map, length}
+use Rattle.sixel_encoder.proofs.Names.{nat_tests, arith, ◌≡◌, ◌-◌, ◌*◌, ◌∙◌, ◌∷◌, map, max, ap, ℕ}
 use Rattle.sixel_encoder.specs.Encoding.{source_value}
 use Rattle.sixel_encoder.specs.RefinedText.{next_index, others_of}
-use Rattle.sixel_encoder.proofs.drawings.Sizes.{rows-image, within-sound}
-use Rattle.sixel_encoder.proofs.drawings.Verdicts.{none-found}
+use Rattle.sixel_encoder.proofs.drawings.Sizes.{rows-image, within-sound, none-found}
 use Rattle.sixel_encoder.proofs.refined.encode_on_background.Goals as goal
 use Rattle.sixel_encoder.proofs.refined.encode_on_background.Goals.{After-deref-2}
-use Rattle.std.proofs.lemmas.Bool.Decides.{nat_tests}
-use Rattle.std.proofs.lemmas.List.{get_or-map, length-map, with_items_is}
-use Rattle.std.proofs.lemmas.Result.{IfOk-weaker}
 
 -- the entries behind the background
 moved : (c : After-deref-2)

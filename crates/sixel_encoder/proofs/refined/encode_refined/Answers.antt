@@ -1,10 +1,8 @@
-use Rattle.std.proofs.Common.{arith}
+use Rattle.sixel_encoder.proofs.Names.{arith, IfOk-at_ok, IfOk-weaker}
 use Rattle.sixel_encoder.specs.Encoding.{source_value}
 use Rattle.sixel_encoder.proofs.drawings.RefinedText.{ShowsEntries-register}
-use Rattle.sixel_encoder.proofs.drawings.Sizes.{rows-image, within-sound}
-use Rattle.sixel_encoder.proofs.drawings.Verdicts.{none-found}
+use Rattle.sixel_encoder.proofs.drawings.Sizes.{rows-image, within-sound, none-found}
 use Rattle.sixel_encoder.proofs.refined.encode_refined.Goals as goal
-use Rattle.std.proofs.lemmas.Result.{IfOk-at_ok, IfOk-weaker}
 
 pub map_to_refined-requires-clause-rows : goal.map_to_refined-requires-clause-rows
 map_to_refined-requires-clause-rows c =

@@ -1,8 +1,6 @@
-use Rattle.std.proofs.Common.{arith}
-use Rattle.sixel_encoder.proofs.band_rows.EqualRuns.{tokens_skip}
-use Rattle.sixel_encoder.proofs.band_rows.ShortestRows.{spells, shortest}
+use Rattle.sixel_encoder.proofs.Names.{arith, nat_tests}
+use Rattle.sixel_encoder.proofs.band_rows.ShortestRows.{tokens_skip, spells, shortest}
 use Rattle.sixel_encoder.proofs.run_tokens.push_row.Goals as goal
-use Rattle.std.proofs.lemmas.Bool.Decides.{nat_tests}
 
 pub returns-in_err-push_run-clause-spells : goal.returns-in_err-push_run-clause-spells
 returns-in_err-push_run-clause-spells c = spells c.args.row.now

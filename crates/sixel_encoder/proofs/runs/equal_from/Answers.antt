@@ -1,17 +1,18 @@
-use Rattle.std.proofs.Common.{arith}
+use Rattle.sixel_encoder.proofs.Names.{arith, nat_tests}
 use Rattle.sixel_encoder.proofs.band_rows.Lanes.{mask_is, all_equal, first_equal, first_other}
 use Rattle.sixel_encoder.proofs.runs.equal_from.Goals as goal
-use Rattle.std.proofs.lemmas.Bool.Decides.{nat_tests}
 
 pub returns-then-others-eq0-clause-run : goal.returns-then-others-eq0-clause-run
 returns-then-others-eq0-clause-run c =
     all_equal 16 c.args.row.now c.args.at c.args.bits _ (omega arith)
-    (mask_is 16 c.args.row.now c.args.at c.args.bits (omega arith) (omega arith)) c.if-others-eq0.true
+    (mask_is 16 c.args.row.now c.args.at c.args.bits (omega arith) (omega arith))
+    c.if-others-eq0.true
 
 pub returns-else-others-eq0-clause-run : goal.returns-else-others-eq0-clause-run
 returns-else-others-eq0-clause-run c =
     first_equal c.args.row.now c.args.at c.args.bits _ (omega arith)
-    (mask_is 16 c.args.row.now c.args.at c.args.bits (omega arith) (omega arith)) c.if-others-eq0.false
+    (mask_is 16 c.args.row.now c.args.at c.args.bits (omega arith) (omega arith))
+    c.if-others-eq0.false
 
 pub returns-else-others-eq0-clause-stop : goal.returns-else-others-eq0-clause-stop
 returns-else-others-eq0-clause-stop c = λ none.

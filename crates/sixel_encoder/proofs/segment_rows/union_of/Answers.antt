@@ -1,7 +1,6 @@
-use Rattle.std.proofs.Common.{◌≡◌, ◌+◌, ◌-◌, arith, ℕ}
+use Rattle.sixel_encoder.proofs.Names.{◌≡◌, ◌+◌, ◌-◌, arith, ℕ, nat_tests}
 use Rattle.sixel_encoder.proofs.compact_form.FillSteps.{union-more, union-none}
 use Rattle.sixel_encoder.proofs.segment_rows.union_of.Goals as goal
-use Rattle.std.proofs.lemmas.Bool.Decides.{nat_tests}
 
 pub loop-column-init : goal.loop-column-init
 loop-column-init c = grind (arith, nat_tests, union-none c.args.row.now c.args.from)

@@ -1,10 +1,8 @@
-use Rattle.std.specs.Prelude.{vec_len}
-use Rattle.std.proofs.Common.{◌≡◌, [], arith}
+use Rattle.sixel_encoder.proofs.Names.{vec_len, ◌≡◌, [], arith, nat_tests}
 use Rattle.sixel_encoder.specs.Segments.{passes}
 use Rattle.sixel_encoder.proofs.compact_form.PassSteps.{length-none, passes-end, passes-none}
 use Rattle.sixel_encoder.proofs.compact_form.PassSteps.{passes-step}
 use Rattle.sixel_encoder.proofs.segments.in_passes.Goals as goal
-use Rattle.std.proofs.lemmas.Bool.Decides.{nat_tests}
 
 pub loop-preserved : goal.loop-preserved
 loop-preserved c =

@@ -1,14 +1,10 @@
-use Rattle.std.proofs.Common.{◌≡◌, ℕ, ◌<◌, length, false, arith}
-use Rattle.std.proofs.lemmas.List.{get_or_default}
-use Rattle.sixel_encoder.specs.declared.segments.Segment.{Segment}
-use Rattle.sixel_encoder.specs.inside.Compact.{nth}
+use Rattle.sixel_encoder.proofs.Names.{◌≡◌, ℕ, ◌<◌, length, false, arith, get_or_default, nat_tests}
+use Rattle.sixel_encoder.specs.{declared.segments.Segment.Segment, inside.Compact.nth}
 use Rattle.sixel_encoder.proofs.compact_form.RunSegments.{AreLast-longer, AreLast-run, run-near}
-use Rattle.sixel_encoder.proofs.compact_form.RunSegments.{run-new}
+use Rattle.sixel_encoder.proofs.compact_form.{RunSegments.run-new, SegmentSteps.some-same}
 use Rattle.sixel_encoder.proofs.compact_form.SegmentSteps.{is_near, last-far, near-own, none-near}
-use Rattle.sixel_encoder.proofs.compact_form.SegmentSteps.{others-far}
-use Rattle.sixel_encoder.proofs.segments.push_run.Goals as goal
 use Rattle.sixel_encoder.proofs.segments.push_run.Goals.{in-Some+else-run-near, in-None}
-use Rattle.std.proofs.lemmas.Bool.Decides.{nat_tests}
+use Rattle.sixel_encoder.proofs.segments.push_run.Goals as goal
 
 -- no segment
 abbrev none_there : Segment
@@ -24,7 +20,7 @@ overflow_add-near c = grind (arith, nat_tests, get_or_default, none_there)
 
 pub returns-then-run-near-clause-segments : goal.returns-then-run-near-clause-segments
 returns-then-run-near-clause-segments c =
-    grind (arith, nat_tests, get_or_default, none_there, run-near, others-far, near-own)
+    grind (arith, nat_tests, get_or_default, none_there, run-near, some-same, near-own)
 
 pub returns-then-run-near-clause-last : goal.returns-then-run-near-clause-last
 returns-then-run-near-clause-last c = grind (arith, nat_tests, AreLast-longer, get_or_default)

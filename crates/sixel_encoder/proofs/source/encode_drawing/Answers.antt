@@ -1,6 +1,4 @@
-use Rattle.std.proofs.Common.{[], subst}
-use Rattle.std.specs.Prelude.{All}
-use Rattle.std.proofs.lemmas.List.{get_or_default}
+use Rattle.sixel_encoder.proofs.Names.{[], subst, All, arith, get_or_default, nat_tests}
 use Rattle.sixel_encoder.specs.Trip.{IsColor}
 use Rattle.sixel_encoder.proofs.drawings.IndexedText.{IsTextOf-written, IsWritable-indexed}
 use Rattle.sixel_encoder.proofs.source.encode_drawing.Goals as goal
@@ -13,4 +11,4 @@ returns-clause-text c =
     subst IsColor (get_or_default colors k [] d l)
     (record { channels = c.told-colors k l; bytes = c.color_bytes.ensures k [] l }) in
     IsTextOf-written _ _ _ (IsWritable-indexed _ _ _ c.requires.sound c.requires.few bytes
-    c.requires.count c.requires.opaque) c.in_ok-encode_in_form.ensures
+    c.requires.count c.requires.opaque) (grind (arith, nat_tests))

@@ -1,16 +1,15 @@
-use Rattle.std.proofs.Common.{arith}
-use Rattle.std.proofs.lemmas.Result.{IfOk-weaker}
+use Rattle.sixel_encoder.proofs.Names.{arith, IfOk-weaker}
 use Rattle.sixel_encoder.specs.Encoding.{source_value}
-use Rattle.sixel_encoder.proofs.drawings.IndexedDrawing.{IsDrawing-chosen}
-use Rattle.sixel_encoder.proofs.drawings.Sizes.{within-sound}
-use Rattle.sixel_encoder.proofs.drawings.Verdicts.{none-found}
+use Rattle.sixel_encoder.proofs.drawings.{IndexedText.IsDrawing-chosen, Sizes.within-sound}
+use Rattle.sixel_encoder.proofs.{drawings.Sizes.none-found}
 use Rattle.sixel_encoder.proofs.source.encode_source.Goals as goal
 
 pub encode_drawing-requires-clause-count : goal.encode_drawing-requires-clause-count
 encode_drawing-requires-clause-count c =
     let sound = none-found _ _ _ c.validate_source.ensures c.in_ok-validate_source.was in
     let within = within-sound (source_value c.args.source.now) sound in
-    rw c.deref-2.ensures.value (omega (arith, within.sized, c.in_ok-choice.ensures.indices.one_each))
+    rw c.deref-2.ensures.value
+    (omega (arith, within.sized, c.in_ok-choice.ensures.indices.one_each))
 
 pub encode_drawing-requires-clause-opaque : goal.encode_drawing-requires-clause-opaque
 encode_drawing-requires-clause-opaque c = rw (c.deref.ensures.value, c.deref-2.ensures.value)

@@ -1,7 +1,6 @@
-use Rattle.std.proofs.Common.{append_assoc, arith, refl}
+use Rattle.sixel_encoder.proofs.Names.{append_assoc, arith, refl, nat_tests}
 use Rattle.sixel_encoder.proofs.band_rows.Dots.{appended-start, appended-more}
 use Rattle.sixel_encoder.proofs.text.encode_indexed.Goals as goal
-use Rattle.std.proofs.lemmas.Bool.Decides.{nat_tests}
 
 pub loop-band-init : goal.loop-band-init
 loop-band-init c = grind (arith, nat_tests, appended-start, c.in_ok-rows.ensures)

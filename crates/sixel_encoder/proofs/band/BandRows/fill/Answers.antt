@@ -1,19 +1,13 @@
-use Rattle.std.proofs.Common.{◌≡◌, ℕ, ◌<◌, ◌≤◌, ◌+◌, ◌*◌, ◌^◌, List, length, ◌∙◌, ap, arith}
-use Rattle.std.proofs.lemmas.Grind.{pow_more}
-use Rattle.std.proofs.lemmas.List.{with_items_is}
-use Rattle.sixel_encoder.specs.declared.band.BandRows.{BandRows}
+use Rattle.sixel_encoder.proofs.Names.{◌≡◌, ℕ, ◌<◌, ◌≤◌, ◌+◌, ◌*◌, ◌^◌, List, length, ◌∙◌, ap}
+use Rattle.sixel_encoder.proofs.Names.{arith, pow_more, with_items_is, nat_tests}
+use Rattle.sixel_encoder.specs.{declared.band.BandRows.BandRows, Text.mask}
 use Rattle.sixel_encoder.specs.declared.text.IndexedImage.{IndexedImage}
-use Rattle.sixel_encoder.specs.Text.{mask}
 use Rattle.sixel_encoder.specs.inside.Indexed.{entry_of, IsIndexed}
 use Rattle.sixel_encoder.specs.inside.Grid.{cell, pixel_bit}
-use Rattle.sixel_encoder.proofs.band_rows.Cells.{AreMarks-same}
-use Rattle.sixel_encoder.proofs.MaskBits.{mask-lt}
+use Rattle.sixel_encoder.proofs.{band_rows.Cells.AreMarks-same, MaskBits.mask-lt}
 use Rattle.sixel_encoder.proofs.band_rows.Masks.{hits, mask-below, mask-line, mask-none, weight-le}
 use Rattle.sixel_encoder.proofs.band.BandRows.fill.Goals as goal
-use Rattle.sixel_encoder.proofs.band.BandRows.fill.Goals.{then-row-image+then-is_whole}
-use Rattle.sixel_encoder.proofs.band.BandRows.fill.Goals.{then-row-image+else-is_whole}
-use Rattle.sixel_encoder.proofs.band.BandRows.fill.Goals.{else-row-image}
-use Rattle.std.proofs.lemmas.Bool.Decides.{nat_tests}
+use goal.{then-row-image+then-is_whole, then-row-image+else-is_whole, else-row-image}
 
 -- a line ends within the image
 line-within : (row width height : ℕ) → row < height → row * width + width ≤ width * height

@@ -1,13 +1,11 @@
-use Rattle.std.proofs.Common.{◌≡◌, ℕ, ◌+◌, ◌*◌, ◌<◌, ◌++◌, length, string_bytes}
-use Rattle.std.proofs.Common.{append_assoc, ap, ◌∙◌, arith}
+use Rattle.sixel_encoder.proofs.Names.{◌≡◌, ℕ, ◌+◌, ◌*◌, ◌<◌, ◌++◌, length, string_bytes}
+use Rattle.sixel_encoder.proofs.Names.{append_assoc, ap, ◌∙◌, arith, nat_tests, div_ceil_times}
 use Rattle.sixel_encoder.specs.Text.{entry_text, sixel_of}
-use Rattle.sixel_encoder.specs.inside.Indexed.{drawing_of}
-use Rattle.sixel_encoder.specs.inside.Grid.{cell}
+use Rattle.sixel_encoder.specs.{inside.Indexed.drawing_of, inside.Grid.cell}
 use Rattle.sixel_encoder.proofs.band_rows.Dots.{appended-start, joined-part}
 use Rattle.sixel_encoder.proofs.MaskBits.{mask-lt}
 use Rattle.sixel_encoder.proofs.band_rows.Parts.{joined-all, appended-part}
 use Rattle.sixel_encoder.proofs.band.BandRows.push_band.Goals as goal
-use Rattle.std.proofs.lemmas.Bool.Decides.{nat_tests}
 
 pub loop-part-init : goal.loop-part-init
 loop-part-init c =
@@ -49,4 +47,7 @@ loop-part-preserved c =
     }
 
 pub returns-clause-text : goal.returns-clause-text
-returns-clause-text c = grind (arith, nat_tests, joined-all, append_assoc)
+returns-clause-text c =
+    let image = c.args.image.now in
+    let all = div_ceil_times (length image.colors.now) _ c.requires.empty.some in
+    grind (arith, nat_tests, joined-all, append_assoc, all.0)

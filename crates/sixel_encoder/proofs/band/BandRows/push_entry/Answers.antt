@@ -1,10 +1,8 @@
-use Rattle.std.proofs.Common.{◌≡◌, ◌<◌, ◌+◌, ◌-◌, ◌*◌, append_assoc, take, drop, arith}
-use Rattle.std.proofs.lemmas.List.{with_items_is}
+use Rattle.sixel_encoder.proofs.Names.{◌≡◌, ◌<◌, ◌+◌, ◌-◌, ◌*◌, append_assoc, take, drop, arith}
+use Rattle.sixel_encoder.proofs.Names.{with_items_is, nat_tests, places}
 use Rattle.sixel_encoder.specs.inside.Grid.{grid_row}
-use Rattle.sixel_encoder.proofs.band_rows.RowParts.{part-row, All-grid_row, cell-put_own}
-use Rattle.sixel_encoder.proofs.band_rows.RowParts.{cell-put_other}
+use Rattle.sixel_encoder.proofs.band_rows.RowParts.{part-row, All-grid_row, cell-put_other}
 use Rattle.sixel_encoder.proofs.band.BandRows.push_entry.Goals as goal
-use Rattle.std.proofs.lemmas.Bool.Decides.{nat_tests}
 
 pub push_row-requires : goal.push_row-requires
 push_row-requires c =
@@ -20,7 +18,7 @@ returns-clause-text c =
     grind (arith, append_assoc, part-row, c.deref.ensures.value, c.requires.within)
 
 pub returns-clause-blank : goal.returns-clause-blank
-returns-clause-blank c = grind (arith, with_items_is, cell-put_own, c.fill.ensures.clones)
+returns-clause-blank c = grind (arith, with_items_is, nat_tests, places, c.fill.ensures.clones)
 
 pub returns-clause-others : goal.returns-clause-others
 returns-clause-others c = grind (arith, with_items_is, cell-put_other, c.deref_mut.ensures.value)

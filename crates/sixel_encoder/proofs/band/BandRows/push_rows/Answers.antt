@@ -1,13 +1,10 @@
-use Rattle.std.proofs.Common.{◌≡◌, ◌<◌, length, false, set, get_or, string_bytes}
-use Rattle.std.proofs.Common.{ap, sym, ◌∙◌, arith}
-use Rattle.std.proofs.lemmas.List.{append-nil, get_or_default, length-set}
+use Rattle.sixel_encoder.proofs.Names.{get_or_default, string_bytes, append-nil, length-set, length}
+use Rattle.sixel_encoder.proofs.Names.{nat_tests, get_or, false, arith, ◌≡◌, ◌<◌, set, sym, ◌∙◌, ap}
 use Rattle.sixel_encoder.specs.declared.band.BandRows.{BandRows}
 use Rattle.sixel_encoder.proofs.JoinedLists.{joined-none}
-use Rattle.sixel_encoder.proofs.band_rows.Progress.{progress-used, progress-unused, progress-same}
+use Rattle.sixel_encoder.proofs.band_rows.Parts.{progress-used, progress-unused, progress-same}
 use Rattle.sixel_encoder.proofs.band.BandRows.push_rows.Goals as goal
-use Rattle.sixel_encoder.proofs.band.BandRows.push_rows.Goals.{then-index+in_ok-push_entry}
-use Rattle.sixel_encoder.proofs.band.BandRows.push_rows.Goals.{else-index}
-use Rattle.std.proofs.lemmas.Bool.Decides.{nat_tests}
+use goal.{then-index+in_ok-push_entry, else-index}
 
 pub loop-row-init : goal.loop-row-init
 loop-row-init c = grind (arith, nat_tests, string_bytes, joined-none, append-nil)

@@ -1,6 +1,5 @@
 use Rattle.std.proofs.Common.{◌≡◌, ◌+◌, ◌-◌, ◌*◌, ◌<◌, ◌≤◌, ℕ}
-use Rattle.sixel_encoder.specs.Text.{entry_at}
-use Rattle.sixel_encoder.specs.inside.Indexed.{drawing_of}
+use Rattle.sixel_encoder.specs.{Text.entry_at, inside.Indexed.drawing_of}
 use Rattle.sixel_encoder.proofs.band_entries.BandEntries.end_of_repeats.Given as goal
 
 abbrev pub invariant-repeats : goal.invariant-repeats

@@ -1,7 +1,6 @@
-use Rattle.std.proofs.Common.{List, ap, ℕ, ◌*◌, ◌+◌, ◌∙◌}
-use Rattle.std.specs.Prelude.{slice_index, ◌==◌}
+use Rattle.sixel_encoder.proofs.Names.{List, ap, ℕ, ◌*◌, ◌+◌, ◌∙◌, slice_index, ◌==◌}
 use Rattle.sixel_encoder.specs.Text.{mask}
-use Rattle.sixel_encoder.proofs.band_rows.EntryLaneMasks.{sixel-lanes}
+use Rattle.sixel_encoder.proofs.band_rows.ColumnLanes.{sixel-lanes}
 use Rattle.sixel_encoder.proofs.band_entries.BandEntries.sixel.Goals as goal
 
 pub returns : goal.returns

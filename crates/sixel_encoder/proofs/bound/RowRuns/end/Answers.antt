@@ -1,9 +1,7 @@
-use Rattle.std.proofs.Common.{◌≡◌, arith, slice_index}
-use Rattle.std.proofs.lemmas.Grind.{get_or-set_at}
-use Rattle.std.proofs.lemmas.List.{get_or-set_other}
+use Rattle.sixel_encoder.proofs.Names.{◌≡◌, arith, slice_index, get_or-set_at, get_or-set_other}
+use Rattle.sixel_encoder.proofs.Names.{nat_tests}
 use Rattle.sixel_encoder.proofs.plain_text.Bound.{added-some, bound-end}
 use Rattle.sixel_encoder.proofs.bound.RowRuns.end.Goals as goal
-use Rattle.std.proofs.lemmas.Bool.Decides.{nat_tests}
 
 pub returns-then-start-eq0-clause-bound : goal.returns-then-start-eq0-clause-bound
 returns-then-start-eq0-clause-bound c = λ drawing band change is.

@@ -1,11 +1,9 @@
-use Rattle.std.proofs.Common.{◌≤◌, length, ◌∙◌, arith}
-use Rattle.std.proofs.lemmas.List.FromFn.{length-map-range_with_len}
+use Rattle.sixel_encoder.proofs.Names.{◌≤◌, length, ◌∙◌, arith, length-map-range_with_len}
+use Rattle.sixel_encoder.proofs.{Names.nat_tests, compact_form.Steps.text-more}
 use Rattle.sixel_encoder.specs.inside.Indexed.{drawing_of}
 use Rattle.sixel_encoder.proofs.compact_form.Steps.{IsSegment-image, band-selected, band-text}
-use Rattle.sixel_encoder.proofs.compact_form.Steps.{drawn-end}
-use Rattle.sixel_encoder.proofs.compact_form.Steps.{drawn-made, drawn-more, text-end, text-more}
+use Rattle.sixel_encoder.proofs.compact_form.Steps.{drawn-end, drawn-made, drawn-more, text-end}
 use Rattle.sixel_encoder.proofs.compact.BandWriter.push_band.Goals as goal
-use Rattle.std.proofs.lemmas.Bool.Decides.{nat_tests}
 
 pub loop-segment-init : goal.loop-segment-init
 loop-segment-init c = grind (arith, length-map-range_with_len)
@@ -34,7 +32,8 @@ pub returns-clause-register : goal.returns-clause-register
 returns-clause-register c =
     let drawing = drawing_of c.args.self.now.entries.image.now in
     let items = c.deref-segment-items.result.now in
-    let drawn = rw (c.read.ensures.image, c.read.ensures.band) at c.in_ok-segments.ensures in
+    let begun = rw (c.read.ensures.image, c.read.ensures.band) at c.in_ok-band_segments.ensures in
+    let drawn = rw (c.deref.ensures.value, begun) at c.in_ok-segments.ensures in
     let all : length items ≤ c.loop-segment.segment-index = grind (arith, nat_tests) in
     band-selected drawing c.args.band c.args.self.now.pen.register _ _ items (drawn-made _ _
     c.begin_band.ensures.column c.begin_band.ensures.register
@@ -47,7 +46,8 @@ pub returns-clause-text : goal.returns-clause-text
 returns-clause-text c =
     let drawing = drawing_of c.args.self.now.entries.image.now in
     let items = c.deref-segment-items.result.now in
-    let drawn = rw (c.read.ensures.image, c.read.ensures.band) at c.in_ok-segments.ensures in
+    let begun = rw (c.read.ensures.image, c.read.ensures.band) at c.in_ok-band_segments.ensures in
+    let drawn = rw (c.deref.ensures.value, begun) at c.in_ok-segments.ensures in
     let all : length items ≤ c.loop-segment.segment-index = grind (arith, nat_tests) in
     band-text drawing c.args.band c.args.self.now.pen.register _ items _ _ _ (drawn-made _ _
     c.begin_band.ensures.column c.begin_band.ensures.register

@@ -1,11 +1,11 @@
-use Rattle.std.proofs.Common.{ap, ◌∙◌, arith}
+use Rattle.sixel_encoder.proofs.Names.{ap, ◌∙◌, arith, nat_tests}
 use Rattle.sixel_encoder.specs.inside.Indexed.{drawing_of}
 use Rattle.sixel_encoder.proofs.compact_form.Counts.{flat_map-more, flat_map-start}
 use Rattle.sixel_encoder.proofs.round_trip.DrawnHeight.{bands_up_to-le}
 use Rattle.sixel_encoder.proofs.compact_form.SegmentOrder.{register_after-more, register_after-none}
-use Rattle.sixel_encoder.proofs.plain_text.Length.{length-band, length-bands}
+use Rattle.sixel_encoder.proofs.plain_text.Bound.{length-band, length-joined}
+use Rattle.std.proofs.Common.{length-append}
 use Rattle.sixel_encoder.proofs.compact.BandWriter.push_bands.Goals as goal
-use Rattle.std.proofs.lemmas.Bool.Decides.{nat_tests}
 
 pub loop-band-init : goal.loop-band-init
 loop-band-init c =
@@ -32,4 +32,4 @@ loop-band-preserved c =
     }
 
 pub returns-clause-plain : goal.returns-clause-plain
-returns-clause-plain c = grind (arith, bands_up_to-le, length-bands)
+returns-clause-plain c = grind (arith, bands_up_to-le, nat_tests, length-append, length-joined)

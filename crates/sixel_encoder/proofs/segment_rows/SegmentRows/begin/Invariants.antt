@@ -1,6 +1,5 @@
 use Rattle.std.proofs.Common.{◌≡◌, ◌<◌, ℕ, length, slice_index}
-use Rattle.sixel_encoder.specs.Compact.{transparent_sixel}
-use Rattle.sixel_encoder.specs.inside.Indexed.{drawing_of}
+use Rattle.sixel_encoder.specs.{Compact.transparent_sixel, inside.Indexed.drawing_of}
 use Rattle.sixel_encoder.proofs.segment_rows.SegmentRows.begin.Given as goal
 
 abbrev pub invariant-loop-column : goal.invariant-loop-column

@@ -1,18 +1,10 @@
-use Rattle.std.proofs.Common.{◌≡◌, ◌+◌, ◌<◌, List, length, set, ap, ◌∙◌, arith, ℕ, refl}
-use Rattle.std.specs.Int.Bits.{bit_or}
-use Rattle.std.specs.Prelude.{slice_index}
-use Rattle.std.proofs.lemmas.List.{get_or_default}
-use Rattle.sixel_encoder.specs.Text.{sixel_of}
-use Rattle.sixel_encoder.specs.inside.Indexed.{drawing_of}
+use Rattle.sixel_encoder.proofs.Names.{◌≡◌, ◌+◌, ◌<◌, List, length, set, ap, ◌∙◌, arith, ℕ, refl}
+use Rattle.sixel_encoder.proofs.Names.{bit_or, slice_index, get_or_default, nat_tests}
+use Rattle.sixel_encoder.specs.{Text.sixel_of, inside.Indexed.drawing_of}
 use Rattle.sixel_encoder.proofs.compact_form.FillSteps.{IsBlocking, blocked-after, blocked-more}
-use Rattle.sixel_encoder.proofs.compact_form.FillSteps.{fill-end}
-use Rattle.sixel_encoder.proofs.compact_form.FillSteps.{fill-off, fill-on}
+use Rattle.sixel_encoder.proofs.compact_form.FillSteps.{fill-end, fill-off, fill-on}
 use Rattle.sixel_encoder.proofs.segment_rows.SegmentRows.draw.Goals as goal
-use Rattle.sixel_encoder.proofs.segment_rows.SegmentRows.draw.Goals.{then-more-wider-eq0}
-use Rattle.sixel_encoder.proofs.segment_rows.SegmentRows.draw.Goals.{
-  else-more-wider-eq0+in_ok-resize,
-}
-use Rattle.std.proofs.lemmas.Bool.Decides.{nat_tests}
+use goal.{then-more-wider-eq0, else-more-wider-eq0+in_ok-resize}
 
 pub loop-column-preserved : goal.loop-column-preserved
 loop-column-preserved c =

@@ -1,7 +1,5 @@
 use Rattle.std.proofs.Common.{◌≡◌, ◌-◌, ◌+◌, ◌≤◌, length, slice_index}
-use Rattle.sixel_encoder.specs.Compact.{segment_row}
-use Rattle.sixel_encoder.specs.Text.{sixel_of}
-use Rattle.sixel_encoder.specs.inside.Indexed.{drawing_of}
+use Rattle.sixel_encoder.specs.{Compact.segment_row, Text.sixel_of, inside.Indexed.drawing_of}
 use Rattle.sixel_encoder.proofs.compact_form.FillSteps.{IsBlocking, state}
 use Rattle.sixel_encoder.proofs.segment_rows.SegmentRows.draw.Given as goal
 

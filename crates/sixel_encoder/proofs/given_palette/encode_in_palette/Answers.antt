@@ -1,13 +1,15 @@
-use Rattle.std.proofs.Common.{length, ap, arith}
+use Rattle.sixel_encoder.proofs.Names.{◌≡◌, None, length, ap, arith, nat_tests}
 use Rattle.sixel_palette.specs.Dithering.{AreDithered}
-use Rattle.sixel_encoder.specs.Encoding.{source_value}
+use Rattle.sixel_encoder.specs.Encoding.{image_fault, source_value}
 use Rattle.sixel_palette.proofs.mapped_images.GraySource.{dithered-count, dithered-entry}
 use Rattle.sixel_encoder.proofs.drawings.PaletteText.{rows-sound}
-use Rattle.sixel_encoder.proofs.drawings.Sizes.{within-sound}
-use Rattle.sixel_encoder.proofs.given_palette.encode_dithered.Goals as goal
-use Rattle.sixel_encoder.proofs.given_palette.encode_dithered.Goals.{After-deref}
-use Rattle.std.proofs.lemmas.Bool.Decides.{nat_tests}
-use Rattle.sixel_encoder.proofs.drawings.Sizes.{rows-image}
+use Rattle.sixel_encoder.proofs.drawings.Sizes.{rows-image, within-sound, none-found}
+use Rattle.sixel_encoder.proofs.given_palette.encode_in_palette.Goals as goal
+use Rattle.sixel_encoder.proofs.given_palette.encode_in_palette.Goals.{After-deref}
+
+-- the sizes are valid
+sound : (c : After-deref) → image_fault (source_value c.args.source.now) ≡ None
+sound c = none-found _ _ _ c.validate_source.ensures c.in_ok-validate_source.was
 
 -- the indices
 told : (c : After-deref)
@@ -18,8 +20,9 @@ told c = grind (arith, nat_tests)
 pub dithered_indices-requires : goal.dithered_indices-requires
 dithered_indices-requires c =
     let image = source_value c.args.source.now in
-    let sound = within-sound image c.requires.sound in
-    let rows = rows-image image c.requires.sound in
+    let valid = none-found _ _ _ c.validate_source.ensures c.in_ok-validate_source.was in
+    let within = within-sound image valid in
+    let rows = rows-image image valid in
     grind (arith, nat_tests)
 
 pub encode_drawing-requires-clause-count : goal.encode_drawing-requires-clause-count
@@ -28,7 +31,7 @@ encode_drawing-requires-clause-count c =
     let count =
     dithered-count c.args.mapping image.width image.pixels c.args.colors.now
     c.in_ok-indices.indices.items (told c) in
-    rw c.deref.ensures.value (omega (arith, (within-sound image c.requires.sound).sized, count))
+    rw c.deref.ensures.value (omega (arith, (within-sound image (sound c)).sized, count))
 
 pub encode_drawing-requires-clause-opaque : goal.encode_drawing-requires-clause-opaque
 encode_drawing-requires-clause-opaque c = λ pixel inside opaque.
@@ -38,5 +41,5 @@ encode_drawing-requires-clause-opaque c = λ pixel inside opaque.
     let count = dithered-count c.args.mapping image.width image.pixels colors indices (told c) in
     rw c.deref.ensures.value
     (dithered-entry c.args.mapping image.width image.pixels colors indices pixel
-    (rows-sound image c.requires.sound) (told c)
+    (rows-sound image (sound c)) (told c)
     (omega (arith, count, inside, ap length c.deref.ensures.value)) opaque)
