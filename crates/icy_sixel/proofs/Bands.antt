@@ -1,8 +1,7 @@
 -- The bytes of a chunk up to and with its first graphics new line.
-use Rattle.std.proofs.Common.{◌≡◌, ℕ, zero, suc, ◌<◌, false, List, [], ◌∷◌, refl, ap, arith}
-use Rattle.std.proofs.Common.{length, take, get_or}
+use Rattle.std.proofs.Common.{◌≡◌, ℕ, zero, suc, ◌<◌, false, List, [], ◌∷◌, refl, ap, arith, length}
+use Rattle.std.proofs.{Common.take, Common.get_or, lemmas.Bool.Decides.nat_tests}
 use Rattle.std.specs.Prelude.{◌==◌}
-use Rattle.std.proofs.lemmas.Bool.Decides.{nat_tests}
 use Rattle.icy_sixel.specs.Bands.{band_of}
 
 -- the first new line is at this index

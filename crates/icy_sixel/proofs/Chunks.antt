@@ -1,30 +1,22 @@
 -- What is known of the bytes of an image once a beginning of them was fed.
 use Rattle.std.proofs.Common.{◌≡◌, ℕ, ◌≤◌, true, List, [], ◌++◌, refl, ap, sym, ⊎_elim, arith}
 use Rattle.std.specs.Prelude.{◌&&◌, nat_lt, length, Result, Ok, IfErr}
-use Rattle.std.proofs.lemmas.List.{append-nil, append_assoc}
-use Rattle.std.proofs.lemmas.Bool.Decides.{nat_tests}
-use Rattle.sixel_base.specs.declared.error.SixelError.{SixelError}
-use Rattle.sixel_base.specs.Fault.{Faults}
-use Rattle.sixel_base.specs.Bytes.{front, first_terminator}
-use Rattle.sixel_base.specs.Settings.{Settings}
+use Rattle.std.proofs.lemmas.{List.append-nil, List.append_assoc, Bool.Decides.nat_tests}
+use Rattle.sixel_base.specs.{declared.error.SixelError.SixelError, Fault.Faults, Bytes.front}
+use Rattle.sixel_base.specs.{Bytes.first_terminator, Settings.Settings, Limits.Limit}
 use Rattle.sixel_base.specs.Dcs.{can_finish, dcs_in_payload, dcs_status}
-use Rattle.sixel_base.specs.Dcs as strings
-use Rattle.sixel_decoder.specs.FedImages.{IsFed}
-use Rattle.icy_sixel.specs.ReceiverCalls.{IsCounted}
-use Rattle.sixel_decoder.specs.Reception.{Reception}
+use Rattle.sixel_decoder.specs.{FedImages.IsFed, Reception.Reception}
+use Rattle.icy_sixel.specs.{ReceiverCalls.IsCounted, inside.Session.IsWhole}
 use Rattle.sixel_decoder.specs.declared.received.Received.{Received}
-use Rattle.sixel_base.specs.Limits.{Limit}
 use Rattle.icy_sixel.specs.Receiver.{Form, Nothing, OfPayload, OfString, count, status, fault}
 use Rattle.icy_sixel.specs.Receiver.{growths, is_over, end_fault, end_wants, has_ended}
-use Rattle.icy_sixel.specs.inside.Session.{IsWhole}
 use Rattle.sixel_decoder.proofs.chunks.ParserSteps.{Faults-along}
-use Rattle.sixel_decoder.proofs.chunks.PayloadFaults.{or_right}
-use Rattle.sixel_decoder.proofs.chunks.FedImages as fed_images
-use Rattle.sixel_decoder.proofs.chunks.FedImages.{terminator_of}
-use Rattle.sixel_decoder.proofs.images.ImageEnds.{accepted_same}
+use Rattle.sixel_decoder.proofs.{chunks.PayloadFaults.or_right, chunks.FedImages.terminator_of}
+use Rattle.sixel_decoder.proofs.{images.ImageEnds.accepted_same, dcs_sequences.Ends.count-fits}
 use Rattle.sixel_decoder.proofs.images.Finality.{front_ended, status_ended}
-use Rattle.sixel_decoder.proofs.dcs_sequences.Ends.{count-fits}
 use Rattle.sixel_decoder.proofs.chunks.Sessions.{dcs_count-fits, frame_refused, string_refused}
+use Rattle.sixel_base.specs.Dcs as strings
+use Rattle.sixel_decoder.proofs.chunks.FedImages as fed_images
 
 -- what was fed and what is left make up all bytes, also after one chunk more
 pub rejoined : (before chunk after left rest bytes : List ℕ) → after ≡ before ++ chunk

@@ -1,26 +1,52 @@
--- An image under a clip is the part of the image inside the clip.
-use Rattle.std.proofs.Common.{◌≡◌, ℕ, ◌≤◌, List, [], ◌∷◌, refl, ◌∙◌, None, arith}
+-- An image under a clip is the part of the image inside the clip. Without a clip the size and the
+-- painted area are those of the whole picture.
+use Rattle.std.proofs.Common.{◌≡◌, ℕ, ◌≤◌, [], ◌∷◌, refl, None, arith, List, ◌∙◌}
 use Rattle.std.proofs.lemmas.Bool.Decides.{nat_tests}
-use Rattle.sixel_base.specs.Bytes.{front}
-use Rattle.sixel_base.specs.Clip.{clipped_width}
+use Rattle.sixel_base.specs.{Clip.clipped_height, Clip.clipped_width, History.History}
+use Rattle.sixel_base.specs.{History.history_of, Limits.Limit, Limits.side_limit, Payload.tokens}
+use Rattle.sixel_base.specs.{Place.height, Place.span, Place.width}
+use Rattle.sixel_base.specs.{declared.state.DecoderState.DecoderState, Bytes.front}
+use Rattle.sixel_base.specs.{IgnoredCommands.payload_ignored, OneShot.found_fault}
+use Rattle.sixel_base.specs.{Settings.Settings, Stroke.Origin, Stroke.pixel}
+use Rattle.sixel_base.specs.Payload.{first_fault, Image, cropped_height, image_height, image_of}
+use Rattle.sixel_base.specs.PaintedArea.{painted_area, row_extent}
+use Rattle.sixel_canvas.proofs.{Totals.total-same, Pictures.picture_same}
+use Rattle.sixel_decoder.proofs.drawing.RowExtents.{both_none, sides-fit, cropped_height-most}
+use Rattle.icy_sixel.specs.ClippedImages.{HasNoClip, whole_painted_area, whole_row_extent}
+use Rattle.icy_sixel.specs.ClippedImages.{IsInsideClip, IsPartInside, IsWholeImage, part_report}
+use Rattle.icy_sixel.specs.ClippedImages.{whole_image, whole_pixel}
 use Rattle.sixel_base.specs.Decoder.{clip_side_of, origin_of, with_clip}
-use Rattle.sixel_base.specs.History.{History, history_of}
-use Rattle.sixel_base.specs.IgnoredCommands.{payload_ignored}
-use Rattle.sixel_base.specs.Limits.{side_limit}
 use Rattle.sixel_base.specs.OneShot.{Found, Payload, NoPayload, AreFoundRegisters, IsFoundImage}
-use Rattle.sixel_base.specs.OneShot.{found_fault}
-use Rattle.sixel_base.specs.Payload.{Image, cropped_height, first_fault, image_height, image_of}
-use Rattle.sixel_base.specs.Payload.{tokens}
-use Rattle.sixel_base.specs.Place.{width}
-use Rattle.sixel_base.specs.Settings.{Settings}
-use Rattle.sixel_base.specs.Stroke.{Origin, pixel}
-use Rattle.sixel_base.specs.declared.state.DecoderState.{DecoderState}
 use Rattle.sixel_base.proofs.ToleratedTokens.{effective-fault, registers-effective}
-use Rattle.sixel_canvas.proofs.Pictures.{picture_same}
 use Rattle.sixel_decoder.specs.Report.{found_report}
-use Rattle.sixel_decoder.proofs.drawing.RowExtents.{cropped_height-most, sides-fit}
-use Rattle.icy_sixel.specs.ClippedImages.{HasNoClip, IsInsideClip, IsPartInside, IsWholeImage}
-use Rattle.icy_sixel.specs.ClippedImages.{part_report, whole_image, whole_pixel}
+
+-- ---- the size
+
+pub size_whole : (decoder : DecoderState) (h : History) → HasNoClip decoder
+    → first_fault decoder.pixel_limit h ≡ None → (clipped_width decoder.pixel_limit h ≡ width h)
+    × (clipped_height decoder.pixel_limit h ≡ height h)
+size_whole decoder h none faultless =
+    let fit = sides-fit decoder.pixel_limit h faultless in
+    (omega (arith, fit.0, none.columns), omega (arith, fit.1, none.rows))
+
+-- ---- the painted area
+
+span_some : (h : History) → 1 ≤ span h
+span_some [] = omega arith
+span_some (token ∷ h) = grind (arith, nat_tests, span_some h)
+
+reach_whole : (limit : Limit) (h : History) (row : ℕ) → side_limit ≤ limit.columns
+    → side_limit ≤ limit.rows → first_fault limit h ≡ None
+    → row_extent limit h row ≡ whole_row_extent h row
+reach_whole limit [] row columns rows none = refl
+reach_whole limit (token ∷ h) row columns rows none =
+    let fit = sides-fit limit (token ∷ h) none in
+    grind (arith, nat_tests, both_none, fit, span_some, reach_whole limit h row columns rows)
+
+pub area_whole : (decoder : DecoderState) (h : History) → HasNoClip decoder
+    → first_fault decoder.pixel_limit h ≡ None
+    → painted_area decoder.pixel_limit h ≡ whole_painted_area h
+area_whole decoder h none faultless = grind (arith, nat_tests, total-same, reach_whole)
 
 -- ---- without a clip
 

@@ -1,41 +1,32 @@
--- The headline: what outcomes are is decided by the steps, whatever their cuts; and what the text of
--- an image is.
+-- The headline: what outcomes are is decided by the steps, whatever their cuts; and what the text
+-- of an image is.
 use Rattle.std.proofs.Common.{◌≡◌, ◌<◌, ℕ, List, [], ◌∷◌, refl, sym, ap, ◌∙◌, arith, subst}
 use Rattle.std.specs.Prelude.{All, None, Option, Bool, IfErr, IfOk, MatchOption, OnOk, Result, Ok}
-use Rattle.std.specs.Prelude.{Err, Some}
-use Rattle.std.proofs.lemmas.Bool.Decides.{nat_tests}
+use Rattle.std.specs.{Prelude.Err, Prelude.Some, List.AllZip}
+use Rattle.std.proofs.{lemmas.Bool.Decides.nat_tests, lemmas.List.Elements.All-tail}
 use Rattle.sixel_base.proofs.Histories.{history_unique, some_history}
-use Rattle.sixel_base.specs.Bytes.{front}
-use Rattle.sixel_base.specs.Decoder.{new_decoder, IsSetAs}
-use Rattle.sixel_base.specs.Limits.{whole_limit}
-use Rattle.sixel_base.specs.Payload.{Image}
-use Rattle.sixel_palette.proofs.traversal.Order.{bound_from_order}
+use Rattle.sixel_base.specs.{Bytes.front, Decoder.new_decoder, Decoder.IsSetAs, Limits.whole_limit}
+use Rattle.sixel_base.specs.{Payload.Image, declared.error.SixelError.SixelError}
+use Rattle.sixel_base.specs.{declared.error.SixelError.TheVariants.OutOfMemory}
+use Rattle.sixel_base.specs.{declared.state.DecoderState.DecoderState, Fault.Fault, Fault.Faults}
+use Rattle.sixel_base.specs.{Fault.IsFault, OneShot.found}
+use Rattle.sixel_palette.proofs.{traversal.Order.bound_from_order, traversal.Law.palette_same}
 use Rattle.sixel_palette.specs.Palette.{IsNearest, IsShown}
-use Rattle.sixel_palette.proofs.traversal.Law.{palette_same}
 use Rattle.sixel_encoder.proofs.drawings.SameDrawing.{IsShown-other, drawing_same}
 use Rattle.sixel_encoder.specs.Encoding.{IsDrawing, IsText, image_fault, shown_image}
 use Rattle.sixel_encoder.specs.Text.{Drawing, row_of, text_of}
 use Rattle.sixel_encoder.proofs.plain_text.Text.{IsOneString-text, text-trip}
 use Rattle.sixel_encoder.proofs.band_rows.ShortestRows.{shortest, spells}
 use Rattle.sixel_encoder.proofs.round_trip.TripLimits.{CanRead-drawn, CanRead-new, IsWritable-drawn}
-use Rattle.std.proofs.lemmas.List.Elements.{All-tail}
-use Rattle.sixel_base.specs.declared.error.SixelError.{SixelError}
-use Rattle.sixel_base.specs.declared.error.SixelError.TheVariants.{OutOfMemory}
-use Rattle.sixel_base.specs.declared.state.DecoderState.{DecoderState}
-use Rattle.sixel_base.specs.Fault.{Fault, Faults, IsFault}
 use Rattle.sixel_base.specs.OneShot.{AreFoundRegisters, Found, IsFoundImage, NoPayload, Payload}
-use Rattle.sixel_base.specs.OneShot.{found}
-use Rattle.std.specs.List.{AllZip}
-use Rattle.icy_sixel.specs.Headline.{Headline, IsFaithful}
+use Rattle.icy_sixel.specs.{Headline.Headline, Headline.IsFaithful, declared.script.End.End}
+use Rattle.icy_sixel.specs.{declared.script.Step.Step, declared.script.Outcome.Outcome}
 use Rattle.icy_sixel.proofs.SomeDrawing.{drawing-some}
 use Rattle.icy_sixel.specs.Script.{AreOutcomes, IsDecoding, IsOutcome, IsSessionOutcome, Meaning}
 use Rattle.icy_sixel.specs.Script.{IsRecut, IsSameOutcome, frame_meaning, string_meaning}
-use Rattle.icy_sixel.specs.declared.script.End.{End}
 use Rattle.icy_sixel.specs.declared.script.End.TheVariants.{Abort, Finish}
-use Rattle.icy_sixel.specs.declared.script.Step.{Step}
-use Rattle.icy_sixel.specs.declared.script.Step.TheVariants as steps
-use Rattle.icy_sixel.specs.declared.script.Outcome.{Outcome}
 use Rattle.icy_sixel.specs.declared.script.Outcome.TheVariants.{Decoded, Failed, Finished}
+use Rattle.icy_sixel.specs.declared.script.Step.TheVariants as steps
 
 -- ---- the text of an image
 
@@ -206,7 +197,8 @@ headline-one before a b steps xs ys are also supplied and = absurd are
 -- ---- cuts
 
 cut-step : (before after : DecoderState) (step other : Step) (outcome : Outcome)
-    → IsRecut step other → IsOutcome before step outcome after → IsOutcome before other outcome after
+    → IsRecut step other → IsOutcome before step outcome after
+    → IsOutcome before other outcome after
 cut-step before after (steps.Frame settings bytes cuts ending)
     (steps.Frame others copy more other) outcome recut is =
     rw (recut.0, recut.1, recut.2) is
@@ -217,11 +209,15 @@ cut-step before after step other outcome recut is =
 
 -- steps that are cut in another way have the same outcomes
 headline-cut : (before after : DecoderState) (steps others : List Step)
-    (outcomes : List Outcome) → AllZip IsRecut steps others → AreOutcomes before steps outcomes after
+    (outcomes : List Outcome) → AllZip IsRecut steps others
+    → AreOutcomes before steps outcomes after
     → AreOutcomes before others outcomes after
 headline-cut before after [] [] outcomes recut are = are
-headline-cut before after (s ∷ ss) (t ∷ ts) (o ∷ os) recut are =
-    (are.0, cut-step before are.0 s t o recut.0 are.1, headline-cut are.0 after ss ts os recut.1 are.2)
+headline-cut before after (s ∷ ss) (t ∷ ts) (o ∷ os) recut are = (
+  are.0,
+  cut-step before are.0 s t o recut.0 are.1,
+  headline-cut are.0 after ss ts os recut.1 are.2,
+)
 headline-cut before after (s ∷ ss) (t ∷ ts) [] recut are = absurd are
 headline-cut before after steps others outcomes recut are = absurd recut
 

@@ -1,12 +1,10 @@
 pub mod Bands
 pub mod Chunks
-pub mod ClippedImages
 pub mod ReceivedRows
 pub mod Headline
-pub mod Outcomes
 pub mod RegisterRange
 pub mod SomeDrawing
-pub mod Steps
 pub mod StoredErrors
 pub mod TransparentImages
-pub mod WholeImages
+pub mod Outcomes
+pub mod ClippedImages

@@ -1,33 +1,36 @@
--- What a step comes to, by what the calls that it makes ensure.
-use Rattle.std.proofs.Common.{◌≡◌, ℕ, ◌++◌, List, None, arith}
-use Rattle.std.proofs.lemmas.List.{append-nil}
-use Rattle.std.specs.Prelude.{nat_lt, ◌||◌, if◌then◌else◌, is_none, Result, Ok, Err}
-use Rattle.std.specs.Prelude.{MatchResult, IfOk, IfErr, OnOk, OnErr}
-use Rattle.sixel_base.specs.declared.error.SixelError.{SixelError}
-use Rattle.sixel_base.specs.Fault.{Faults}
-use Rattle.sixel_base.specs.Decoder.{IsSetAs}
+-- What a step comes to, by what the calls that it makes ensure, and a run of steps with one more.
+use Rattle.std.proofs.Common.{List, [], ◌∷◌, ◌++◌, arith, ◌≡◌, ℕ, None}
 use Rattle.sixel_base.specs.declared.state.DecoderState.{DecoderState}
-use Rattle.sixel_base.specs.Payload.{Image}
-use Rattle.sixel_base.specs.Dcs.{dcs_status, has_ended}
+use Rattle.icy_sixel.specs.{declared.script.Step.Step, declared.script.Outcome.Outcome}
+use Rattle.icy_sixel.specs.{declared.script.End.End, ImageView.image_value}
+use Rattle.icy_sixel.specs.Script.{IsOutcome, AreOutcomes, IsDecoding, IsSessionOutcome}
+use Rattle.std.proofs.{lemmas.Bool.Decides.nat_tests, lemmas.List.append-nil}
+use Rattle.std.specs.Prelude.{nat_lt, ◌||◌, if◌then◌else◌, is_none, Result, Ok, Err, MatchResult}
+use Rattle.std.specs.Prelude.{IfOk, IfErr, OnOk, OnErr}
+use Rattle.sixel_base.specs.{declared.error.SixelError.SixelError, Fault.Faults, Decoder.IsSetAs}
+use Rattle.sixel_base.specs.{Payload.Image, Dcs.dcs_status, Dcs.has_ended, Limits.Limit}
 use Rattle.sixel_base.specs.OneShot.{Found, IsDecodedAs, IsFoundImage, AreFoundRegisters}
-use Rattle.sixel_base.specs.Limits.{Limit}
-use Rattle.icy_sixel.specs.declared.script.End.{End}
 use Rattle.icy_sixel.specs.declared.script.End.TheVariants.{Finish}
-use Rattle.icy_sixel.specs.declared.script.Outcome.{Outcome}
 use Rattle.icy_sixel.specs.declared.script.Outcome.TheVariants.{Failed, Finished, Decoded}
-use Rattle.sixel_decoder.specs.declared.received.Status.{Status}
+use Rattle.sixel_decoder.specs.{declared.received.Status.Status, OneShotCalls.IsDecoded}
 use Rattle.icy_sixel.specs.declared.sixel_image.SixelImage.{SixelImage}
-use Rattle.icy_sixel.specs.ImageView.{image_value}
 use Rattle.icy_sixel.specs.Receiver.{Form, Nothing, OfPayload, OfString, fault, growths, found}
 use Rattle.icy_sixel.specs.Receiver.{found_followed, end_fault, end_wants}
-use Rattle.icy_sixel.specs.Receiver as images
-use Rattle.icy_sixel.specs.Script.{IsDecoding, IsSessionOutcome}
 use Rattle.icy_sixel.specs.inside.Session.{IsWhole, meaning, whole_fault}
-use Rattle.sixel_decoder.specs.OneShotCalls.{IsDecoded}
 use Rattle.sixel_decoder.proofs.chunks.ParserSteps.{Faults-along}
 use Rattle.sixel_decoder.proofs.chunks.PayloadFaults.{or_right, payload_refused}
 use Rattle.icy_sixel.proofs.Chunks.{same, front_whole}
-use Rattle.std.proofs.lemmas.Bool.Decides.{nat_tests}
+use Rattle.icy_sixel.specs.Receiver as images
+
+pub AreOutcomes-push : (before between after : DecoderState) (steps : List Step)
+    (outcomes : List Outcome) (step : Step) (outcome : Outcome)
+    → AreOutcomes before steps outcomes between → IsOutcome between step outcome after
+    → AreOutcomes before (steps ++ step ∷ []) (outcomes ++ outcome ∷ []) after
+AreOutcomes-push before between after [] [] step outcome are is = grind (arith, nat_tests)
+AreOutcomes-push before between after [] (o ∷ outcomes) step outcome are is = absurd are
+AreOutcomes-push before between after (s ∷ steps) [] step outcome are is = absurd are
+AreOutcomes-push before between after (s ∷ steps) (o ∷ outcomes) step outcome are is =
+    (are.0, are.1, AreOutcomes-push are.0 between after steps outcomes step outcome are.2 is)
 
 -- ---- a session that is rejected as it is fed
 

@@ -1,17 +1,13 @@
 -- Final rows stay, in an image of either form.
 use Rattle.std.proofs.Common.{◌≡◌, ℕ, ◌<◌, ◌≤◌, List, ◌++◌, refl, ap, sym, ◌∙◌, arith}
-use Rattle.sixel_base.specs.Decoder.{origin_of}
+use Rattle.sixel_base.specs.{Decoder.origin_of, Limits.Limit, Payload.Image, Picture.picture}
 use Rattle.sixel_base.specs.OneShot.{Found, IsFoundImage}
-use Rattle.sixel_base.specs.Limits.{Limit}
-use Rattle.sixel_base.specs.Payload.{Image}
-use Rattle.sixel_base.specs.Picture.{picture}
 use Rattle.sixel_base.specs.declared.state.DecoderState.{DecoderState}
 use Rattle.sixel_decoder.specs.FinalRows.{found_pixel, payload_final_rows, stage_final_rows}
 use Rattle.sixel_decoder.proofs.drawing.Clips.{clipped_picture}
-use Rattle.sixel_decoder.proofs.dcs_sequences.Payloads.{found_reading}
+use Rattle.sixel_decoder.proofs.dcs_sequences.{Payloads.found_reading, Terminators.stage_reading}
 use Rattle.sixel_decoder.proofs.images.StableRows.{final_rows_stay, final_pixels_stay}
 use Rattle.sixel_decoder.proofs.images.StableRows.{dcs_final_rows_stay, has_begun}
-use Rattle.sixel_decoder.proofs.dcs_sequences.Terminators.{stage_reading}
 use Rattle.icy_sixel.specs.ReceivedRows.{final_rows, pixel_so_far}
 use Rattle.icy_sixel.specs.Receiver.{Form, Nothing, OfPayload, OfString}
 use Rattle.std.proofs.lemmas.Bool.Decides.{nat_tests}

@@ -1,10 +1,8 @@
 -- Registers that are set one after the other.
-use Rattle.std.proofs.Common.{◌≡◌, ℕ, ◌+◌, ◌<◌, ◌≤◌, List, [], ◌∷◌, length, get_or, set, drop}
-use Rattle.std.proofs.Common.{refl, ap, ◌∙◌, ◌⊎◌, arith}
-use Rattle.std.proofs.lemmas.List.{drop_all}
-use Rattle.std.proofs.Math.Seq.{drop-cons, set_out}
+use Rattle.std.proofs.Common.{◌≡◌, ℕ, ◌+◌, ◌<◌, ◌≤◌, List, [], ◌∷◌, length, get_or, set, drop, refl}
+use Rattle.std.proofs.{Common.ap, Common.◌∙◌, Common.◌⊎◌, Common.arith, lemmas.List.drop_all}
+use Rattle.std.proofs.{Math.Seq.drop-cons, Math.Seq.set_out, lemmas.Bool.Decides.nat_tests}
 use Rattle.icy_sixel.specs.Registers.{with_colors}
-use Rattle.std.proofs.lemmas.Bool.Decides.{nat_tests}
 
 -- colors after the last register have no effect
 pub with_colors-past : (registers : List (List ℕ)) (first : ℕ) (colors : List (List ℕ))

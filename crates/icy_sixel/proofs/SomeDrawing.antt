@@ -1,33 +1,24 @@
 -- Each image of bytes has a palette and a drawing in it.
-use Rattle.std.proofs.Common.{◌≡◌, ℕ, zero, suc, ◌+◌, ◌-◌, ◌*◌, ◌/◌, ◌<◌, ◌≤◌, ◌⊎◌, inl, inr}
-use Rattle.std.proofs.Common.{⊎_elim}
-use Rattle.std.proofs.Common.{List, [], ◌∷◌, ◌++◌, length, get_or, map, refl, ◌∙◌, subst}
-use Rattle.std.proofs.Common.{arith}
+use Rattle.std.proofs.Common.{⊎_elim, length, get_or, subst, arith, zero, List, ◌++◌, refl, ◌≡◌, []}
+use Rattle.std.proofs.Common.{suc, ◌+◌, ◌-◌, ◌*◌, ◌/◌, ◌<◌, ◌≤◌, ◌⊎◌, inl, inr, ◌∷◌, map, ◌∙◌, ℕ}
 use Rattle.std.specs.Prelude.{All, Contains, None, Option, Some, if◌then◌else◌, min, nat_le}
-use Rattle.std.specs.Prelude.{slice_index}
-use Rattle.std.specs.List.{range_with_len}
-use Rattle.std.specs.List.Sorted.{IsStrictlyIncreasing}
+use Rattle.std.specs.{Prelude.slice_index, List.range_with_len, List.Sorted.IsStrictlyIncreasing}
 use Rattle.std.proofs.lemmas.Bool.{cases_eq, cases_lt}
-use Rattle.std.proofs.lemmas.Bool.Decides.{nat_tests}
-use Rattle.std.proofs.lemmas.List.{length_push}
+use Rattle.std.proofs.{lemmas.Bool.Decides.nat_tests, lemmas.List.length_push}
 use Rattle.std.proofs.lemmas.List.Elements.{All-nil, All-push, Contains-append_left, Contains-push}
 use Rattle.std.proofs.lemmas.List.FromFn.{get_or-map-range_with_len, length-map-range_with_len}
 use Rattle.sixel_base.specs.Payload.{Image}
-use Rattle.sixel_palette.specs.GainCut.{first_greatest}
-use Rattle.sixel_palette.specs.Palette.{IsFarthest, IsFarthestFirst, IsNearest, IsOpaque}
-use Rattle.sixel_palette.specs.Palette.{IsPalette, IsShown, color_at, distance, nearest}
-use Rattle.sixel_palette.specs.Palette.{palette_room, rank}
+use Rattle.sixel_palette.specs.{GainCut.first_greatest, inside.Codes.color_of}
+use Rattle.sixel_palette.specs.Palette.{IsFarthest, IsFarthestFirst, IsNearest, IsOpaque, IsPalette}
+use Rattle.sixel_palette.specs.Palette.{IsShown, color_at, distance, nearest, palette_room, rank}
 use Rattle.sixel_palette.specs.inside.Codes.{AreShownCodes, HasPixel, IsListed, code_count}
-use Rattle.sixel_palette.specs.inside.Codes.{color_of}
 use Rattle.sixel_palette.proofs.refinement.BestBox.{first_greatest-le}
-use Rattle.sixel_palette.proofs.traversal.Choices.{size_from_codes}
+use Rattle.sixel_palette.proofs.{traversal.Choices.size_from_codes, traversal.Law.byte-get_or}
 use Rattle.sixel_palette.proofs.colors.Colors.{rank-color_of, rank-lt}
-use Rattle.sixel_palette.proofs.traversal.Law.{byte-get_or}
 use Rattle.sixel_palette.proofs.colors.Lists.{increasing-le, increasing-push}
 use Rattle.sixel_palette.proofs.traversal.Order.{order_alike, order_more}
 use Rattle.sixel_palette.proofs.colors.Shown.{IsColor-color_at, shown_from_codes}
-use Rattle.sixel_encoder.specs.Encoding.{IsDrawing}
-use Rattle.sixel_encoder.specs.Text.{Drawing}
+use Rattle.sixel_encoder.specs.{Encoding.IsDrawing, Text.Drawing}
 
 -- ---- the codes of the colors that are shown
 
@@ -150,8 +141,10 @@ least-is f n p e =
     let down : f p ≤ f 0 =
     ⊎_elim (λ (some : 0 < p). let m = one 0 some in omega (arith, m))
     (λ (none : p ≤ 0). let z : p ≡ 0 = omega (arith, none) in rw z (omega arith))
-    (cases_lt 0 p) in
-    (λ k l. let m = best k l in omega (arith, m, down), λ k l. let m = one k l in omega (arith, m, down))
+    (cases_lt 0 p) in (
+      λ k l. let m = best k l in omega (arith, m, down),
+      λ k l. let m = one k l in omega (arith, m, down),
+    )
 
 farthest-some : (entries : List (List ℕ)) (codes : List ℕ) → IsStrictlyIncreasing codes
     → 0 < length codes → (c : List ℕ) × IsFarthest (IsListed codes) entries c
@@ -201,7 +194,11 @@ palette-some pixels k bytes =
       some.0,
       record {
         order = order_alike (IsListed codes.0) (IsShown pixels) are.listed are.shown some.0 some.1;
-        size = (n, size_from_codes (IsShown pixels) codes.0 are.ascending are.shown are.listed, some.2);
+        size = (
+          n,
+          size_from_codes (IsShown pixels) codes.0 are.ascending are.shown are.listed,
+          some.2,
+        );
       },
     )
 
@@ -265,13 +262,15 @@ drawing-some image k bytes =
         size = length-map-range_with_len (place image.pixels entries) 0 n;
         shown = λ pixel l opaque. (
           near entries (color_at image.pixels pixel),
-          get_or-map-range_with_len (place image.pixels entries) 0 n pixel pixel None l (omega arith)
+          get_or-map-range_with_len (place image.pixels entries) 0 n pixel pixel None l
+              (omega arith)
               ∙ place-opaque image.pixels entries pixel opaque,
           near-is entries (color_at image.pixels pixel)
               (entry-some image.pixels k entries palette.1 _ (pixel, l, opaque, refl)),
         );
         hidden = λ pixel l hidden.
-            get_or-map-range_with_len (place image.pixels entries) 0 n pixel pixel None l (omega arith)
+            get_or-map-range_with_len (place image.pixels entries) 0 n pixel pixel None l
+            (omega arith)
             ∙ place-hidden image.pixels entries pixel hidden;
       },
     )

@@ -1,34 +1,26 @@
 -- What the calls of an image do whose first error is stored, by what they do to one that stores
 -- none, as in a session.
 use Rattle.std.proofs.Common.{◌≡◌, ◌≢◌, ℕ, Bool, true, false, List, [], ◌∷◌, None, Some, Option, Ok}
-use Rattle.std.proofs.Common.{Err, arith, refl}
-use Rattle.std.specs.Option.{option_map}
-use Rattle.std.specs.Prelude.{MatchBool, if◌then◌else◌, is_some}
-use Rattle.std.proofs.lemmas.Bool.Decides.{nat_tests}
+use Rattle.std.proofs.{Common.Err, Common.arith, Common.refl, lemmas.Bool.Decides.nat_tests}
+use Rattle.std.specs.{Option.option_map, Prelude.MatchBool, Prelude.if◌then◌else◌, Prelude.is_some}
 use Rattle.sixel_base.specs.Fault.{Fault, Faults, Incomplete, IsFault, MissingCommand}
-use Rattle.sixel_base.specs.Dcs.{Introduced, can_finish, introduced}
-use Rattle.sixel_base.specs.Dcs.{stage_after, stage_by, stage_fault}
-use Rattle.sixel_base.specs.Header.{Headed, Faulty, headed_by}
-use Rattle.sixel_base.specs.History.{History, Token}
-use Rattle.sixel_base.specs.Limits.{Limit}
-use Rattle.sixel_base.specs.Payload.{fault_of, first_fault}
-use Rattle.sixel_base.specs.declared.error.SixelError.{SixelError}
-use Rattle.sixel_decoder.specs.FedImages.{IsFed, fault}
+use Rattle.sixel_base.specs.Dcs.{Introduced, can_finish, introduced, stage_after, stage_by}
+use Rattle.sixel_base.specs.{Dcs.stage_fault, Header.Headed, Header.Faulty, Header.headed_by}
+use Rattle.sixel_base.specs.{History.History, History.Token, Limits.Limit, Payload.fault_of}
+use Rattle.sixel_base.specs.{Payload.first_fault, declared.error.SixelError.SixelError}
+use Rattle.sixel_decoder.specs.{FedImages.IsFed, FedImages.fault, Reception.OfString}
+use Rattle.sixel_decoder.specs.{Reception.Reception, Session.Session}
+use Rattle.sixel_decoder.specs.{declared.received.FailedRead.FailedRead}
+use Rattle.sixel_decoder.specs.{declared.received.Received.Received}
 use Rattle.sixel_decoder.specs.FinishedImages.{IsAgain, IsStored, end_fault, failed}
 use Rattle.sixel_decoder.specs.Reception.{Form, HasNoPayload, IsPayloadOf, Nothing, OfPayload}
-use Rattle.sixel_decoder.specs.Reception.{OfString, Reception}
-use Rattle.sixel_decoder.specs.Session.{Session}
-use Rattle.sixel_decoder.specs.declared.received.FailedRead.{FailedRead}
-use Rattle.sixel_decoder.specs.declared.received.Received.{Received}
-use Rattle.icy_sixel.specs.Receiver.{AreSettingsKept}
-use Rattle.icy_sixel.specs.ReceiverCalls.{IsCounted}
-use Rattle.icy_sixel.specs.ReceiverCalls as receivers
-use Rattle.icy_sixel.specs.declared.receiver.FailedFeed.{FailedFeed}
-use Rattle.icy_sixel.specs.declared.receiver.Open.{Open}
-use Rattle.icy_sixel.specs.declared.receiver.Open.TheVariants as opened
+use Rattle.icy_sixel.specs.{Receiver.AreSettingsKept, ReceiverCalls.IsCounted}
+use Rattle.icy_sixel.specs.{declared.receiver.FailedFeed.FailedFeed, declared.receiver.Open.Open}
 use Rattle.icy_sixel.specs.declared.receiver.SixelReceiver.TheInside.{Inside}
 use Rattle.icy_sixel.specs.declared.receiver.failure.Failure.{Failure}
 use Rattle.icy_sixel.specs.inside.Receiving.{IsFirst, StoresFailure, receiver_of, reception_of}
+use Rattle.icy_sixel.specs.ReceiverCalls as receivers
+use Rattle.icy_sixel.specs.declared.receiver.Open.TheVariants as opened
 use Rattle.icy_sixel.specs.inside.Receiving as receiving
 
 -- the payload of the image, or that it has none

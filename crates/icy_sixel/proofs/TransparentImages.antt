@@ -1,14 +1,10 @@
 -- A transparent background changes the pixels that no sixel covers, and nothing else.
 use Rattle.std.proofs.Common.{◌≡◌, ℕ, Bool, true, List, [], ◌∷◌, refl, arith}
 use Rattle.sixel_base.specs.Decoder.{origin_of, with_transparent}
-use Rattle.sixel_base.specs.History.{History}
-use Rattle.sixel_base.specs.Lenient.{fault}
-use Rattle.sixel_base.specs.Limits.{Limit}
+use Rattle.sixel_base.specs.{History.History, Lenient.fault, Limits.Limit, OneShot.found_fault}
+use Rattle.sixel_base.specs.{Stroke.Origin, Stroke.pixel, declared.state.DecoderState.DecoderState}
 use Rattle.sixel_base.specs.OneShot.{Found, Payload, NoPayload, AreFoundRegisters, IsFoundImage}
-use Rattle.sixel_base.specs.OneShot.{found_fault}
 use Rattle.sixel_base.specs.Payload.{Image, image_of, tokens}
-use Rattle.sixel_base.specs.Stroke.{Origin, pixel}
-use Rattle.sixel_base.specs.declared.state.DecoderState.{DecoderState}
 use Rattle.sixel_canvas.proofs.Pictures.{picture_same}
 use Rattle.icy_sixel.specs.TransparentImages.{IsCleared, drawn_pixel, drawn_pixel_of}
 use Rattle.std.proofs.lemmas.Bool.Decides.{nat_tests}

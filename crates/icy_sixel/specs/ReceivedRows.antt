@@ -1,7 +1,7 @@
 -- The final rows of an open image, in the words that Receiver has for both forms, and what the
 -- calls of a receiver do with rows. Which rows are final is in FinalRows of sixel_decoder.
-use Rattle.std.specs.Prelude.{ℕ, ◌≡◌, ◌+◌, ◌*◌, max, nat_lt, if◌then◌else◌, List, length}
-use Rattle.std.specs.Prelude.{Option, Some, None, Result, OnOk, OnErr}
+use Rattle.std.specs.Prelude.{ℕ, ◌≡◌, ◌+◌, ◌*◌, max, nat_lt, if◌then◌else◌, List, length, Option}
+use Rattle.std.specs.Prelude.{Some, None, Result, OnOk, OnErr}
 use Rattle.sixel_base.specs.CallFault.{CallFault, Exactly, RowsNotFinal, RowsReleased, ShortStride}
 use Rattle.sixel_base.specs.CallFault.{IsVerdict}
 use Rattle.sixel_base.specs.declared.error.SixelError.{SixelError}

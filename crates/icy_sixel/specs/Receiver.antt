@@ -1,6 +1,6 @@
--- What contracts see of a receiver: its decoder, its settings, and the image that is open. The bytes
--- of an image mean what they mean in a session, of a payload or of a DCS sequence. Chunks are not
--- mentioned.
+-- What contracts see of a receiver: its decoder, its settings, and the image that is open. The
+-- bytes of an image mean what they mean in a session, of a payload or of a DCS sequence. Chunks are
+-- not mentioned.
 use Rattle.std.specs.Prelude.{ℕ, ◌≡◌, Bool, true, false, [], None}
 use Rattle.sixel_base.specs.Decoder.{new_decoder, with_first_register, with_lenient}
 use Rattle.sixel_base.specs.Decoder.{with_transparent}

@@ -1,5 +1,5 @@
--- Decoders as a host has them: strict ones. Lenience, transparent backgrounds and the first register
--- are settings of a receiver. All are this library's own.
+-- Decoders as a host has them: strict ones. Lenience, transparent backgrounds and the first
+-- register are settings of a receiver. All are this library's own.
 use Rattle.std.specs.Prelude.{◌≡◌, false}
 use Rattle.sixel_base.specs.declared.state.DecoderState.{DecoderState}
 

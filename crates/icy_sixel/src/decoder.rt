@@ -200,7 +200,8 @@ impl SixelDecoder {
     /// Sets the clip: each side is at least 1, and at most 1,000,000.
     ///
     /// An image is then the picture restricted to these columns and rows, and at most as large.
-    /// What lies outside is not stored. The registers and the errors are those of the whole picture.
+    /// What lies outside is not stored. The registers and the errors are those of the whole
+    /// picture.
     pub fn set_clip(&mut self, width: usize, height: usize)
         ensures { self.new ≡ with_clip self.old width height }
     {
@@ -218,7 +219,6 @@ impl SixelDecoder {
     /// [`decode_from_dcs`](Self::decode_from_dcs), and
     /// [`SixelError::InvalidData`](crate::SixelError::InvalidData) for a header that is invalid or
     /// does not end. After an error the registers are unchanged.
-    #[tactic(auto, using(std::proofs::lemmas::Bool::Decides::nat_tests))]
     pub fn decode(&mut self, alloc: Global, bytes: &[u8]) -> Result<SixelImage>
         ensures decoded { IsDecoded image_value self.old (found bytes.now) result }
         ensures memory { IfOk result (λ image. vec_capacity image.pixels
@@ -304,7 +304,6 @@ impl SixelDecoder {
     ///   side above 1,000,000 or an area above [`pixel_limit`](Self::pixel_limit);
     /// - `IntegerOverflow` for more new lines than a row number can count;
     /// - `OutOfMemory` if an allocation fails.
-    #[tactic(auto, using(std::proofs::lemmas::Bool::Decides::nat_tests))]
     pub fn decode_from_dcs(
         &mut self,
         alloc: Global,

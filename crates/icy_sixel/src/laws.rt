@@ -14,9 +14,8 @@ ghost use Rattle.sixel_base.specs.Settings.{Settings, mode_of};
 ghost use Rattle.sixel_base.specs.Stroke.{background, background_of};
 ghost use Rattle.sixel_base.specs.declared.state.DecoderState.{DecoderState};
 ghost use Rattle.sixel_decoder.specs.Report.{found_report};
-ghost use Rattle.icy_sixel.specs.ClippedImages.{HasNoClip, IsInsideClip, IsPartInside};
-ghost use Rattle.icy_sixel.specs.ClippedImages.{IsWholeImage, part_report, whole_pixel};
-ghost use Rattle.icy_sixel.specs.ClippedImages.{whole_painted_area};
+ghost use Rattle.icy_sixel.specs.ClippedImages.{whole_painted_area, IsInsideClip, IsPartInside};
+ghost use Rattle.icy_sixel.specs.ClippedImages.{IsWholeImage, part_report, whole_pixel, HasNoClip};
 ghost use Rattle.icy_sixel.specs.Headline.{Headline};
 ghost use Rattle.icy_sixel.specs.StrictDecoders.{IsStrict};
 ghost use Rattle.icy_sixel.specs.TransparentImages.{IsCleared, drawn_pixel_of};
@@ -80,8 +79,8 @@ pub fn transparent_images()
 /// States that an image under a clip is the part of the image inside the clip.
 ///
 /// - `whole`: without a clip, as in a new decoder, the image of a payload is its whole picture.
-/// - `whole_size`, `whole_area`: then the size and the painted area, by which the work of a canvas is
-///   counted, are those of the whole picture.
+/// - `whole_size`, `whole_area`: then the size and the painted area, by which the work of a canvas
+///   is counted, are those of the whole picture.
 /// - `part`, `report`: a clip leaves the columns and rows inside it, pixel by pixel, and ends the
 ///   drawn height. The image that it is compared with has no clip or a larger one.
 /// - `fault`, `registers`: errors and the registers after an image do not depend on the clip.

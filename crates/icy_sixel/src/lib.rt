@@ -1,5 +1,5 @@
 //! SIXEL images: an encoder and a streaming decoder, every function proved.
-#![tactic(auto)]
+#![tactic(auto, using(std::proofs::lemmas::Bool::Decides::nat_tests))]
 
 pub mod canvas;
 pub mod decoder;

@@ -144,7 +144,6 @@ fn take_steps(
 }
 
 /// Runs one step.
-#[tactic(auto, using(std::proofs::lemmas::Bool::Decides::nat_tests))]
 fn take_step(alloc: Global, decoder: &mut SixelDecoder, step: &Step<'_>) -> Outcome
     ensures { IsOutcome decoder.old step.now result decoder.new }
 {

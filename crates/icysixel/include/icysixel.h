@@ -43,8 +43,8 @@
  *
  * Results. A function that returns uint32_t returns an enum icysixel_code, except for
  * icysixel_version. With ICYSIXEL_OK it has written to each output argument. With an error it
- * leaves them unchanged, except for the result of a feed. A number that the enum of a member or an
- * argument does not have is rejected with ICYSIXEL_BAD_OPTION.
+ * leaves them unchanged, except for the result of a feed. Some members and arguments are numbers
+ * of an enum. Any other number there is rejected with ICYSIXEL_BAD_OPTION.
  *
  * Stored image. An image is stored by icysixel_finish, icysixel_decode and icysixel_decode_payload.
  * Each error of these calls drops an image that was stored before, and so does icysixel_new. No
@@ -121,10 +121,10 @@ typedef struct {
     size_t capacity; /* bytes allocated */
 } icysixel_bytes;
 
-/* The properties of a palette, without its colors. */
+/* The properties of a palette, without its colors. icysixel_choose_palette explains witnesses. */
 typedef struct {
     size_t colors;    /* number of entries */
-    size_t witnesses; /* number of entries plus one, or 0 if every opaque color is an entry */
+    size_t witnesses; /* number of witnesses: colors + 1, or 0 if every opaque color is an entry */
     uint32_t error;   /* the maximum squared distance of an opaque color to its nearest entry */
 } icysixel_palette;
 
@@ -141,8 +141,8 @@ typedef struct {
 } icysixel_distinct;
 
 /* How each pixel gets an entry of the palette. Zeros mean the nearest entry. An amount of 0 means
- * the default: 7 for diffusion, and for the pattern the square root of the palette's mean squared
- * error, twice that in a given palette. */
+ * the default: 7 for diffusion, and for the pattern of ordered dithering the square root of the
+ * palette's mean squared error, twice that in a given palette. */
 typedef struct {
     uint8_t kind;   /* an enum icysixel_dither */
     uint8_t amount; /* diffusion: eighths of the error; ordered: the amplitude in levels; or 0 */
@@ -165,7 +165,7 @@ typedef struct {
     icysixel_dithering dithering; /* for refined and given palettes */
     uint8_t form;                 /* an enum icysixel_form */
     uint8_t transparent;          /* the transparent index, if the format has one */
-    icysixel_color colors[256];   /* the given palette: the first is register 0 if it is opaque */
+    icysixel_color colors[256];   /* the given palette: the first is register 0 if P2 is 0 */
 } icysixel_encoding;
 
 /* How rows of pixels lie in a buffer. */
@@ -203,7 +203,7 @@ enum icysixel_code {
     ICYSIXEL_COLOR_COUNT = 20, /* the number of colors is not 1 to 256 */
     ICYSIXEL_INDEX_RANGE = 21, /* the palette index of an opaque pixel is past the palette */
     /* about rows of an image */
-    ICYSIXEL_ROWS_NOT_FINAL = 22, /* bytes to come can change the rows, or there are none */
+    ICYSIXEL_ROWS_NOT_FINAL = 22, /* bytes to come can change the rows, or the image lacks them */
     ICYSIXEL_ROWS_RELEASED = 23   /* the rows were released */
 };
 
@@ -234,9 +234,10 @@ enum icysixel_background {
     ICYSIXEL_BACKGROUND_COLOR = 2
 };
 
-/* A tolerance by the palette: its mean squared error, at least 12, or 0 if there is no error. It is
- * three times that without dithering, and twice that with the pattern. In a palette of grays it is
- * that of the brightness. */
+/* A tolerance that depends on the mean squared error of the palette. If this error is 0, so is the
+ * tolerance. Otherwise the error is taken as at least 12. Then the tolerance is this error with
+ * diffusion, twice the error with the pattern, and three times the error without dithering. In a
+ * palette of grays the error is that of the brightness. */
 #define ICYSIXEL_AUTO UINT32_MAX
 
 /* Palettes of encoded images. Indexed pixels have the given palette in each mode. */
@@ -248,9 +249,9 @@ enum icysixel_palette_mode {
 
 /* Where images end. */
 enum icysixel_height {
-    ICYSIXEL_HEIGHT_BANDS = 0,  /* at the last band of six rows, or at the raster height below it */
+    ICYSIXEL_HEIGHT_BANDS = 0,  /* at the last band of six rows, or the raster height if greater */
     ICYSIXEL_HEIGHT_RASTER = 1, /* at the raster height, or without one as ICYSIXEL_HEIGHT_BANDS */
-    ICYSIXEL_HEIGHT_DRAWN = 2   /* at the raster height, or at the last drawn row below it */
+    ICYSIXEL_HEIGHT_DRAWN = 2   /* at the drawn height, or the raster height if greater */
 };
 
 /* Kinds of dithering. */
@@ -269,9 +270,9 @@ enum icysixel_form {
 /* What to do after a feed. */
 enum icysixel_status {
     ICYSIXEL_MORE = 0,        /* feed the next chunk */
-    ICYSIXEL_COMPLETE = 1,    /* the image has ended, a payload by the control in `byte`: finish */
+    ICYSIXEL_COMPLETE = 1,    /* the image has ended: finish */
     ICYSIXEL_CANCELLED = 2,   /* CAN or SUB, in `byte`, ended a DCS sequence: finish or abort */
-    ICYSIXEL_INTERRUPTED = 3, /* another control, in `byte`, ended one early: finish or abort */
+    ICYSIXEL_INTERRUPTED = 3, /* another control, `byte`, ended a DCS sequence: finish or abort */
     ICYSIXEL_ROWS = 4         /* from icysixel_feed_band: rows became final; feed the next bytes */
 };
 
@@ -330,9 +331,9 @@ uint32_t icysixel_get_size_so_far(const icysixel *handle, icysixel_size *size);
 
 /* Returns the last row of the open image with a set pixel, plus one. It is 0 if there is none, if
  * no image is open, and after an error. The height of an image with sixels and without raster
- * attributes is a multiple of six, and this number can be less. It counts pixels outside of the
- * clip too, down to the clip's last row. In the shape of the finished image `drawn_height` is this
- * number, but at most the height. It does not allocate. */
+ * attributes is a multiple of six, and this number can be less. Pixels outside of the clip count,
+ * too, but the number is at most the clip's height. In the shape of the finished image
+ * `drawn_height` is this number, but at most the height. It does not allocate. */
 size_t icysixel_get_drawn_height(const icysixel *handle);
 
 /* Returns how many rows from the top of the open image are final. No byte that follows changes a
@@ -366,10 +367,10 @@ uint32_t icysixel_release_rows(icysixel *handle, size_t rows);
 
 /* Closes the open image, stores it and writes its properties. It replaces an image that is stored.
  * Rows that were released are not stored. The decoder takes over the image's registers.
- * `is_complete` is 1 if the image has ended: by its terminator or by another control byte. A
- * payload can end anywhere. The errors are those of icysixel_feed, and ICYSIXEL_INCOMPLETE for a
- * DCS sequence without terminator. An error closes the image too. Then no image is stored and no
- * register changes. */
+ * `is_complete` is 1 if the image has ended: by its terminator or by another control byte. The
+ * image of a payload that has not ended is stored, too. The errors are those of icysixel_feed, and
+ * ICYSIXEL_INCOMPLETE for a DCS sequence without terminator. An error closes the image too. Then no
+ * image is stored and no register changes. */
 uint32_t icysixel_finish(icysixel *handle, icysixel_shape *shape);
 
 /* Aborts the open image, if there is one. The decoder is unchanged. */
@@ -465,8 +466,8 @@ uint8_t icysixel_get_lenient(const icysixel *handle);
  * - A repeat count, raster attributes or a graphics new line past a limit changes nothing.
  * - A sixel outside of the limits is not drawn and does not move the position. Its repeat count is
  *   used up.
- * - A payload fails only with ICYSIXEL_OUT_OF_MEMORY. A DCS sequence can also have no introducer or
- *   an invalid header, or end in its header.
+ * - A payload fails only with ICYSIXEL_OUT_OF_MEMORY. A DCS sequence also fails if it has no
+ *   introducer or an invalid header, or ends in its header.
  * - icysixel_finish of a DCS sequence without terminator stores its image so far, once its payload
  *   has begun. Then `is_complete` of the shape is 0. */
 void icysixel_set_lenient(icysixel *handle, uint8_t on);
@@ -513,7 +514,8 @@ void icysixel_set_clip(icysixel *handle, size_t width, size_t height);
  *
  * - A refined palette has at most max_colors entries. A decoder shows them without rounding. With
  *   diffusion and at most 64 as max_colors, they are moved away from the mean color, unless the
- *   image is flat art.
+ *   image is flat art: at least a quarter of its opaque pixels have a squared distance of at most
+ *   12 to their nearest entry.
  * - A farthest palette has at most max_colors entries, where 1 is taken as 2 and a number above 256
  *   as 256. It has neither dithering nor a tolerance.
  * - In a given palette pixels have the indices of icysixel_palette_indices. Indexed pixels have
@@ -521,10 +523,14 @@ void icysixel_set_clip(icysixel *handle, size_t width, size_t height);
  *
  * With diffusion and a tolerance a pixel keeps the entry of an opaque neighbor, unless the nearest
  * entry is nearer by the tolerance or more. Neighbors are the pixel above in the same band of six
- * rows, and the pixel before: on the left in even rows, and on the right in odd ones. Otherwise an
- * entry costs twice its squared distance, to the moved color in ordered dithering, and the
- * tolerance for each column beside the pixel, in its band, that lacks the entry. A pixel has the
- * cheapest one of its own and of its neighbors. So runs are longer, and the output is shorter.
+ * rows, and the pixel before: on the left in even rows, and on the right in odd ones.
+ *
+ * Without diffusion a pixel has the cheapest of up to four entries: its nearest one, those of the
+ * opaque pixels on the left and above in its band, and the nearest one of the opaque pixel on the
+ * right. An entry costs twice its squared distance to the color of the pixel, which ordered
+ * dithering has moved. The tolerance is added if no pixel of the band in the column on the left has
+ * the entry, and added again if none in the column on the right has it. It is not added if the
+ * pixel above in the band has the entry. So runs are longer, and the output is shorter.
  *
  * The errors, in this order, are:
  *
@@ -559,9 +565,9 @@ uint32_t icysixel_encode(const uint8_t *pixels, size_t length, const icysixel_en
  *
  * `colors` receives the entries. `indices` receives one byte for each pixel: the index of its
  * nearest entry, the first of equals, and 0 for a transparent pixel. `witnesses` receives the
- * certificate unless every opaque color is an entry: opaque colors, one more than there are
- * entries, each two of them at least `error` apart. In any palette of that size two of them share
- * an entry, so its error is at least a fourth of `error`.
+ * certificate, unless every opaque color is an entry. The certificate is a list of opaque colors,
+ * one more than there are entries, each two of them at least `error` apart. In any palette of that
+ * size two of them share an entry, so its error is at least a fourth of `error`.
  *
  * The capacities are in colors, and in bytes for the indices. The errors are
  * ICYSIXEL_BUFFER_MISMATCH if `length` is no multiple of four, ICYSIXEL_OUT_OF_MEMORY, and
@@ -578,12 +584,14 @@ uint32_t icysixel_choose_palette(const uint8_t *pixels, size_t length, uint16_t 
  *
  * The palette has at most max_colors entries, 1 to 256, each a color that a register can have. If
  * there are no more opaque colors than that, each has an entry: the color, rounded to percentages.
- * Otherwise the colors are cut into boxes where the error falls most, two rounds of Lloyd's
- * algorithm move the entries, and the last entries are chosen farthest first.
+ * Otherwise the colors are cut into boxes where the error falls most, and each box has an entry.
+ * Two rounds of Lloyd's algorithm move these entries if that lowers the error. At least a sixteenth
+ * of max_colors, rounded down, is left for further entries. They are chosen farthest first, until
+ * the palette is full or no color has a squared distance above 6 to its nearest entry.
  *
  * `colors` and `indices` receive what those of icysixel_choose_palette receive. A buffer is too
- * small if `colors` has fewer than max_colors, or `indices` fewer than one byte for each pixel. For
- * more than 256 colors 256 are enough.
+ * small if `colors` has fewer than max_colors, or `indices` fewer than one byte for each pixel.
+ * Here a max_colors above 256 counts as 256.
  *
  * The errors, in this order, are:
  *

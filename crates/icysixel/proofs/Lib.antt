@@ -1,10 +1,7 @@
 pub mod AsBox
 pub mod AsBytes
-pub mod Calls
-pub mod Conversion
-pub mod Dense
 pub mod Ended
-pub mod Gathered
-pub mod MissingCommand
 pub mod Steps
 pub mod Witnesses
+pub mod SourceRows
+pub mod Calls

@@ -1,11 +1,9 @@
 -- How C says that an image is encoded, and what the call does that encodes one. The numbers are
 -- this library's own, and include/icysixel.h names them.
 use Rattle.std.specs.Prelude.{◌≡◌, ◌≢◌, ◌*◌, ◌<◌, ◌≤◌, ◌==◌, ◌||◌, not, if◌then◌else◌, ℕ, nat_lt}
-use Rattle.std.specs.Prelude.{nat_le, ◌&&◌}
-use Rattle.std.specs.Prelude.{List, [], length, slice_index_or, take, Bool, Option, Some, None}
-use Rattle.std.specs.Prelude.{IsTrue}
-use Rattle.std.specs.Prelude.{◌⊎◌, Result, Err, IfOk, IfErr, IsErrAnd, MatchResult, String}
-use Rattle.std.specs.Prelude.{string_bytes}
+use Rattle.std.specs.Prelude.{nat_le, ◌&&◌, List, [], length, slice_index_or, take, Bool, Option}
+use Rattle.std.specs.Prelude.{Some, None, IsTrue, ◌⊎◌, Result, Err, IfOk, IfErr, IsErrAnd}
+use Rattle.std.specs.Prelude.{MatchResult, String, string_bytes}
 use Rattle.std.specs.Option.{option_or}
 use Rattle.std.specs.declared.alloc.Global.{Global}
 use Rattle.sixel_base.specs.CallFault.{CallFault, color_count_fault}

@@ -1,10 +1,9 @@
 -- Rows of pixels in the caller's memory, as C sees them: the layout that C passes, and what the
 -- calls do. The numbers are this library's own, and include/icysixel.h names them. The words for
 -- final rows are those of the receiver.
-use Rattle.std.specs.Prelude.{ℕ, ◌≡◌, ◌≢◌, ◌*◌, ◌/◌, ◌%◌, ◌<◌, ◌==◌, min, if◌then◌else◌, List}
-use Rattle.std.specs.Prelude.{Bool, nat_le}
-use Rattle.std.specs.Prelude.{length, slice_index, true, false, Option, Some, None, unwrap_or}
-use Rattle.std.specs.Prelude.{Result, MatchResult}
+use Rattle.std.specs.Prelude.{ℕ, ◌≡◌, ◌≢◌, ◌*◌, ◌/◌, ◌%◌, ◌<◌, ◌==◌, min, if◌then◌else◌, List, Bool}
+use Rattle.std.specs.Prelude.{nat_le, length, slice_index, true, false, Option, Some, None}
+use Rattle.std.specs.Prelude.{unwrap_or, Result, MatchResult}
 use Rattle.sixel_base.specs.CallFault.{CallFault, IsCallFault, RowsNotFinal, RowsReleased}
 use Rattle.sixel_base.specs.CallFault.{ShortStride}
 use Rattle.sixel_base.specs.declared.error.SixelError.{SixelError}

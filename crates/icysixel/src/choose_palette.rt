@@ -21,7 +21,6 @@ pub struct Palette {
 }
 
 /// Writes the palette of pixels, its certificate and the index of each pixel.
-#[tactic(auto, using(std::proofs::lemmas::Bool::Decides::nat_tests))]
 #[unsafe(no_mangle)]
 pub extern "C" fn icysixel_choose_palette(
     alloc: Global,

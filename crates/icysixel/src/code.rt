@@ -3,8 +3,7 @@
 ghost use Rattle.std.specs.Prelude.{◌≡◌, ◌≢◌};
 ghost use Rattle.sixel_base.specs.CallFault.{CallFault, IsCallFault};
 ghost use Rattle.sixel_base.specs.Fault.{Fault, IsFault};
-ghost use Rattle.icysixel.specs.Code.{IsCallCode, IsCodeOf};
-ghost use Rattle.icysixel.specs.Code.{fault_code, status_code, status_byte};
+ghost use Rattle.icysixel.specs.Code.{IsCallCode, IsCodeOf, fault_code, status_code, status_byte};
 
 use icy_sixel::script::Status;
 use icy_sixel::{SixelDcsFeedStatus, SixelError, SixelFeedStatus, error};

@@ -9,9 +9,7 @@ ghost use Rattle.icysixel.specs.Finish.{IsDecoded};
 use crate::code::Code;
 use crate::handle::Handle;
 use crate::shape::Shape;
-use crate::state::State;
 use crate::stream::dcs_settings;
-use icy_sixel::DcsSettings;
 use std::alloc::Global;
 
 /// Decodes the first DCS sequence in the bytes, or all of them as a payload.
@@ -33,15 +31,7 @@ pub extern "C" fn icysixel_decode(
     if !handle.is_held() {
         return Code::NoHandle as u32;
     }
-    decode(alloc, handle.state(), bytes, shape)
-}
-
-/// Decodes on the receiver of the state.
-#[tactic(auto, using(std::proofs::lemmas::Bool::Decides::nat_tests))]
-fn decode(alloc: Global, state: &mut State, bytes: &[u8], shape: &mut Shape) -> u32
-    ensures decoded { IsDecoded state.old state.new (found bytes.now) shape.new result }
-    ensures told { result ≢ 0 → shape.new ≡ shape.old }
-{
+    let state = handle.state();
     let answer = state.receiver.decode_drawn(alloc, bytes);
     state.store(answer, true, shape)
 }
@@ -65,21 +55,9 @@ pub extern "C" fn icysixel_decode_payload(
     if !handle.is_held() {
         return Code::NoHandle as u32;
     }
-    decode_payload(alloc, handle.state(), bytes, dcs_settings(p1, p2), shape)
-}
-
-/// Decodes a payload on the receiver of the state.
-#[tactic(auto, using(std::proofs::lemmas::Bool::Decides::nat_tests))]
-fn decode_payload(
-    alloc: Global,
-    state: &mut State,
-    bytes: &[u8],
-    settings: DcsSettings,
-    shape: &mut Shape,
-) -> u32
-    ensures decoded { IsDecoded state.old state.new (Payload settings bytes.now) shape.new result }
-    ensures told { result ≢ 0 → shape.new ≡ shape.old }
-{
-    let answer = state.receiver.decode_from_dcs_drawn(alloc, bytes, settings);
+    let state = handle.state();
+    let answer = state
+        .receiver
+        .decode_from_dcs_drawn(alloc, bytes, dcs_settings(p1, p2));
     state.store(answer, true, shape)
 }

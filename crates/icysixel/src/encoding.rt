@@ -2,8 +2,7 @@
 
 ghost use Rattle.std.specs.Prelude.{◌≡◌};
 ghost use Rattle.icysixel.specs.Encodings.{background_of, color_background, color_limit};
-ghost use Rattle.icysixel.specs.Encodings.{dither_of, form_of};
-ghost use Rattle.icysixel.specs.Encodings.{format_of, given_colors, has_options, is_kind};
+ghost use Rattle.icysixel.specs.Encodings.{form_of, format_of, given_colors, has_options, is_kind};
 ghost use Rattle.icysixel.specs.Encodings.{mapping_of, mode_of, ratio_of};
 
 use crate::format::Format;
@@ -39,17 +38,7 @@ impl Dithering {
         } else {
             Tolerance::Squared(tolerance)
         };
-        Mapping {
-            dither: self.dither(),
-            tolerance,
-        }
-    }
-
-    /// The kind of dithering.
-    fn dither(&self) -> Dither
-        ensures { result ≡ dither_of self.now }
-    {
-        match (self.kind, self.amount) {
+        let dither = match (self.kind, self.amount) {
             (1, 0) => Dither::Diffusion { strength: 7 },
             (1, strength) => Dither::Diffusion { strength },
             (2, 0) => Dither::Ordered {
@@ -59,7 +48,8 @@ impl Dithering {
                 amplitude: Amplitude::Levels(levels),
             },
             _ => Dither::Off,
-        }
+        };
+        Mapping { dither, tolerance }
     }
 }
 
@@ -114,7 +104,6 @@ pub struct Encoding {
 
 impl Encoding {
     /// Whether the header names each number that stands for an option.
-    #[tactic(auto, using(std::proofs::lemmas::Bool::Decides::nat_tests))]
     pub fn has_options(&self) -> bool
         ensures { result ≡ has_options self.now }
     {

@@ -2,7 +2,7 @@
 
 ghost use Rattle.std.specs.Prelude.{◌≡◌, ◌+◌, ◌*◌, ◌≤◌, IfOk, length, slice_range};
 ghost use Rattle.icy_sixel.specs.ReceivedRows.{usize_max};
-ghost use Rattle.icysixel.specs.Formats.{is_rgba, pixel_len, rgba, rgba_pixels};
+ghost use Rattle.icysixel.specs.Formats.{pixel_len, rgba, rgba_pixels};
 
 use std::alloc::{AllocError, Global};
 
@@ -22,13 +22,6 @@ pub enum Format {
 }
 
 impl Format {
-    /// Whether the bytes are those of an image.
-    pub fn is_rgba(self) -> bool
-        ensures { result ≡ is_rgba self }
-    {
-        matches!(self, Format::Rgba)
-    }
-
     /// The number of bytes of a pixel.
     #[inline(always)]
     pub fn pixel_len(self) -> usize

@@ -1,7 +1,6 @@
 //! A handle, an `icysixel` of the header, and the calls that create and free its decoder.
 
-ghost use Rattle.std.specs.Prelude.{◌≡◌, ◌≢◌, Option, Some, None, is_some, nat_lt, IfSome};
-ghost use Rattle.std.specs.Prelude.{true, cond};
+ghost use Rattle.std.specs.Prelude.{◌≡◌, ◌≢◌, Some, None, is_some, nat_lt, IfSome, true, cond};
 ghost use Rattle.sixel_base.specs.Decoder.{new_decoder};
 ghost use Rattle.icy_sixel.specs.Receiver.{idle};
 ghost use Rattle.icy_sixel.specs.declared.receiver.received_image.Height.TheVariants.{Bands};

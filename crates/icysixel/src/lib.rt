@@ -1,9 +1,9 @@
 //! The C library: the decoder and the encoder of `icy_sixel` behind a handle.
 //!
-//! `include/icysixel.h` documents it for C. A file has the name of a call, of a struct or of a group
-//! of calls in it. A zeroed handle is valid and empty, so every function can be called on it, also
-//! after it was freed.
-#![tactic(auto)]
+//! `include/icysixel.h` documents it for C. A file has the name of a call, of a struct or of a
+//! group of calls in it. A zeroed handle is valid and empty, so every function can be called on it,
+//! also after it was freed.
+#![tactic(auto, using(std::proofs::lemmas::Bool::Decides::nat_tests))]
 
 pub mod bytes;
 pub mod choose_palette;

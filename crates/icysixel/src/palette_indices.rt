@@ -1,7 +1,6 @@
 //! The call that finds palette indices of pixels.
 
-ghost use Rattle.std.specs.Prelude.{◌≡◌, ◌≢◌, ◌/◌, ◌<◌, ◌≤◌, Some, None, true, false};
-ghost use Rattle.std.specs.Prelude.{length, take};
+ghost use Rattle.std.specs.Prelude.{◌≡◌, ◌≢◌, ◌/◌, ◌<◌, ◌≤◌, Some, None, true, false, length, take};
 ghost use Rattle.sixel_base.specs.CallFault.{CallFault};
 ghost use Rattle.sixel_palette.specs.Dithering.{AreDithered, indices_fault};
 ghost use Rattle.icysixel.specs.Code.{IsCallCode};

@@ -83,17 +83,7 @@ pub extern "C" fn icysixel_get_size_so_far(handle: &mut Handle, size: &mut Size)
     if !receiver.is_receiving() {
         return Code::NoSession as u32;
     }
-    write_size(receiver.size_so_far(), size)
-}
-
-/// Writes a size, if there is one.
-fn write_size(so_far: Option<(usize, usize)>, size: &mut Size) -> u32
-    ensures no_size { so_far ≡ None → result ≡ 3 }
-    ensures size { (width height : ℕ) → so_far ≡ Some (width, height)
-        → (result ≡ 0) × (size.new ≡ record { width = width; height = height }) }
-    ensures told { result ≢ 0 → size.new ≡ size.old }
-{
-    match so_far {
+    match receiver.size_so_far() {
         Some((width, height)) => {
             *size = Size { width, height };
             Code::Success as u32

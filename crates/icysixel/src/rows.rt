@@ -79,14 +79,7 @@ pub extern "C" fn icysixel_release_rows(handle: &mut Handle, rows: usize) -> u32
     if !handle.is_held() {
         return Code::NoHandle as u32;
     }
-    release_rows(handle.state(), rows)
-}
-
-/// Releases final rows of the image, if one is open.
-#[tactic(auto, using(std::proofs::lemmas::Bool::Decides::nat_tests))]
-fn release_rows(state: &mut State, rows: usize) -> u32
-    ensures { AreRowsReleased state.old state.new rows result }
-{
+    let state = handle.state();
     if !state.receiver.is_receiving() {
         return Code::NoSession as u32;
     }

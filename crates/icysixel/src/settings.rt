@@ -1,7 +1,6 @@
 //! The calls that read and set the settings of a decoder.
 
-ghost use Rattle.std.specs.Prelude.{◌≡◌, ◌≢◌, ◌==◌, None, is_some, true, false, not};
-ghost use Rattle.std.specs.Prelude.{cond};
+ghost use Rattle.std.specs.Prelude.{◌≡◌, ◌≢◌, ◌==◌, None, is_some, true, false, not, cond};
 ghost use Rattle.sixel_base.specs.Decoder.{with_clip, with_pixel_limit};
 ghost use Rattle.icysixel.specs.Changes.{Acts, IsReceiverSet, IsSet, Reads, Writes};
 ghost use Rattle.icysixel.specs.Heights.{height_of, is_height, number_of};

@@ -1,6 +1,6 @@
 //! How the rows of an image to encode lie in the caller's memory.
 
-ghost use Rattle.std.specs.Prelude.{◌≡◌, ◌+◌, ◌*◌, ◌≤◌, IfOk, length, slice_range};
+ghost use Rattle.std.specs.Prelude.{◌≡◌, ◌+◌, ◌*◌, ◌≤◌, IfOk, length};
 ghost use Rattle.icysixel.specs.Rows.{extent, rows_of, wanted};
 
 use std::alloc::{AllocError, Global};
@@ -31,16 +31,6 @@ impl SourceLayout {
             .and_then(|above| above.checked_add(self.row_len))
     }
 
-    /// The rows, where the stride is the length of a row.
-    pub fn dense(self, bytes: &[u8]) -> &[u8]
-        requires dense { self.stride ≡ self.row_len }
-        requires within { extent self.stride self.row_len self.height ≤ length bytes.now }
-        ensures rows { result.now ≡ rows_of self.stride self.row_len self.height bytes.now }
-        ensures size { length result.now ≡ self.row_len * self.height }
-    {
-        &bytes[..self.row_len * self.height]
-    }
-
     /// A copy of the rows without gaps.
     #[tactic(auto, unfolding(sixel_base::specs::Picture::joined))]
     pub fn gathered(self, alloc: Global, bytes: &[u8]) -> Result<Vec<u8>, AllocError>
@@ -52,18 +42,9 @@ impl SourceLayout {
     {
         let mut rows = Vec::new(alloc);
         for row in 0..self.height {
-            rows.extend_from_slice(self.row_of(bytes, row))?;
+            let start = row * self.stride;
+            rows.extend_from_slice(&bytes[start..start + self.row_len])?;
         }
         Ok(rows)
-    }
-
-    /// A row.
-    fn row_of(self, bytes: &[u8], row: usize) -> &[u8]
-        requires { row * self.stride + self.row_len ≤ length bytes.now }
-        ensures rows { result.now
-            ≡ slice_range bytes.now (row * self.stride) (row * self.stride + self.row_len) }
-    {
-        let start = row * self.stride;
-        &bytes[start..start + self.row_len]
     }
 }

@@ -10,7 +10,6 @@ use crate::bytes::Bytes;
 use crate::code::Code;
 use crate::handle::Handle;
 use crate::layout::{Layout, channel_order, is_order, rows_code};
-use crate::state::State;
 use std::alloc::Global;
 
 /// Copies rows of the stored image to the buffer.
@@ -37,16 +36,7 @@ pub extern "C" fn icysixel_copy_pixels(
     if !is_order(layout.order) {
         return Code::BadOption as u32;
     }
-    copy_pixels(handle.state(), first, rows, layout, buf)
-}
-
-/// Copies rows of the image, if one is stored.
-#[tactic(auto, using(std::proofs::lemmas::Bool::Decides::nat_tests))]
-fn copy_pixels(state: &State, first: usize, rows: usize, layout: &Layout, buf: &mut [u8]) -> u32
-    ensures copied { ArePixelsCopied state.now first rows layout.now buf.old buf.new result }
-    ensures untouched { result ≢ 0 → buf.new ≡ buf.old }
-{
-    let Some(image) = &state.image else {
+    let Some(image) = &handle.state().image else {
         return Code::NoImage as u32;
     };
     match image.copy_rows(first, rows, layout.row_layout(image.width), buf) {
@@ -80,18 +70,7 @@ pub extern "C" fn icysixel_take_pixels(
     if !is_order(order) {
         return Code::BadOption as u32;
     }
-    transfer(alloc, handle.state(), order, bytes)
-}
-
-/// Transfers the block of the stored pixels, if there are any.
-fn transfer(alloc: Global, state: &mut State, order: u8, bytes: &mut Bytes) -> u32
-    ensures taken { ArePixelsTaken state.old state.new order bytes.new.items result }
-    ensures empty { result ≡ 0 → bytes.new.items ≡ []
-        → IsNoBlock bytes.new.at bytes.new.len bytes.new.capacity }
-    ensures unwritten { result ≢ 0 → bytes.new ≡ bytes.old }
-    ensures same { result ≢ 0 → state.new ≡ state.old }
-{
-    let Some(image) = state.image.take() else {
+    let Some(image) = handle.state().image.take() else {
         return Code::NoImage as u32;
     };
     *bytes = Bytes::of(alloc, image.into_pixels(channel_order(order)));

@@ -1,8 +1,7 @@
 //! The calls that begin, feed, finish and abort an image.
 
 ghost use Rattle.std.specs.Prelude.{◌≡◌, ◌≢◌, Some, None, false};
-ghost use Rattle.icy_sixel.specs.Receiver.{OfPayload, OfString, begun, is_open, no_image};
-ghost use Rattle.icy_sixel.specs.Receiver.{start_of};
+ghost use Rattle.icy_sixel.specs.Receiver.{OfPayload, OfString, begun, is_open, no_image, start_of};
 ghost use Rattle.icysixel.specs.Changes.{Acts, IsOpened};
 ghost use Rattle.icysixel.specs.Code.{given, settings_of};
 ghost use Rattle.icysixel.specs.Feed.{IsBandFed, IsFed, fed_of};
@@ -151,7 +150,6 @@ fn feed(state: &mut State, piece: &[u8], fed: &mut Fed) -> u32
 /// Reads a chunk of any bytes.
 ///
 /// Out of line: inlined, a single byte saves and restores registers.
-#[tactic(auto, using(std::proofs::lemmas::Bool::Decides::nat_tests))]
 #[inline(never)]
 fn feed_chunk(state: &mut State, piece: &[u8], fed: &mut Fed) -> u32
     ensures fed { IsFed state.old state.new piece.now fed.new result }
@@ -194,7 +192,6 @@ pub extern "C" fn icysixel_finish(handle: &mut Handle, shape: &mut Shape) -> u32
 }
 
 /// Closes the image, if one is open, and replaces the stored one by it.
-#[tactic(auto, using(std::proofs::lemmas::Bool::Decides::nat_tests))]
 fn finish(state: &mut State, shape: &mut Shape) -> u32
     ensures finished { IsFinished state.old state.new shape.new result }
     ensures told { result ≢ 0 → shape.new ≡ shape.old }

@@ -1,11 +1,9 @@
 -- What is drawn of the image of a file, and what a call on it reports.
-use Rattle.std.proofs.Common.{◌≡◌, Option, None, Ok}
-use Rattle.std.proofs.Common.{List, ℕ, Result}
+use Rattle.std.proofs.Common.{◌≡◌, Option, None, Ok, List, ℕ, Result, arith}
 use Rattle.sixel_base.specs.Payload.{Image}
 use Rattle.sixel.specs.declared.netpbm.error.NetpbmError.{NetpbmError}
 use Rattle.sixel_base.specs.CallFault.{CallFault, FailsBy}
 use Rattle.sixel.specs.Drawing.{painting_read}
-use Rattle.std.proofs.Common.{arith}
 use Rattle.std.proofs.lemmas.Bool.Decides.{nat_tests}
 
 -- a call that returned a value has no fault

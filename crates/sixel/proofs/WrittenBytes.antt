@@ -1,10 +1,9 @@
 -- What a writer has after a write of some bytes and then of the rest.
 use Rattle.std.proofs.Common.{◌≡◌, ◌++◌, ℕ, ◌+◌, ◌-◌, List, append_assoc, length, take, drop, refl}
-use Rattle.std.proofs.Common.{Err, take-add, Option}
+use Rattle.std.proofs.Common.{Err, take-add, Option, arith}
 use Rattle.std.proofs.lemmas.List.{take_rest}
 use Rattle.std.proofs.KnownBytes.{Appends-trans}
 use Rattle.std.specs.Io.KnownBytes.{Appends}
-use Rattle.std.proofs.Common.{arith}
 use Rattle.sixel.specs.declared.fault.Fault.{Fault}
 use Rattle.sixel.specs.declared.fault.Fault.TheVariants.{Sixel, Input, Output}
 use Rattle.sixel.specs.Ending.{Done}

@@ -32,4 +32,5 @@ abbrev pub AreDrawn : (List ℕ → Option (List ℕ)) → Stated → List ℕ �
 AreDrawn content stated text status =
     ((text ≡ []) × (status ≡ 1))
     ⊎ ((palette : List ℕ) × IsPaletteAt content stated.path palette
-    × AreFileOutputs content (IsPictureOutput (Draw stated.options) palette) stated.files text status)
+    × AreFileOutputs content (IsPictureOutput (Draw stated.options) palette) stated.files text
+    status)

@@ -65,7 +65,6 @@ fn standard_limit(pixels: &[u8]) -> u16
 }
 
 /// Returns the output in the palette of a palette file.
-#[tactic(auto, using(std::proofs::lemmas::Bool::Decides::nat_tests))]
 fn draw_in_palette(
     alloc: Global,
     palette: &[u8],

@@ -1,5 +1,5 @@
 //! The program `sixel`: decodes and encodes images of standard input and of files.
-#![tactic(auto)]
+#![tactic(auto, using(std::proofs::lemmas::Bool::Decides::nat_tests))]
 
 ghost use Rattle.std.specs.Prelude.{None};
 

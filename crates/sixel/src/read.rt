@@ -57,7 +57,6 @@ fn read_chunk<R: Read>(input: &mut R, buffer: &mut [u8]) -> Result<usize, Fault>
 }
 
 /// Appends a chunk to bytes that are expected to become this many.
-#[tactic(auto, using(std::proofs::lemmas::Bool::Decides::nat_tests))]
 fn append(bytes: &mut Vec<u8>, chunk: &[u8], expected: usize) -> Result<(), AllocError>
     ensures { OnOk result (bytes.new.items ≡ bytes.old.items ++ chunk.now) }
 {

@@ -87,7 +87,8 @@ fn read_sequence<'a>(
     ensures image { IfOk result (λ read.
         IsFoundImage (start_of receiver.old) (found bytes.now) (image_value read.0)) }
     ensures registers { OnOk result
-        (AreFoundRegisters (start_of receiver.old) (found bytes.now) receiver.new.decoder.registers) }
+        (AreFoundRegisters (start_of receiver.old) (found bytes.now)
+        receiver.new.decoder.registers) }
     ensures set { OnOk result (IsSetAs (start_of receiver.old) (start_of receiver.new)) }
     ensures rest { IfOk result (λ read. read.1.now ≡ rest_of bytes.now) }
     ensures faultless { OnOk result

@@ -1,6 +1,6 @@
 -- What a clip leaves of a picture: the columns and rows from the top left corner on that are inside
--- it. Nothing outside is drawn or stored. A clip has no effect on faults. The rule is this library's
--- own.
+-- it. Nothing outside is drawn or stored. A clip has no effect on faults. The rule is this
+-- library's own.
 use Rattle.std.specs.Prelude.{ℕ, ◌+◌, ◌-◌, ◌%◌, ◌^◌, min, nat_le, nat_lt, Bool, ◌&&◌}
 use Rattle.std.specs.Prelude.{if◌then◌else◌, List}
 use Rattle.sixel_base.specs.History.{History}

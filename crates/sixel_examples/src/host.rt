@@ -56,7 +56,8 @@ impl Terminal {
 
     /// Decodes a DCS sequence in chunks of `chunk_len` bytes.
     ///
-    /// Image and registers are those of [`decode_drawn`](SixelReceiver::decode_drawn) for the whole.
+    /// Image and registers are those of [`decode_drawn`](SixelReceiver::decode_drawn) for the
+    /// whole.
     pub fn dcs_sequence(
         &mut self,
         alloc: Global,

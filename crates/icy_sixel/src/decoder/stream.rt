@@ -136,7 +136,6 @@ impl<'a> SixelStreamDecoder<'a> {
     ///
     /// The number is [`canvas_writes`](Self::canvas_writes), plus the pixels of the image as they
     /// are packed. It is at most four times the number of pixels of the uncropped image.
-    #[tactic(auto, using(std::proofs::lemmas::Bool::Decides::nat_tests))]
     pub fn finish_counted(self) -> Result<(SixelImage, u64)>
         ensures finished { IsFinished (λ counted. image_value counted.0)
             (λ _. self.exit.0.now.registers) (of_payload (payload self.entry)) result }

@@ -17,11 +17,11 @@ use sixel_decoder::DecodedPayload;
 /// Where an image ends that a host crops.
 #[derive(Clone, Copy, Debug, PartialEq, Eq)]
 pub enum Height {
-    /// At the last band of six rows, or at the raster height below it.
+    /// At the last band of six rows, or at the raster height if that is greater.
     Bands,
     /// At the last height in raster attributes, or without one as [`Bands`](Self::Bands).
     Raster,
-    /// At the raster height, or at the last drawn row below it, as other terminals do.
+    /// At the greater one of the raster height and the drawn height, as other terminals do.
     Drawn,
 }
 

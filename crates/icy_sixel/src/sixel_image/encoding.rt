@@ -57,7 +57,6 @@ impl SixelImage {
     /// image. [`image_trip`](sixel_encoder::laws::image_trip) states how decoders with other
     /// settings read it, and [`second_trip`](sixel_encoder::laws::second_trip) that a second round
     /// trip changes nothing.
-    #[tactic(auto, using(std::proofs::lemmas::Bool::Decides::nat_tests))]
     pub fn encode_with(&self, alloc: Global, options: &EncodeOptions) -> Result<String>
         ensures refused { MatchOption (image_fault (image_value self.now))
             (IfErr result (λ e. e ≡ SixelError.OutOfMemory))
@@ -88,7 +87,6 @@ impl SixelImage {
     ///
     /// Those of [`encode_with`](Self::encode_with), then
     /// `InvalidData("number of colors is not 1 to 256")`.
-    #[tactic(auto, using(std::proofs::lemmas::Bool::Decides::nat_tests))]
     pub fn encode_with_palette(
         &self,
         alloc: Global,
@@ -130,7 +128,6 @@ impl SixelImage {
     /// - `BufferSizeMismatch` for another number of indices than there are pixels
     /// - `InvalidData("palette index out of range")` for an opaque pixel whose index is past the
     ///   palette
-    #[tactic(auto, using(std::proofs::lemmas::Bool::Decides::nat_tests))]
     pub fn encode_indexed(
         &self,
         alloc: Global,
@@ -168,7 +165,6 @@ impl SixelImage {
     ///
     /// Those of [`encode_with_palette`](Self::encode_with_palette), with `max_colors` as the number
     /// of colors.
-    #[tactic(auto, using(std::proofs::lemmas::Bool::Decides::nat_tests))]
     pub fn encode_refined(
         &self,
         alloc: Global,
@@ -211,7 +207,6 @@ impl SixelImage {
     ///
     /// Runs may cover pixels that a later run draws over. Rows of several colors share a pass. A
     /// row ends with its last set pixel.
-    #[tactic(auto, using(std::proofs::lemmas::Bool::Decides::nat_tests))]
     pub fn encode_compact(&self, alloc: Global, options: &EncodeOptions) -> Result<String>
         ensures refused { MatchOption (image_fault (image_value self.now))
             (IfErr result (λ e. e ≡ SixelError.OutOfMemory))

@@ -1,7 +1,6 @@
 -- The words of a header. Blanks and comments are those of netpbm's
 -- pages ppm(5) and pam(5). A comment counts as its line end. So no comment is inside of a word.
-use Rattle.std.specs.Prelude.{ℕ, ◌==◌, ◌||◌, Bool, true}
-use Rattle.std.specs.Prelude.{false, if◌then◌else◌, List, [], ◌∷◌}
+use Rattle.std.specs.Prelude.{ℕ, ◌==◌, ◌||◌, Bool, true, false, if◌then◌else◌, List, [], ◌∷◌}
 
 -- a space, a tab, a line feed or a carriage return
 abbrev pub blank : ℕ → Bool

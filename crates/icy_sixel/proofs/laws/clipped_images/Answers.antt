@@ -1,5 +1,5 @@
 use Rattle.icy_sixel.proofs.ClippedImages.{fault_is, part_is, registers_stay, report_is, whole_is}
-use Rattle.icy_sixel.proofs.WholeImages.{area_whole, size_whole}
+use Rattle.icy_sixel.proofs.ClippedImages.{area_whole, size_whole}
 use Rattle.icy_sixel.proofs.laws.clipped_images.Goals as goal
 
 pub returns : goal.returns

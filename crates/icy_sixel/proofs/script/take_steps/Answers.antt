@@ -1,8 +1,7 @@
 use Rattle.std.proofs.Common.{◌≡◌, ◌+◌, [], ◌∷◌, ◌++◌, ap, arith, sym, ◌∙◌, take, true}
-use Rattle.std.specs.Prelude.{if◌then◌else◌, is_ok}
-use Rattle.std.specs.Vec.{vec_len}
+use Rattle.std.specs.{Prelude.if◌then◌else◌, Prelude.is_ok, Vec.vec_len}
 use Rattle.std.proofs.lemmas.List.{take_more}
-use Rattle.icy_sixel.proofs.Steps.{AreOutcomes-push}
+use Rattle.icy_sixel.proofs.Outcomes.{AreOutcomes-push}
 use Rattle.icy_sixel.proofs.script.take_steps.Goals as goal
 
 pub loop-step-preserved : goal.loop-step-preserved

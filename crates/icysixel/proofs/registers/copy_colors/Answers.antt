@@ -1,20 +1,12 @@
 use Rattle.std.proofs.Common.{◌+◌, ◌≤◌, length, sym, ◌∙◌, ◌⊎◌, inl, inr, arith}
-use Rattle.std.proofs.lemmas.List.{length-set}
-use Rattle.std.proofs.lemmas.Bool.{cases_lt}
+use Rattle.std.proofs.{lemmas.List.length-set, lemmas.Bool.cases_lt, lemmas.Bool.Decides.nat_tests}
 use Rattle.icy_sixel.proofs.RegisterRange.{with_colors-done, with_colors-next}
 use Rattle.icysixel.proofs.registers.copy_colors.Goals as goal
-use Rattle.std.proofs.lemmas.Bool.Decides.{nat_tests}
 
 pub loop-place-preserved : goal.loop-place-preserved
 loop-place-preserved c =
-    grind (
-      arith,
-      nat_tests,
-      length-set,
-      c.loop-place.invariant.size,
-      with_colors-next,
-      c.loop-place.invariant.written,
-    )
+    let is = c.loop-place.invariant in
+    grind (arith, nat_tests, length-set, is.size, with_colors-next, is.written)
 
 pub returns : goal.returns
 returns c =

@@ -1,10 +1,7 @@
 use Rattle.std.proofs.Common.{arith}
 use Rattle.icysixel.proofs.stream.feed_band.Goals as goal
-use Rattle.icysixel.proofs.stream.feed_band.Goals.{then-code, else-code}
-use Rattle.icysixel.proofs.stream.feed_band.Goals.{else-goes_on-via-else-goes_on}
-use Rattle.icysixel.proofs.stream.feed_band.Goals.{
-  else-goes_on-via-then-goes_on+else-before-rows_so_far,
-}
+use goal.{then-code, else-code, else-goes_on-via-else-goes_on}
+use goal.{else-goes_on-via-then-goes_on+else-before-rows_so_far}
 
 pub returns-then-before-rows_so_far-clause-fed : goal.returns-then-before-rows_so_far-clause-fed
 returns-then-before-rows_so_far-clause-fed c =

@@ -1,4 +1,4 @@
-use Rattle.icysixel.proofs.MissingCommand.{finish_other}
+use Rattle.icysixel.proofs.Calls.{finish_other}
 use Rattle.icysixel.proofs.stream.icysixel_finish.Goals as goal
 
 pub returns-clause-commanded : goal.returns-clause-commanded

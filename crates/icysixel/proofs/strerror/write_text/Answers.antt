@@ -1,7 +1,6 @@
-use Rattle.std.proofs.Common.{arith}
+use Rattle.std.proofs.{Common.arith, lemmas.Bool.Decides.nat_tests}
 use Rattle.icysixel.proofs.Ended.{zero_first, zero_after}
 use Rattle.icysixel.proofs.strerror.write_text.Goals as goal
-use Rattle.std.proofs.lemmas.Bool.Decides.{nat_tests}
 
 pub returns-then-text-buf-clause-text : goal.returns-then-text-buf-clause-text
 returns-then-text-buf-clause-text c = grind (arith, nat_tests, zero_after)

@@ -1,7 +1,7 @@
 use Rattle.sixel.proofs.Outputs.{served_all}
 use Rattle.sixel.proofs.picture.serve_picture.Goals as goal
+use Rattle.std.proofs.lemmas.Bool.Decides.{nat_tests}
+use Rattle.std.proofs.Common.{arith}
 
 pub returns-clause-served : goal.returns-clause-served
-returns-clause-served g c =
-    served_all _ _ _ _ _ _ c.in_ok-bytes.ensures.bytes
-    (rw c.deref.ensures.value at c.write_picture.ensures)
+returns-clause-served g c = grind (arith, nat_tests, served_all)

@@ -1,12 +1,9 @@
-use Rattle.std.proofs.Common.{◌+◌, refl, ap, ◌∙◌, arith, length, length-append}
+use Rattle.std.proofs.Common.{◌+◌, refl, ap, ◌∙◌, arith, length-append}
 use Rattle.std.proofs.lemmas.Result.{err_from_is_err_and}
-use Rattle.icy_sixel.specs.Receiver.{OfString}
 use Rattle.icy_sixel.proofs.Chunks.{count_fits}
 use Rattle.sixel.proofs.DcsSequences.{fed_more, refused_early}
 use Rattle.sixel.proofs.sequences.feed_chunks.Goals as goal
-
-pub chunks-init : goal.chunks-init
-chunks-init c = grind arith
+use Rattle.std.proofs.lemmas.Bool.Decides.{nat_tests}
 
 pub returns-in_err-feed-clause-refused : goal.returns-in_err-feed-clause-refused
 returns-in_err-feed-clause-refused c =
@@ -23,21 +20,7 @@ returns-in_err-feed-clause-refused c =
     c.args.bytes.now c.requires.some (rw (joined, before.start) at refused))
 
 pub total-fed-requires : goal.total-fed-requires
-total-fed-requires c =
-    let before = c.chunks.invariant in
-    let fed = c.in_ok-feed.ensures.fed in
-    let split = c.split_chunk.ensures in
-    let joined =
-    fed_more _ _ _ _ _ _ _ split.chunk split.after (fed.bytes (rw before.form refl))
-    before.joined in
-    omega (
-      arith,
-      before.counted,
-      rw (before.form, fed.form ∙ before.form) at fed.consumed,
-      count_fits OfString c.feed.new.self.image.bytes,
-      ap length joined,
-      length-append c.feed.new.self.image.bytes c.split_chunk.result.1.now,
-    )
+total-fed-requires c = grind (arith, nat_tests, fed_more, count_fits, length-append)
 
 pub chunks-preserved : goal.chunks-preserved
 chunks-preserved c =
@@ -67,3 +50,6 @@ chunks-preserved c =
           ∙ (rw (before.form, form) at s.fed.consumed));
       known = all.status ∙ (rw form at s.fed.status);
     }
+
+pub chunks-init : goal.chunks-init
+chunks-init c = grind arith

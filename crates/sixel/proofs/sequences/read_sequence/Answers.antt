@@ -6,18 +6,11 @@ use Rattle.icy_sixel.proofs.Chunks.{IsSame, count_fits, same}
 use Rattle.sixel.specs.Sequences.{rest_by}
 use Rattle.sixel.proofs.DcsSequences.{faultless_by, followed_joined, refused_at_end}
 use Rattle.sixel.proofs.sequences.read_sequence.Goals as goal
+use Rattle.std.proofs.lemmas.Bool.Decides.{nat_tests}
 
 pub returns-in_err-image-clause-refused : goal.returns-in_err-image-clause-refused
 returns-in_err-image-clause-refused c =
-    let s = c.in_ok-fed.ensures in
-    let p = err_from_is_err_and c.from_residual-in_err-image.result
-    c.from_residual-in_err-image.ensures.1 in
-    let stored = s.released ∙ ap (λ i. i.released) c.begin_dcs.ensures.image in
-    let wrong = (c.in_err-image.ensures.finished stored).finished.error in
-    rw (p.1, p.2) (refused_at_end _ _ (start_of c.args.receiver.now).pixel_limit
-    c.feed_chunks.new.receiver.image.bytes c.args.bytes.now c.requires.some s.whole
-    (rw c.begin_dcs.ensures.image at s.faultless)
-    (rw (s.accepts, s.start, c.begin_dcs.ensures.image, s.form) at wrong))
+    grind (arith, nat_tests, err_from_is_err_and, refused_at_end)
 
 -- no row was released
 stored : (c : goal.After-bytes_after) → c.feed_chunks.new.receiver.image.released ≡ 0
@@ -34,8 +27,7 @@ pub returns-clause-registers : goal.returns-clause-registers
 returns-clause-registers c =
     let s = c.in_ok-fed.ensures in
     let decoded = (c.in_ok-image.ensures.finished (stored c)).finished.as_decoded s.whole.left in
-    let whole = followed_joined _ _ s.whole in
-    let left = (rw (s.start, c.begin_dcs.ensures.image, s.form, whole) at decoded).2 in
+    let left = (rw (s.start, c.begin_dcs.ensures.image, s.form) at decoded).2 in
     search (rules, left)
 
 -- what was fed means what all bytes do
@@ -50,17 +42,12 @@ bytes_after-requires c =
     let all = same (start_of c.args.receiver.now).pixel_limit _ _ _ s.whole in
     omega (arith, s.consumed, all.same.counted, count_fits OfString c.args.bytes.now)
 
+pub returns-clause-faultless : goal.returns-clause-faultless
+returns-clause-faultless c = grind (arith, nat_tests, faultless_by)
+
 pub returns-clause-rest : goal.returns-clause-rest
 returns-clause-rest c =
     let s = c.in_ok-fed.ensures in
     c.bytes_after.ensures (dcs_status c.args.bytes.now) (s.status ∙ sym (all c).same.stands)
     ∙ ap (λ n. rest_by (dcs_status c.args.bytes.now) (drop n c.args.bytes.now))
     (s.consumed ∙ sym (all c).same.counted)
-
-pub returns-clause-faultless : goal.returns-clause-faultless
-returns-clause-faultless c =
-    let s = c.in_ok-fed.ensures in
-    faultless_by (start_of c.args.receiver.now).pixel_limit _ c.args.bytes.now c.requires.some
-    s.whole (rw c.begin_dcs.ensures.image at s.faultless)
-    (rw (s.form, s.start, c.begin_dcs.ensures.image) at
-    (c.in_ok-image.ensures.finished (stored c)).finished.ended)

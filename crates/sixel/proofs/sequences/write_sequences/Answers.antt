@@ -4,29 +4,24 @@ use Rattle.sixel.proofs.ImageSequences.{Serves-led, leads_first, leads_last, lea
 use Rattle.sixel.proofs.ImageSequences.{rest_smaller}
 use Rattle.sixel.proofs.DcsSequences.{no_bytes, some_bytes}
 use Rattle.sixel.proofs.sequences.write_sequences.Goals as goal
-use Rattle.sixel.proofs.sequences.write_sequences.Goals.{then-is_empty, else-is_empty+in-Err}
 
 pub sequences-init : goal.sequences-init
 sequences-init g c = leads_first _ _ _ _ (grind (arith, nat_tests))
 
 pub sequences-smaller : goal.sequences-smaller
-sequences-smaller g c =
-    rw c.in-Ok.ensures.rest
-    (rest_smaller _ (some_bytes c.sequences.rest.now c.if-is_empty.ensures))
+sequences-smaller g c = grind (arith, nat_tests, rest_smaller, some_bytes)
 
 pub sequences-preserved : goal.sequences-preserved
-sequences-preserved g c =
-    let s = c.in-Ok.ensures in
-    leads_more _ _ _ _ _ _ _ _ _ _ s.written.1 s.rest s.written.2 c.sequences.invariant
+sequences-preserved g c = grind (arith, nat_tests, leads_more)
 
 pub returns : goal.returns
 returns g c =
     elim c.if-is_empty.branch [
-      | then-is_empty w ↦
+      | goal.then-is_empty w ↦
           rw (w.result-is, w.output-is)
           (leads_last _ _ _ _ _ _ (no_bytes c.sequences.rest.now w.if-is_empty.ensures)
           c.sequences.invariant)
-      | else-is_empty+in-Err w ↦
+      | goal.else-is_empty+in-Err w ↦
           rw (w.result-is, w.output-is)
           (Serves-led (Bor (List ℕ)) (Unit {0}) _ _ _ _ _ _ _ _
           (some_bytes c.sequences.rest.now w.if-is_empty.ensures) c.sequences.invariant

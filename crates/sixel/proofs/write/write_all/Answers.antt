@@ -4,15 +4,6 @@ use Rattle.sixel.specs.Ending.{Done}
 use Rattle.sixel.proofs.WrittenBytes.{Appends-rest}
 use Rattle.sixel.proofs.write.write_all.Goals as goal
 
-pub slice_bounds-write-count : goal.slice_bounds-write-count
-slice_bounds-write-count g c = grind arith
-
-pub slice_bounds-write-start : goal.slice_bounds-write-start
-slice_bounds-write-start g c = grind arith
-
-pub overflow_add-done : goal.overflow_add-done
-overflow_add-done g c = grind arith
-
 pub writes-preserved : goal.writes-preserved
 writes-preserved g c =
     let fits = simp (length-take, length-drop) at c.in-Ok.ensures.bound in

@@ -1,5 +1,5 @@
 use Rattle.std.specs.List.{concat}
-use Rattle.std.proofs.Common.{◌++◌, ◌+◌, append_assoc, arith, Bor, List, drop, map, ℕ}
+use Rattle.std.proofs.Common.{◌+◌, append_assoc, arith, Bor, List, drop, map, ℕ}
 use Rattle.std.proofs.KnownBytes.{Appends-trans}
 use Rattle.std.proofs.lemmas.Bool.Decides.{nat_tests}
 use Rattle.std.proofs.lemmas.List.{drop_more}
@@ -19,10 +19,4 @@ returns-in_err-write_all g c =
     (grind (arith, nat_tests, all, drop_more)))
 
 pub parts-preserved : goal.parts-preserved
-parts-preserved g c =
-    let (front, before, all) = c.parts.invariant in
-    let (text, is, grown) = c.in_ok-write_all.ensures in (
-      front ++ text,
-      Appends-trans _ _ _ _ _ before grown,
-      grind (arith, nat_tests, all, is.0, drop_more, append_assoc),
-    )
+parts-preserved g c = grind (arith, nat_tests, Appends-trans, drop_more, append_assoc)

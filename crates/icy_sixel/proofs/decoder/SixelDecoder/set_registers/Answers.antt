@@ -7,15 +7,9 @@ use Rattle.icy_sixel.proofs.decoder.SixelDecoder.set_registers.Goals as goal
 
 pub loop-place-preserved : goal.loop-place-preserved
 loop-place-preserved c =
-    grind (
-      arith,
-      c.set.ensures.size,
-      c.set.ensures.defined,
-      with_colors-next,
-      c.loop-place.invariant.colored,
-      c.loop-place.invariant.crop,
-      c.loop-place.invariant.limit,
-    )
+    let is = c.loop-place.invariant in
+    let set = c.set.ensures in
+    grind (arith, set.size, set.defined, with_colors-next, is.colored, is.crop, is.limit)
 
 pub returns : goal.returns
 returns c =

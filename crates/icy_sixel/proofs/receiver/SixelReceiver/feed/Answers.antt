@@ -1,10 +1,8 @@
 use Rattle.std.proofs.Common.{ℕ, List, refl, rules}
-use Rattle.icy_sixel.proofs.Chunks.{fed_counted}
-use Rattle.icy_sixel.proofs.StoredErrors.{fed_failed, fed_ok}
+use Rattle.icy_sixel.proofs.{Chunks.fed_counted, StoredErrors.fed_failed, StoredErrors.fed_ok}
 use Rattle.icy_sixel.specs.declared.receiver.SixelReceiver.TheInside.{Inside}
 use Rattle.icy_sixel.proofs.receiver.SixelReceiver.feed.Goals as goal
-use Rattle.icy_sixel.proofs.receiver.SixelReceiver.feed.Goals.{in-Nothing, in-Payload+in-Err}
-use Rattle.icy_sixel.proofs.receiver.SixelReceiver.feed.Goals.{in-ControlString+in-Err-feed}
+use goal.{in-Nothing, in-Payload+in-Err, in-ControlString+in-Err-feed}
 
 pub returns-in-Ok-feed : goal.returns-in-Ok-feed
 returns-in-Ok-feed c =

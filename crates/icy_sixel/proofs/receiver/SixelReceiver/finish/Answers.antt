@@ -1,13 +1,10 @@
 use Rattle.std.proofs.Common.{◌∙◌, Ok, refl, rules, subst, sym}
 use Rattle.sixel_decoder.specs.FinishedImages.{IsTaken, shown_whole}
 use Rattle.sixel_decoder.proofs.images.FinishedImages.{finished_as}
-use Rattle.icy_sixel.specs.ReceivedRows.{pixel_so_far}
-use Rattle.icy_sixel.specs.Receiver.{Reception}
-use Rattle.icy_sixel.specs.ReceiverCalls.{whole_of}
+use Rattle.icy_sixel.specs.{ReceivedRows.pixel_so_far, Receiver.Reception, ReceiverCalls.whole_of}
 use Rattle.icy_sixel.specs.inside.Receiving.{reception_of}
 use Rattle.icy_sixel.proofs.receiver.SixelReceiver.finish.Goals as goal
-use Rattle.icy_sixel.proofs.receiver.SixelReceiver.finish.Goals.{in-Nothing, in-Payload}
-use Rattle.icy_sixel.proofs.receiver.SixelReceiver.finish.Goals.{in-ControlString}
+use goal.{in-Nothing, in-Payload, in-ControlString}
 
 -- the picture is that of the image that was open
 is_taken : (c : goal.After-from_picture)

@@ -14,11 +14,5 @@ whole_received shown image none = rw none refl
 
 pub returns-in-Ok-clause-finished : goal.returns-in-Ok-clause-finished
 returns-in-Ok-clause-finished c =
-    grind (
-      arith,
-      c.in-Ok.ensures.finished,
-      c.in-Ok.ensures.first,
-      whole_received,
-      c.into_image.ensures.whole,
-      finished_as,
-    )
+    let is = c.in-Ok.ensures in
+    grind (arith, is.finished, is.first, whole_received, c.into_image.ensures.whole, finished_as)

@@ -1,4 +1,4 @@
-use Rattle.std.proofs.Common.{ap, arith}
+use Rattle.std.proofs.Common.{ap}
 use Rattle.icy_sixel.specs.declared.receiver.SixelReceiver.{SixelReceiver}
 use Rattle.icy_sixel.proofs.receiver.SixelReceiver.replace_open.Goals as goal
 
@@ -11,6 +11,3 @@ returns-clause-settings c = (
   ap (λ (r : SixelReceiver). r.transparent) c.self.view_is,
   ap (λ (r : SixelReceiver). r.first_register) c.self.view_is,
 )
-
-pub returns-clause-image : goal.returns-clause-image
-returns-clause-image c = grind arith

@@ -1,15 +1,12 @@
 use Rattle.std.proofs.Common.{◌∷◌, [], Bool, Ok, refl, arith}
-use Rattle.std.specs.Bool.{then_some}
-use Rattle.std.specs.Option.{option_map}
-use Rattle.std.specs.Prelude.{IfSome, IsTrue}
+use Rattle.std.specs.{Bool.then_some, Option.option_map, Prelude.IfSome, Prelude.IsTrue}
 use Rattle.sixel_decoder.specs.declared.received.Received.{Received}
 use Rattle.icy_sixel.specs.ReceiverCalls.{IsFed}
 use Rattle.icy_sixel.specs.inside.Receiving.{fault_of, receiver_of}
-use Rattle.icy_sixel.proofs.Chunks.{fed_counted}
-use Rattle.icy_sixel.proofs.StoredErrors.{fed_ok}
-use Rattle.icy_sixel.proofs.receiver.SixelReceiver.try_byte.Goals as goal
+use Rattle.icy_sixel.proofs.{Chunks.fed_counted, StoredErrors.fed_ok}
 use Rattle.icy_sixel.proofs.receiver.SixelReceiver.try_byte.Goals.{in-Payload, in-ControlString}
 use Rattle.std.proofs.lemmas.Bool.Decides.{nat_tests}
+use Rattle.icy_sixel.proofs.receiver.SixelReceiver.try_byte.Goals as goal
 
 -- the byte was read
 fed : (c : goal.After-then_some) → IsTrue c.match-self.is_read.0

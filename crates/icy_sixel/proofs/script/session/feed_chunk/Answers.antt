@@ -4,12 +4,5 @@ use Rattle.icy_sixel.proofs.script.session.feed_chunk.Goals as goal
 
 pub overflow_add-fed : goal.overflow_add-fed
 overflow_add-fed c =
-    grind (
-      arith,
-      c.in_ok-fed.ensures,
-      count_fits,
-      c.requires.open,
-      length-append,
-      c.requires.capacity,
-      c.requires.counted,
-    )
+    let is = c.requires in
+    grind (arith, c.in_ok-fed.ensures, count_fits, is.open, length-append, is.capacity, is.counted)

@@ -1,5 +1,4 @@
-use Rattle.std.proofs.Common.{arith}
-use Rattle.std.proofs.lemmas.Bool.Decides.{nat_tests}
+use Rattle.std.proofs.{Common.arith, lemmas.Bool.Decides.nat_tests}
 use Rattle.std.specs.Prelude.{string_bytes}
 use Rattle.icy_sixel.specs.ImageView.{image_value}
 use Rattle.icy_sixel.proofs.Headline.{faithful-written}

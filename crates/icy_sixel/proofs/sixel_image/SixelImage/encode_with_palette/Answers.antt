@@ -1,10 +1,9 @@
-use Rattle.std.proofs.Common.{length, sym, arith}
+use Rattle.std.proofs.{Common.length, Common.sym, Common.arith, lemmas.Bool.Decides.nat_tests}
 use Rattle.std.specs.Prelude.{string_bytes}
 use Rattle.sixel_base.specs.CallFault.{color_count_fault}
 use Rattle.icy_sixel.specs.ImageView.{image_value}
 use Rattle.sixel_encoder.proofs.drawings.PaletteText.{hidden-returned}
 use Rattle.icy_sixel.proofs.sixel_image.SixelImage.encode_with_palette.Goals as goal
-use Rattle.std.proofs.lemmas.Bool.Decides.{nat_tests}
 
 pub returns-clause-hidden : goal.returns-clause-hidden
 returns-clause-hidden c = λ other bytes same also.

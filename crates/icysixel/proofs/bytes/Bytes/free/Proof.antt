@@ -11,12 +11,11 @@ use Steps.{get, get_in, sets, lands_last, env, u8, unit, usize, RefOf, yes, uint
 use Steps.{null_ptr, ptr_val, in_a_block, room_for, ◌+ₚ◌, shr_vals, shr_Tells, Slot, plain, nothing}
 use Steps.{only, owned, calls_at_last, triple_of, framed, Stays, stay_dropped, walk_of, ends_at}
 use Steps.{Goes-dropped, lasts}
-use Rattle.std_alloc.proofs.VecSteps.El.{elτ, sz}
+use Rattle.std_alloc.proofs.{VecSteps.El.elτ, VecSteps.El.sz, Flags.T_true, VecSteps.Rows.all_room}
 use Rattle.std_alloc.specs.Vec.Ownership.{owns_if}
 use Rattle.std.specs.Allocator.{array_of, block_with_items, HasLayout}
-use Rattle.std_alloc.proofs.Flags.{T_true}
 use Rattle.std_alloc.proofs.RawLayout.{as_raw, as_written}
-use Rattle.std_alloc.proofs.VecSteps.Rows.{all_room}
+use Rattle.icysixel.proofs.{AsBytes.E, bytes.Bytes.free.Statement.statement}
 use mir.Raw.{raw as bare}
 use prog.RawLaws.{size-raw, align-raw}
 use prog.Memory.{capped}
@@ -24,10 +23,8 @@ use prog.Capped.{capped_is}
 use Rattle.std_heap.proofs.GlobalAllocator.deallocate.Met as deallocates
 use Rattle.std_heap.specs.contracts.GlobalAllocator.deallocate as DE
 use Rattle.std_heap.specs.contracts.Global as Heap
-use Rattle.icysixel.proofs.AsBytes.{E}
 use Rattle.icysixel.specs.contracts.bytes.Bytes as Bytes
 use Rattle.icysixel.specs.contracts.bytes.Bytes.free as F
-use Rattle.icysixel.proofs.bytes.Bytes.free.Statement.{statement}
 use Rattle.icysixel.proofs.bytes.Bytes.free.Code as code
 use Rattle.icysixel.proofs.bytes.Bytes.TheLaws as laws
 

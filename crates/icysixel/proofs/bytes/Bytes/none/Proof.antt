@@ -6,12 +6,11 @@ use Steps.{free_all, look_at, get, sets, yes, null_ptr, nothing, on_entry, says,
 use Steps.{stay_dropped, walk_of, ends_at, Goes-dropped}
 use mir.Val.{Fits}
 use Rattle.std_heap.proofs.Global.TheLaws as heap
-use Rattle.icysixel.proofs.AsBox.{FromHeap as From}
-use Rattle.icysixel.proofs.AsBytes.{fields_in}
+use Rattle.icysixel.proofs.{AsBox.FromHeap as From, AsBytes.fields_in}
+use Rattle.icysixel.proofs.bytes.Bytes.none.Statement.{statement}
 use Rattle.icysixel.specs.contracts.bytes.Bytes as Bytes
 use Rattle.icysixel.proofs.bytes.Bytes.TheLaws as laws
 use Rattle.icysixel.specs.contracts.bytes.Bytes.none as F
-use Rattle.icysixel.proofs.bytes.Bytes.none.Statement.{statement}
 use Rattle.icysixel.proofs.bytes.Bytes.none.Code as code
 
 abbrev stayed : Stays (F.ended).signature.params (F.ended).kept
@@ -43,5 +42,6 @@ none_spec 𝓤 𝓛 𝓜 𝓡 wired =
     (tt, (zero, (zero, (zero, (((tt, tt), tt), tt))))) $
     returns ! (look_at ! 0 refl) $ free_all ! refl $
     suffices ! _ (ends_at 𝓛 F.ended stayed c z (laws.lowered made) made (tt, tt) (tt, tt)) $
-    says ! (refl, (refl, (refl, refl))) $ nothing ! $ fields_in ! made (lit< tt) (lit< tt) $ fjoin ! $
+    says ! (refl, (refl, (refl, refl))) $ nothing ! $ fields_in ! made (lit< tt) (lit< tt) $
+    fjoin ! $
     nothing ! $ nothing ! $ fjoin ! $ join ! $ nothing ! $ join ! $ done !))

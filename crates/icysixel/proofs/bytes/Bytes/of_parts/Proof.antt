@@ -5,16 +5,14 @@ use Steps.{raw, ◌⊛◌, ◌$◌, ◌∵◌, !, qed, keep, drop, join, split, 
 use Steps.{suffices, done, whole, sub, agg, stop, fld, no_more, and_then, of_opd, returns, enter}
 use Steps.{alloc_all, pass_all, free_all, look_at, get, get_in, sets, yes, Ptr, Slot, plain}
 use Steps.{nothing, says, Stays, stay_dropped, walk_of, ends_at}
-use Rattle.std_alloc.proofs.ResultValues.{and_tt}
-use Rattle.std_alloc.proofs.VecSteps.Opens.{vec_had}
+use Rattle.std_alloc.proofs.{ResultValues.and_tt, VecSteps.Opens.vec_had}
 use Rattle.icysixel.specs.inside.Bytes.{bytes_own}
-use Rattle.icysixel.proofs.AsBytes.{E, fields_in}
+use Rattle.icysixel.proofs.{AsBytes.E, AsBytes.fields_in, bytes.Bytes.of_parts.Statement.statement}
 use Rattle.icysixel.specs.contracts.bytes.vec_parts.VecParts as VecParts
 use Rattle.icysixel.proofs.bytes.vec_parts.VecParts.TheLaws as given
 use Rattle.icysixel.specs.contracts.bytes.Bytes as Bytes
 use Rattle.icysixel.proofs.bytes.Bytes.TheLaws as laws
 use Rattle.icysixel.specs.contracts.bytes.Bytes.of_parts as F
-use Rattle.icysixel.proofs.bytes.Bytes.of_parts.Statement.{statement}
 use Rattle.icysixel.proofs.bytes.Bytes.of_parts.Code as code
 
 abbrev From : Slot 0

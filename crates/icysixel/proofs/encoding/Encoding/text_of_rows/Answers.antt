@@ -1,10 +1,8 @@
-use Rattle.std.proofs.Common.{◌≡◌, ◌*◌, true, length, arith, not}
-use Rattle.icysixel.specs.Encodings.{format_of, rows_fault}
-use Rattle.icysixel.specs.Formats.{is_rgba}
-use Rattle.icysixel.proofs.Calls.{failed_copied}
-use Rattle.icysixel.proofs.Conversion.{rgba_len, rgba_same}
+use Rattle.std.proofs.Common.{◌≡◌, ◌*◌, false, true, length, arith, not}
+use Rattle.std.proofs.{lemmas.Bool.false≢true, lemmas.Bool.Decides.nat_tests}
+use Rattle.icysixel.specs.{Encodings.format_of, Encodings.rows_fault, Formats.is_rgba}
+use Rattle.icysixel.proofs.{Calls.failed_copied, SourceRows.rgba_len, SourceRows.rgba_same}
 use Rattle.icysixel.proofs.encoding.Encoding.text_of_rows.Goals as goal
-use Rattle.std.proofs.lemmas.Bool.Decides.{nat_tests}
 
 pub text_of_image-requires-clause-count : goal.text_of_image-requires-clause-count
 text_of_image-requires-clause-count c =
@@ -20,6 +18,6 @@ text_of_image-requires-clause-pixels c =
 
 pub returns-in-Ok-clause-colors : goal.returns-in-Ok-clause-colors
 returns-in-Ok-clause-colors c =
-    failed_copied _ (not (is_rgba (format_of c.args.self.now)))
+    failed_copied _ false (not (is_rgba (format_of c.args.self.now)))
     (rows_fault c.args.self.now c.args.rows.now) c.text_of_image-in-Ok.result
-    c.text_of_image-in-Ok.ensures.colors
+    (λ no. absurd (false≢true no)) c.text_of_image-in-Ok.ensures.colors

@@ -1,4 +1,4 @@
-use Rattle.std.proofs.Common.{◌≡◌, ◌++◌, ◌∷◌, ◌+◌, [], take, arith, append-nil, ap, refl, IfSome}
+use Rattle.std.proofs.Common.{◌≡◌, ◌++◌, ◌∷◌, ◌+◌, [], take, arith, append-nil, refl, IfSome}
 use Rattle.std.proofs.lemmas.Bool.Decides.{nat_tests}
 use Rattle.std.proofs.lemmas.List.{take_all}
 use Rattle.sixel.specs.Ending.{Done}
@@ -9,7 +9,6 @@ use Rattle.sixel.proofs.FirstWords.{one_more}
 use Rattle.sixel.proofs.FileOutputs.{adds_nothing, adds_part, adds_whole, file_more}
 use Rattle.std.proofs.KnownBytes.{Appends-trans}
 use Rattle.sixel.proofs.draw.files.draw_files.Goals as goal
-use Rattle.sixel.proofs.draw.files.draw_files.Goals.{in-Err+in_ok-report, in_default-write_picture}
 
 pub files-init : goal.files-init
 files-init g c = ([], grind (arith, append-nil), omega arith, (refl, refl))
@@ -49,7 +48,7 @@ files-preserved g c =
     let new = g.O.Write.contents c.write_picture.new.output in
     let IsText = IsPictureOutput (Draw c.args.drawing.now.options) c.args.palette.now in
     elim c.match-write_picture.branch [
-      | in-Err+in_ok-report w ↦
+      | goal.in-Err+in_ok-report w ↦
           let (text, more, adds) =
           adds_part (Unit {0}) w.in-Err.fault content IsText bytes old new same
           (rw w.in-Err.is at c.write_picture.ensures) in (
@@ -59,7 +58,7 @@ files-preserved g c =
             rw (w.status-is, here) (file_more shown IsText _ name front text c.files.status 1 1 are
                 adds (omega (arith, few))),
           )
-      | in_default-write_picture w ↦
+      | goal.in_default-write_picture w ↦
           let whole : Writes (λ text. IsText bytes text Done) old new =
           rw w.in_default-write_picture.is at c.write_picture.ensures in
           let (text, more, adds) = adds_whole content IsText bytes old new same whole in (
@@ -72,9 +71,4 @@ files-preserved g c =
     ]
 
 pub returns : goal.returns
-returns g c =
-    let (front, grown, few, are) = c.files.invariant in
-    let all : take c.files.name-index c.args.drawing.now.files.now
-    ≡ c.args.drawing.now.files.now =
-    grind (arith, nat_tests, take_all) in
-    (front, rw (ap words_of all) at are, grown)
+returns g c = grind (arith, nat_tests, take_all, c.files.invariant, c.files.name-index)

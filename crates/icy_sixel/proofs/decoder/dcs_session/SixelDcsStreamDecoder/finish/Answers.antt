@@ -1,16 +1,10 @@
 use Rattle.std.proofs.Common.{◌≡◌, ◌∙◌, None, sym, arith, refl}
-use Rattle.sixel_decoder.specs.FinishedImages.{shown_whole}
-use Rattle.sixel_decoder.specs.FinalRows.{found_pixel}
+use Rattle.sixel_decoder.specs.{FinishedImages.shown_whole, FinalRows.found_pixel}
 use Rattle.sixel_decoder.specs.Reception.{of_sequence, found}
-use Rattle.sixel_decoder.proofs.images.FinishedImages.{finished_as}
-use Rattle.sixel_decoder.proofs.images.WholePictures.{whole_picture}
+use Rattle.sixel_decoder.proofs.images.{FinishedImages.finished_as, WholePictures.whole_picture}
 use Rattle.icy_sixel.specs.ImageView.{image_value}
 use Rattle.icy_sixel.proofs.decoder.dcs_session.SixelDcsStreamDecoder.finish.Goals as goal
-use Rattle.icy_sixel.proofs.decoder.dcs_session.SixelDcsStreamDecoder.finish.Goals.{in-Some}
-use Rattle.icy_sixel.proofs.decoder.dcs_session.SixelDcsStreamDecoder.finish.Goals.{in_default}
-
-pub returns-in_err-picture-clause-kept : goal.returns-in_err-picture-clause-kept
-returns-in_err-picture-clause-kept c = grind arith
+use goal.{in-Some, in_default}
 
 pub returns-clause-finished : goal.returns-clause-finished
 returns-clause-finished c =

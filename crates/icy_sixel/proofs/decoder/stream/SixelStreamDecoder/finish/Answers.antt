@@ -1,9 +1,7 @@
 use Rattle.std.proofs.Common.{◌≡◌, ◌∙◌, None, sym, arith, refl}
-use Rattle.sixel_decoder.specs.FinishedImages.{shown_whole}
-use Rattle.sixel_decoder.specs.FinalRows.{found_pixel}
+use Rattle.sixel_decoder.specs.{FinishedImages.shown_whole, FinalRows.found_pixel}
 use Rattle.sixel_decoder.specs.Reception.{of_payload, found}
-use Rattle.sixel_decoder.proofs.images.FinishedImages.{finished_as}
-use Rattle.sixel_decoder.proofs.images.WholePictures.{whole_picture}
+use Rattle.sixel_decoder.proofs.images.{FinishedImages.finished_as, WholePictures.whole_picture}
 use Rattle.icy_sixel.specs.ImageView.{image_value}
 use Rattle.icy_sixel.proofs.decoder.stream.SixelStreamDecoder.finish.Goals as goal
 

@@ -1,15 +1,11 @@
 use Rattle.std.proofs.Common.{◌≡◌, ℕ, ◌*◌, ◌≤◌, List, None, ◌∙◌, arith}
-use Rattle.std.proofs.lemmas.Nat.{mul-le}
-use Rattle.sixel_base.specs.Bytes.{front}
-use Rattle.sixel_base.specs.History.{history_of}
-use Rattle.sixel_base.specs.Limits.{Limit}
+use Rattle.std.proofs.{lemmas.Nat.mul-le, lemmas.Bool.Decides.nat_tests}
+use Rattle.sixel_base.specs.{Bytes.front, History.history_of, Limits.Limit, Stroke.Origin}
 use Rattle.sixel_base.specs.Payload.{Image, payload_area, payload_fault, payload_image, tokens}
 use Rattle.sixel_base.proofs.ToleratedTokens.{effective-fault}
 use Rattle.sixel_base.specs.Place.{width, height}
-use Rattle.sixel_base.specs.Stroke.{Origin}
 use Rattle.sixel_decoder.proofs.drawing.RowExtents.{cropped_height-most, settled-area, sides-fit}
 use Rattle.icy_sixel.proofs.decoder.stream.SixelStreamDecoder.finish_counted.Goals as goal
-use Rattle.std.proofs.lemmas.Bool.Decides.{nat_tests}
 
 -- the image has at most the pixels of the extent
 fewer : (image : Image) (o : Origin) (bytes : List ℕ) → image ≡ payload_image o bytes
@@ -26,21 +22,12 @@ few limit bytes sound =
 
 pub with_packed-count-requires : goal.with_packed-count-requires
 with_packed-count-requires c =
-    grind (
-      arith,
-      c.in_ok-image.ensures.finished,
-      fewer,
-      few,
-      settled-area,
-      c.canvas_writes-writes.ensures.at_most,
-    )
+    let finished = c.in_ok-image.ensures.finished in
+    grind (arith, finished, fewer, few, settled-area, c.canvas_writes-writes.ensures.at_most)
 
 pub returns-clause-at_most : goal.returns-clause-at_most
 returns-clause-at_most c =
     let session = c.args.self.reader in
-    omega (
-      arith,
-      fewer _ session.origin session.bytes c.in_ok-image.ensures.finished.image,
-      settled-area session.origin.pixel_limit session.bytes,
-      c.canvas_writes-writes.ensures.at_most,
-    )
+    let most = fewer _ session.origin session.bytes c.in_ok-image.ensures.finished.image in
+    let area = settled-area session.origin.pixel_limit session.bytes in
+    omega (arith, most, area, c.canvas_writes-writes.ensures.at_most)

@@ -1,6 +1,5 @@
 use Rattle.std.proofs.Common.{◌≡◌, ◌++◌, inr, ap, sym, ◌∙◌}
-use Rattle.icy_sixel.specs.inside.Session.{IsWhole}
-use Rattle.icy_sixel.specs.Receiver.{has_ended}
+use Rattle.icy_sixel.specs.{inside.Session.IsWhole, Receiver.has_ended}
 use Rattle.icy_sixel.proofs.Chunks.{rejoined, IsSame, same, refusal, has_ended-status}
 use Rattle.icy_sixel.proofs.script.session.Session.feed.Goals as goal
 
