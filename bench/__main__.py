@@ -7,11 +7,11 @@ that writes is decoded, with an image of ten megapixels. The columns are numbers
 two. A tool that is not installed has dashes.
 
   first rows          percent of the bytes that are read before the first six rows are final
-  instructions        of a process less those of one on a single pixel, by valgrind
   memory              resident at the peak of a process, by GNU time, less its input and what a
                       process on a single pixel takes; in sizes of the image
-  C, Rust, libsixel   nanoseconds in process, the least of RUNS turns
-  C, bytes            nanoseconds of the library for C, fed in chunks of one byte
+  .. count            instructions of a turn in process, by valgrind: of two turns less those of one
+  C, Rust, libsixel   nanoseconds in process, the least of RUNS times 12 turns
+  C, bytes            the library for C, fed in chunks of one byte
 
 Without a FILE, hyperfine then times the program on a megabyte of each hostile stream.
 """
@@ -47,11 +47,12 @@ BUILDS = {
     "libsixel": f"{CC} libsixel.c $(pkg-config --cflags --libs libsixel) -o {{room}}/peer",
 }
 TIMERS = {
-    "C": "{room}/c {file} 12 {colors}",
-    "C, bytes": "{room}/c {file} 12 {colors} 1",
+    "C": "{room}/c {file} {turns} {colors}",
+    "C, bytes": "{room}/c {file} {turns} {colors} 1",
     "Rust": "{room}/target/release/examples/speed -t 0.2 -k {colors} {file}",
-    "libsixel": "{room}/peer {file} 12 {colors}",
+    "libsixel": "{room}/peer {file} {turns} {colors}",
 }
+COUNTED = ("C", "C, bytes", "libsixel")
 # Kinds of output: in a refined palette, in one with error diffusion, and in the compact form.
 KINDS = ("refined", "diffused", "compact")
 
@@ -62,12 +63,11 @@ def run(command, stdin=None):
     return None if ended.returncode else ended.stdout, ended.stderr
 
 
-def instructions(arguments, stdin):
-    if not which("valgrind"):
-        return math.nan
-    valgrind = "valgrind --tool=callgrind --callgrind-out-file=/dev/null"
-    found = run(f"{valgrind} {SIXEL} {arguments}", stdin)[1]
-    return int(re.search(rb"Collected : (\d+)", found)[1])
+def instructions(command):
+    """The instructions of a process, not a number if it fails."""
+    valgrind = "valgrind --error-exitcode=9 --tool=callgrind --callgrind-out-file=/dev/null"
+    output, found = run(f"{valgrind} {command}")
+    return int(re.search(rb"Collected : (\d+)", found)[1]) if output else math.nan
 
 
 def resident(arguments, stdin):
@@ -77,14 +77,20 @@ def resident(arguments, stdin):
     return 1024 * int(run(f"{which('time')} -f %M {SIXEL} {arguments}", stdin)[1])
 
 
-def in_process(timers, room, command, file, colors):
-    """The least nanoseconds of each timer. They take turns, because a machine may slow down."""
-    least = dict.fromkeys(TIMERS, math.inf)
-    for timer in RUNS * list(timers):
-        words = timers[timer].format(room=room, file=shlex.quote(file), colors=colors)
-        found = re.search(rb"^ *%s +(\S+)" % command.encode(), run(words)[0] or b"", re.M)
-        least[timer] = min(least[timer], float(found[1]) if found else math.inf)
-    return least.values()
+def in_process(timers, command, pixels, **words):
+    """Instructions and the least nanoseconds of each timer, per pixel.
+
+    The timers take turns, because a machine may slow down.
+    """
+    counts, least = dict.fromkeys(COUNTED, math.nan), dict.fromkeys(TIMERS, math.inf)
+    for name in counts.keys() & timers.keys():
+        one, two = (instructions(timers[name].format(turns=it, **words)) for it in (1, 2))
+        counts[name] = (two - one) / pixels
+    for name in RUNS * list(timers):
+        output = run(timers[name].format(turns=12, **words))[0]
+        found = re.search(rb"^ *%s +(\S+)" % command.encode(), output or b"", re.M)
+        least[name] = min(least[name], float(found[1]) if found else math.inf)
+    return *counts.values(), *least.values()
 
 
 def report(room, file):
@@ -100,20 +106,20 @@ def report(room, file):
         whole, one = (arguments.format(*it) for it in ((width, height), (1, 1)))
         columns = [
             math.nan if raw else 100 * (data.find(b"-") + 1) / len(data),
-            (instructions(whole, data) - instructions(one, single)) / (width * height),
             (resident(whole, data) - resident(one, single) - len(data)) / (4 * width * height),
-            *in_process(TIMERS, room, command, file, colors),
         ]
         title = f"{path.name[:16]:16} {width:>5}x{height:<5} {colors:3}"
-        print_line(f"{command:8} {title}", columns)
+        words = {"room": room, "file": shlex.quote(file), "colors": colors}
+        figures = in_process(TIMERS, command, width * height, **words)
+        print_line(f"{command:8} {title}", [*columns, *figures])
         for kind in KINDS if raw else ():
             timers = {it: f"{TIMERS[it]} {kind}" for it in ("C", "libsixel")}
-            times = in_process(timers, room, command, file, colors)
-            print_line(f"{kind:8} {title}", [math.nan] * 3 + [*times])
+            figures = in_process(timers, command, width * height, **words)
+            print_line(f"{kind:8} {title}", [math.nan, math.nan, *figures])
 
 
 def print_line(title, columns):
-    texts = (f"{it:13.2f}" if math.isfinite(it) else f"{'-':>13}" for it in columns)
+    texts = (f"{it:15.2f}" if math.isfinite(it) else f"{'-':>15}" for it in columns)
     print(title, *texts, sep="", flush=True)
 
 
@@ -153,8 +159,8 @@ def main(files):
         room = Path(folder)
         for how in BUILDS.values():
             run(how.format(room=room))
-        titles = ("first rows", "instructions", "memory", *TIMERS)
-        print(f"{'':41}", *(f"{it:>13}" for it in titles), sep="")
+        titles = ("first rows", "memory", *(f"{it} count" for it in COUNTED), *TIMERS)
+        print(f"{'':41}", *(f"{it:>15}" for it in titles), sep="")
         for file in files or made(room):
             report(room, file)
         for text in () if files else HOSTILE:

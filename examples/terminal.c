@@ -14,7 +14,7 @@ struct terminal {
     enum { TEXT, ESCAPE, PARAMETERS, PAYLOAD, SKIPPED } state;
     int32_t parameters[3], count; /* the third takes all that follow */
     size_t rows;    /* rows of cells that are reserved for the open image */
-    uint32_t error; /* the last error of an image that was shown, or 0 */
+    uint32_t error; /* the last error that was shown for the image, or 0 */
 };
 
 /* Opens an image with the parameters that the parser has read. */

@@ -1,4 +1,4 @@
-"""Tests that the sources are in the layout of `rt fmt`, which changes nothing in a copy of them."""
+"""Tests the layout of the sources: `rt fmt` changes nothing in a copy, and lengths are kept."""
 import shutil
 import tempfile
 import unittest
@@ -7,6 +7,7 @@ from pathlib import Path
 from build import ROOT, needs, run
 
 FOLDERS = ["src", "specs", "proofs"]
+MOST_COLUMNS, MOST_LINES = 100, 400
 
 
 @needs("rt")
@@ -19,3 +20,15 @@ class TestLayout(unittest.TestCase):
                 status, output, errors = run("rt", "fmt", cwd=copy)
                 self.assertEqual((status, errors), (0, b""))
                 self.assertNotIn(b"rt: formatted", output)
+
+
+class TestLengths(unittest.TestCase):
+    def test_lengths(self):
+        files = [it for folder in FOLDERS for it in ROOT.glob(f"crates/*/{folder}/**/*.*t")]
+        self.assertGreater(len(files), 0)
+        for file in files:
+            lines = file.read_text().splitlines()
+            with self.subTest(file.relative_to(ROOT)):
+                self.assertLessEqual(len(lines), MOST_LINES)
+                self.assertLessEqual(max(map(len, lines), default=0), MOST_COLUMNS)
+
