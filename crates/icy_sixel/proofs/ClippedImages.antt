@@ -2,21 +2,19 @@
 -- painted area are those of the whole picture.
 use Rattle.std.proofs.Common.{◌≡◌, ℕ, ◌≤◌, [], ◌∷◌, refl, None, arith, List, ◌∙◌}
 use Rattle.std.proofs.lemmas.Bool.Decides.{nat_tests}
-use Rattle.sixel_base.specs.{Clip.clipped_height, Clip.clipped_width, History.History}
-use Rattle.sixel_base.specs.{History.history_of, Limits.Limit, Limits.side_limit, Payload.tokens}
-use Rattle.sixel_base.specs.{Place.height, Place.span, Place.width}
-use Rattle.sixel_base.specs.{declared.state.DecoderState.DecoderState, Bytes.front}
-use Rattle.sixel_base.specs.{IgnoredCommands.payload_ignored, OneShot.found_fault}
-use Rattle.sixel_base.specs.{Settings.Settings, Stroke.Origin, Stroke.pixel}
-use Rattle.sixel_base.specs.Payload.{first_fault, Image, cropped_height, image_height, image_of}
-use Rattle.sixel_base.specs.PaintedArea.{painted_area, row_extent}
-use Rattle.sixel_canvas.proofs.{Totals.total-same, Pictures.picture_same}
+use Rattle.sixel_base.specs.{Clip.{clipped_height, clipped_width}, History.{History, history_of}}
+use Rattle.sixel_base.specs.{Limits.{Limit, side_limit}, Payload.{tokens, first_fault, Image}}
+use Rattle.sixel_base.specs.{Payload.{cropped_height, image_height, image_of}, Place.{height, span}}
+use Rattle.sixel_base.specs.{Place.width, declared.state.DecoderState.DecoderState, Bytes.front}
+use Rattle.sixel_base.specs.{IgnoredCommands.payload_ignored, OneShot.{found_fault, Found, Payload}}
+use Rattle.sixel_base.specs.OneShot.{NoPayload, AreFoundRegisters, IsFoundImage}
+use Rattle.sixel_base.specs.{Settings.Settings, Stroke.{Origin, pixel}, PaintedArea.painted_area}
+use Rattle.sixel_base.specs.{PaintedArea.row_extent, Decoder.{clip_side_of, origin_of, with_clip}}
+use Rattle.sixel_canvas.proofs.{Pictures.picture_same, Totals.total-same}
 use Rattle.sixel_decoder.proofs.drawing.RowExtents.{both_none, sides-fit, cropped_height-most}
 use Rattle.icy_sixel.specs.ClippedImages.{HasNoClip, whole_painted_area, whole_row_extent}
 use Rattle.icy_sixel.specs.ClippedImages.{IsInsideClip, IsPartInside, IsWholeImage, part_report}
 use Rattle.icy_sixel.specs.ClippedImages.{whole_image, whole_pixel}
-use Rattle.sixel_base.specs.Decoder.{clip_side_of, origin_of, with_clip}
-use Rattle.sixel_base.specs.OneShot.{Found, Payload, NoPayload, AreFoundRegisters, IsFoundImage}
 use Rattle.sixel_base.proofs.ToleratedTokens.{effective-fault, registers-effective}
 use Rattle.sixel_decoder.specs.Report.{found_report}
 

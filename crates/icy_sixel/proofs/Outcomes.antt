@@ -1,24 +1,23 @@
 -- What a step comes to, by what the calls that it makes ensure, and a run of steps with one more.
 use Rattle.std.proofs.Common.{List, [], ◌∷◌, ◌++◌, arith, ◌≡◌, ℕ, None}
-use Rattle.sixel_base.specs.declared.state.DecoderState.{DecoderState}
-use Rattle.icy_sixel.specs.{declared.script.Step.Step, declared.script.Outcome.Outcome}
-use Rattle.icy_sixel.specs.{declared.script.End.End, ImageView.image_value}
-use Rattle.icy_sixel.specs.Script.{IsOutcome, AreOutcomes, IsDecoding, IsSessionOutcome}
 use Rattle.std.proofs.{lemmas.Bool.Decides.nat_tests, lemmas.List.append-nil}
+use Rattle.sixel_base.specs.declared.state.DecoderState.{DecoderState}
+use Rattle.sixel_base.specs.{declared.error.SixelError.SixelError, Fault.Faults, Decoder.IsSetAs}
+use Rattle.sixel_base.specs.{Payload.Image, Dcs.{dcs_status, has_ended}, Limits.Limit}
+use Rattle.sixel_base.specs.OneShot.{Found, IsDecodedAs, IsFoundImage, AreFoundRegisters}
+use Rattle.icy_sixel.specs.{ImageView.image_value, Receiver.{Form, Nothing, OfPayload, OfString}}
+use Rattle.icy_sixel.specs.Receiver.{fault, growths, found, found_followed, end_fault, end_wants}
+use Rattle.icy_sixel.specs.Script.{IsOutcome, AreOutcomes, IsDecoding, IsSessionOutcome}
+use Rattle.icy_sixel.specs.{declared.script.End.End, declared.script.End.TheVariants.Finish}
+use Rattle.icy_sixel.specs.declared.script.Outcome.{Outcome}
+use Rattle.icy_sixel.specs.declared.script.Outcome.TheVariants.{Failed, Finished, Decoded}
+use Rattle.icy_sixel.specs.{declared.script.Step.Step, declared.sixel_image.SixelImage.SixelImage}
+use Rattle.icy_sixel.specs.inside.Session.{IsWhole, meaning, whole_fault}
 use Rattle.std.specs.Prelude.{nat_lt, ◌||◌, if◌then◌else◌, is_none, Result, Ok, Err, MatchResult}
 use Rattle.std.specs.Prelude.{IfOk, IfErr, OnOk, OnErr}
-use Rattle.sixel_base.specs.{declared.error.SixelError.SixelError, Fault.Faults, Decoder.IsSetAs}
-use Rattle.sixel_base.specs.{Payload.Image, Dcs.dcs_status, Dcs.has_ended, Limits.Limit}
-use Rattle.sixel_base.specs.OneShot.{Found, IsDecodedAs, IsFoundImage, AreFoundRegisters}
-use Rattle.icy_sixel.specs.declared.script.End.TheVariants.{Finish}
-use Rattle.icy_sixel.specs.declared.script.Outcome.TheVariants.{Failed, Finished, Decoded}
-use Rattle.sixel_decoder.specs.{declared.received.Status.Status, OneShotCalls.IsDecoded}
-use Rattle.icy_sixel.specs.declared.sixel_image.SixelImage.{SixelImage}
-use Rattle.icy_sixel.specs.Receiver.{Form, Nothing, OfPayload, OfString, fault, growths, found}
-use Rattle.icy_sixel.specs.Receiver.{found_followed, end_fault, end_wants}
-use Rattle.icy_sixel.specs.inside.Session.{IsWhole, meaning, whole_fault}
-use Rattle.sixel_decoder.proofs.chunks.ParserSteps.{Faults-along}
-use Rattle.sixel_decoder.proofs.chunks.PayloadFaults.{or_right, payload_refused}
+use Rattle.sixel_decoder.specs.{OneShotCalls.IsDecoded, declared.received.Status.Status}
+use Rattle.sixel_decoder.proofs.{chunks.ParserSteps.Faults-along, chunks.PayloadFaults.or_right}
+use Rattle.sixel_decoder.proofs.chunks.PayloadFaults.{payload_refused}
 use Rattle.icy_sixel.proofs.Chunks.{same, front_whole}
 use Rattle.icy_sixel.specs.Receiver as images
 

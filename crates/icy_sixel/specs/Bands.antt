@@ -2,15 +2,13 @@
 -- read, and what is reported. Which rows are final is in FinalRows.
 use Rattle.std.specs.Prelude.{ℕ, ◌≡◌, ◌==◌, ◌&&◌, not, nat_lt, if◌then◌else◌, List, [], ◌∷◌, Result}
 use Rattle.std.specs.Result.{result_map_both}
-use Rattle.icy_sixel.specs.ReceivedRows.{rows_so_far}
-use Rattle.icy_sixel.specs.Receiver.{Receiver, has_ended}
+use Rattle.icy_sixel.specs.{ReceivedRows.rows_so_far, Receiver.{Receiver, has_ended}}
 use Rattle.icy_sixel.specs.ReceiverCalls.{IsFed}
 use Rattle.icy_sixel.specs.declared.receiver.FailedFeed.{FailedFeed}
-use Rattle.sixel_decoder.specs.declared.received.Received.{Received}
 use Rattle.icy_sixel.specs.declared.receiver.rows.BandStatus.{BandStatus}
 use Rattle.icy_sixel.specs.declared.receiver.rows.BandStatus.TheVariants.{Rows, Image}
 use Rattle.icy_sixel.specs.declared.receiver.rows.ReceivedBand.{ReceivedBand}
-use Rattle.sixel_decoder.specs.declared.received.Status.{Status}
+use Rattle.sixel_decoder.specs.declared.{received.Received.Received, received.Status.Status}
 
 -- the bytes up to and with the first graphics new line, or all
 abbrev pub band_of : List ℕ → List ℕ

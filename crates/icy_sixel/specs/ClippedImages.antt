@@ -2,15 +2,11 @@
 -- with its report. A clip is this library's own. Which pixel a picture has at a place, by DEC's
 -- manual, is in Stroke of sixel_base.
 use Rattle.std.specs.Prelude.{ℕ, ◌≡◌, ◌≤◌, ◌+◌, min, max, if◌then◌else◌, List, [], ◌∷◌}
-use Rattle.sixel_base.specs.Decoder.{clip_side_of, origin_of}
-use Rattle.sixel_base.specs.History.{Sixel, History}
-use Rattle.sixel_base.specs.Limits.{side_limit}
-use Rattle.sixel_base.specs.OneShot.{Found, Payload, NoPayload}
-use Rattle.sixel_base.specs.Payload.{Image, cropped_height, tokens}
-use Rattle.sixel_base.specs.Picture.{is_struck, picture, total}
-use Rattle.sixel_base.specs.Place.{across, down, height, span, width}
-use Rattle.sixel_base.specs.Settings.{mode_of, ratio_of}
-use Rattle.sixel_base.specs.Stroke.{Origin, pixel, ratio}
+use Rattle.sixel_base.specs.{Decoder.{clip_side_of, origin_of}, History.{Sixel, History}}
+use Rattle.sixel_base.specs.{Limits.side_limit, OneShot.{Found, Payload, NoPayload}, Payload.Image}
+use Rattle.sixel_base.specs.{Payload.{cropped_height, tokens}, Picture.{is_struck, picture, total}}
+use Rattle.sixel_base.specs.{Place.{across, down, height, span, width}, Settings.mode_of}
+use Rattle.sixel_base.specs.{Settings.ratio_of, Stroke.{Origin, pixel, ratio}}
 use Rattle.sixel_base.specs.declared.state.DecoderState.{DecoderState}
 use Rattle.sixel_decoder.specs.Report.{Report}
 

@@ -1,22 +1,15 @@
 -- The theorem of this library. `script::run` returns such outcomes, and `encode_with` such a text,
 -- unless an allocation fails.
-use Rattle.std.specs.Prelude.{◌≡◌, ◌≢◌, ◌<◌, ℕ, false, List, length, All, None}
-use Rattle.std.specs.List.{AllZip}
+use Rattle.std.specs.{List.AllZip, Prelude.{◌≡◌, ◌≢◌, ◌<◌, ℕ, false, List, length, All, None}}
 use Rattle.sixel_base.specs.declared.error.SixelError.TheVariants.{OutOfMemory}
 use Rattle.sixel_base.specs.declared.state.DecoderState.{DecoderState}
-use Rattle.sixel_base.specs.Bytes.{front}
-use Rattle.sixel_base.specs.Decoder.{new_decoder}
-use Rattle.sixel_base.specs.History.{History, IsHistory, history_of}
-use Rattle.sixel_base.specs.Limits.{whole_limit}
-use Rattle.sixel_base.specs.Payload.{Image}
-use Rattle.sixel_palette.specs.Palette.{IsShown, nearest}
-use Rattle.sixel_palette.specs.PaletteBound.{NoListIsBetter}
+use Rattle.sixel_base.specs.{Bytes.front, Decoder.new_decoder, History.{History, IsHistory}}
+use Rattle.sixel_base.specs.{History.history_of, Limits.whole_limit, Payload.Image}
+use Rattle.sixel_palette.specs.{Palette.{IsShown, nearest}, PaletteBound.NoListIsBetter}
 use Rattle.sixel_encoder.specs.Encoding.{AreShortest, IsDrawing, IsText, image_fault, shown_image}
-use Rattle.sixel_encoder.specs.Text.{Drawing, text_of}
-use Rattle.sixel_encoder.specs.Trip.{IsOneString, IsReadAs, trip}
+use Rattle.sixel_encoder.specs.{Text.{Drawing, text_of}, Trip.{IsOneString, IsReadAs, trip}}
 use Rattle.icy_sixel.specs.Script.{AreOutcomes, IsRecut, IsSameOutcome}
-use Rattle.icy_sixel.specs.declared.script.Outcome.{Outcome}
-use Rattle.icy_sixel.specs.declared.script.Outcome.TheVariants.{Failed}
+use Rattle.icy_sixel.specs.declared.{script.Outcome.Outcome, script.Outcome.TheVariants.Failed}
 use Rattle.icy_sixel.specs.declared.script.Step.{Step}
 
 -- The text is the one SIXEL output of the image in at most `max_colors` colors.

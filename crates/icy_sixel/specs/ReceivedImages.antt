@@ -2,19 +2,16 @@
 -- those of the rows below them. Which image that is, by DEC's manual, is in Payload of sixel_base.
 use Rattle.std.specs.Prelude.{ℕ, ◌≡◌, ◌+◌, ◌-◌, ◌*◌, ◌==◌, max, min, nat_lt, Bool, ◌&&◌}
 use Rattle.std.specs.Prelude.{if◌then◌else◌, List, [], ◌∷◌, ◌++◌, take, Option, Some}
-use Rattle.sixel_base.specs.CallFault.{CallFault, RowsNotFinal, RowsReleased}
-use Rattle.sixel_base.specs.Payload.{Image}
+use Rattle.sixel_base.specs.{CallFault.{CallFault, RowsNotFinal, RowsReleased}, Payload.Image}
 use Rattle.sixel_base.specs.Picture.{picture}
-use Rattle.sixel_canvas.specs.Layout.{stored_pixel}
-use Rattle.sixel_canvas.specs.declared.channels.RowLayout.{RowLayout}
-pub use Rattle.sixel_decoder.specs.Report.{Report, found_report}
-use Rattle.icy_sixel.specs.ReceivedRows.{layout_fault}
-use Rattle.icy_sixel.specs.ImageView.{image_value}
+use Rattle.sixel_canvas.specs.{Layout.stored_pixel, declared.channels.RowLayout.RowLayout}
+use Rattle.icy_sixel.specs.{ImageView.image_value, ReceivedRows.layout_fault}
 use Rattle.icy_sixel.specs.declared.receiver.received_image.Height.{Height}
 use Rattle.icy_sixel.specs.declared.receiver.received_image.Height.TheVariants.{Bands, Raster}
 use Rattle.icy_sixel.specs.declared.receiver.received_image.Height.TheVariants.{Drawn}
 use Rattle.icy_sixel.specs.declared.receiver.received_image.ReceivedImage.{ReceivedImage}
 use Rattle.icy_sixel.specs.declared.sixel_image.SixelImage.{SixelImage}
+pub use Rattle.sixel_decoder.specs.Report.{Report, found_report}
 
 -- the whole image, whose picture has these pixels: the released rows are above those that are left
 abbrev pub whole_value : (ℕ → ℕ → List ℕ) → ReceivedImage → Image

@@ -3,17 +3,16 @@
 use Rattle.std.specs.Prelude.{ℕ, ◌≡◌, ◌+◌, ◌*◌, max, nat_lt, if◌then◌else◌, List, length, Option}
 use Rattle.std.specs.Prelude.{Some, None, Result, OnOk, OnErr}
 use Rattle.sixel_base.specs.CallFault.{CallFault, Exactly, RowsNotFinal, RowsReleased, ShortStride}
-use Rattle.sixel_base.specs.CallFault.{IsVerdict}
-use Rattle.sixel_base.specs.declared.error.SixelError.{SixelError}
+use Rattle.sixel_base.specs.{CallFault.IsVerdict, declared.error.SixelError.SixelError}
 use Rattle.sixel_base.specs.declared.error.SixelError.TheVariants.{BufferSizeMismatch}
 use Rattle.sixel_base.specs.declared.error.SixelError.TheVariants.{IntegerOverflow}
 use Rattle.sixel_base.specs.declared.state.DecoderState.{DecoderState}
+use Rattle.sixel_decoder.specs.FinalRows.{row_count}
+use Rattle.icy_sixel.specs.Receiver.{Form, Receiver, Reception, found}
 pub use Rattle.sixel_canvas.specs.Layout.{AreCopied, rows_len}
 pub use Rattle.sixel_canvas.specs.declared.channels.RowLayout.{RowLayout}
 pub use Rattle.sixel_decoder.specs.FinalRows.{found_pixel}
-use Rattle.sixel_decoder.specs.FinalRows.{row_count}
 pub use Rattle.sixel_decoder.specs.Reception.{final_rows}
-use Rattle.icy_sixel.specs.Receiver.{Form, Receiver, Reception, found}
 
 -- how many rows of the open image are final: none after an error
 abbrev pub rows_so_far : Reception → ℕ

@@ -3,8 +3,7 @@
 -- not mentioned.
 use Rattle.std.specs.Prelude.{ℕ, ◌≡◌, Bool, true, false, [], None}
 use Rattle.sixel_base.specs.Decoder.{new_decoder, with_first_register, with_lenient}
-use Rattle.sixel_base.specs.Decoder.{with_transparent}
-use Rattle.sixel_base.specs.declared.state.DecoderState.{DecoderState}
+use Rattle.sixel_base.specs.{Decoder.with_transparent, declared.state.DecoderState.DecoderState}
 pub use Rattle.sixel_decoder.specs.FedImages.{count, fault, growths, has_ended, is_open, is_over}
 pub use Rattle.sixel_decoder.specs.FedImages.{status}
 pub use Rattle.sixel_decoder.specs.FinishedImages.{end_fault, end_wants, failed, found_followed}

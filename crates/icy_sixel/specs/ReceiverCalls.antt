@@ -2,23 +2,20 @@
 -- facts are those of a payload session or a DCS session, in the words that Receiver has for both.
 use Rattle.std.specs.Prelude.{ℕ, ◌≡◌, List, Result, Ok, Err, OnErr, OnOk, IfOk, MatchResult}
 use Rattle.std.specs.Result.{result_map_both}
+use Rattle.sixel_base.specs.{Decoder.IsSetAs, OneShot.{Found, AreFoundRegisters}, Payload.Image}
 use Rattle.sixel_base.specs.declared.error.SixelError.{SixelError}
-use Rattle.sixel_base.specs.Decoder.{IsSetAs}
-use Rattle.sixel_base.specs.OneShot.{Found, AreFoundRegisters}
-use Rattle.sixel_base.specs.Payload.{Image}
-pub use Rattle.sixel_decoder.specs.Progress.{IsBandPaintCount, IsBandWriteCount}
-pub use Rattle.sixel_decoder.specs.Progress.{IsDrawnHeight, IsSizeSoFar}
-use Rattle.sixel_decoder.specs.FedImages as fed_images
-use Rattle.sixel_decoder.specs.FinishedImages as images
-use Rattle.sixel_decoder.specs.ImageEnds.{Extends}
-use Rattle.sixel_decoder.specs.OneShotCalls as one_shot
-use Rattle.sixel_decoder.specs.declared.received.Received.{Received}
-use Rattle.icy_sixel.specs.ReceivedRows.{pixel_so_far}
+use Rattle.sixel_decoder.specs.{ImageEnds.Extends, declared.received.Received.Received}
 use Rattle.icy_sixel.specs.ReceivedImages.{found_report, left_value, received_report, whole_value}
-use Rattle.icy_sixel.specs.Receiver.{AreSettingsKept, Form, Receiver, Reception, no_image, start_of}
-use Rattle.icy_sixel.specs.Receiver as receivers
+use Rattle.icy_sixel.specs.{ReceivedRows.pixel_so_far, Receiver.{AreSettingsKept, Form, Receiver}}
+use Rattle.icy_sixel.specs.Receiver.{Reception, no_image, start_of}
 use Rattle.icy_sixel.specs.declared.receiver.FailedFeed.{FailedFeed}
 use Rattle.icy_sixel.specs.declared.receiver.received_image.ReceivedImage.{ReceivedImage}
+use Rattle.sixel_decoder.specs.FedImages as fed_images
+use Rattle.sixel_decoder.specs.FinishedImages as images
+use Rattle.sixel_decoder.specs.OneShotCalls as one_shot
+use Rattle.icy_sixel.specs.Receiver as receivers
+pub use Rattle.sixel_decoder.specs.Progress.{IsBandPaintCount, IsBandWriteCount}
+pub use Rattle.sixel_decoder.specs.Progress.{IsDrawnHeight, IsSizeSoFar}
 
 -- The receiver opens an image of this form, and aborts the one that was open.
 pub record IsBegun (old new : Receiver) (form : Form) : Type 0 where

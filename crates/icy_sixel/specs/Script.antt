@@ -1,32 +1,25 @@
 -- What a list of steps on one decoder comes to, by the meaning of the bytes of each step. A step
 -- relates the decoder before it to an outcome and the decoder after it, and a run joins steps. This
 -- library's own: it does not mention chunks.
-use Rattle.std.specs.Prelude.{ℕ, ◌≡◌, Bool, nat_lt, ◌||◌, List, [], ◌∷◌, Option, None, is_none}
-use Rattle.std.specs.Option.{option_or}
-use Rattle.sixel_base.specs.Bytes.{count, first_terminator}
-use Rattle.sixel_base.specs.Color.{default_registers}
-use Rattle.sixel_base.specs.declared.error.SixelError.{SixelError}
-use Rattle.sixel_base.specs.Decoder.{with_clip, with_pixel_limit, IsSetAs}
-use Rattle.sixel_base.specs.declared.state.DecoderState.{DecoderState}
-use Rattle.sixel_base.specs.Fault.{Fault, Faults, IsFault}
-use Rattle.sixel_base.specs.Payload.{fed_fault, payload_fault, settled, growths}
-use Rattle.sixel_base.specs.Settings.{Settings}
-use Rattle.icy_sixel.specs.declared.script.End.{End}
-use Rattle.icy_sixel.specs.declared.script.End.TheVariants.{Finish, Abort}
-use Rattle.icy_sixel.specs.declared.script.Step.{Step}
-use Rattle.icy_sixel.specs.declared.script.Step.TheVariants as steps
-use Rattle.sixel_decoder.specs.declared.received.Status.{Status}
-use Rattle.sixel_decoder.specs.declared.received.Status.TheVariants as statuses
-use Rattle.icy_sixel.specs.declared.script.Outcome.{Outcome}
-use Rattle.icy_sixel.specs.declared.script.Outcome.TheVariants.{Reset, Changed, Failed, Finished}
-use Rattle.icy_sixel.specs.declared.script.Outcome.TheVariants.{Aborted, Decoded}
+use Rattle.std.specs.{Option.option_or, Prelude.{ℕ, ◌≡◌, Bool, nat_lt, ◌||◌, List, [], ◌∷◌, Option}}
+use Rattle.std.specs.Prelude.{None, is_none}
+use Rattle.sixel_base.specs.{Bytes.{count, first_terminator}, Color.default_registers}
 use Rattle.sixel_base.specs.Dcs.{dcs_count, dcs_status, dcs_fault, dcs_growths, end_fault}
-use Rattle.sixel_base.specs.Limits.{Limit}
-use Rattle.sixel_base.specs.Status.{status_of}
-use Rattle.icy_sixel.specs.ImageView.{image_value}
+use Rattle.sixel_base.specs.{Decoder.{with_clip, with_pixel_limit, IsSetAs}, Fault.{Fault, Faults}}
+use Rattle.sixel_base.specs.{Fault.IsFault, Limits.Limit, OneShot.{Found, Payload, found}}
+use Rattle.sixel_base.specs.OneShot.{found_fault, found_wants, IsFoundImage, AreFoundRegisters}
+use Rattle.sixel_base.specs.Payload.{fed_fault, payload_fault, settled, growths}
+use Rattle.sixel_base.specs.{Settings.Settings, Status.status_of}
+use Rattle.sixel_base.specs.declared.{error.SixelError.SixelError, state.DecoderState.DecoderState}
+use Rattle.icy_sixel.specs.declared.{script.End.End, script.End.TheVariants.{Finish, Abort}}
+use Rattle.icy_sixel.specs.declared.{script.Outcome.Outcome, script.Outcome.TheVariants.Reset}
+use Rattle.icy_sixel.specs.declared.script.Outcome.TheVariants.{Changed, Failed, Finished, Aborted}
+use Rattle.icy_sixel.specs.declared.{script.Outcome.TheVariants.Decoded, script.Step.Step}
 use Rattle.icy_sixel.specs.declared.sixel_image.SixelImage.{SixelImage}
-use Rattle.sixel_base.specs.OneShot.{Found, Payload, found, found_fault, found_wants, IsFoundImage}
-use Rattle.sixel_base.specs.OneShot.{AreFoundRegisters}
+use Rattle.sixel_decoder.specs.declared.received.Status.{Status}
+use Rattle.icy_sixel.specs.ImageView.{image_value}
+use Rattle.icy_sixel.specs.declared.script.Step.TheVariants as steps
+use Rattle.sixel_decoder.specs.declared.received.Status.TheVariants as statuses
 
 -- What bytes mean that are fed to a session: how many of them belong to it, their status, their
 -- fault while the session goes on and when it is finished, whether their payload has a closed sixel

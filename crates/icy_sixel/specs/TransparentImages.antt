@@ -2,13 +2,9 @@
 -- covers is transparent whatever P2 says. The wish is this library's own. Which pixels a sixel
 -- covers, by DEC's manual, is in Picture and Place of sixel_base.
 use Rattle.std.specs.Prelude.{ℕ, ◌≡◌, ◌+◌, Bool, false, ◌||◌, if◌then◌else◌, List, [], ◌∷◌}
-use Rattle.sixel_base.specs.Decoder.{origin_of}
-use Rattle.sixel_base.specs.History.{Sixel, History}
-use Rattle.sixel_base.specs.OneShot.{Found, Payload, NoPayload}
-use Rattle.sixel_base.specs.Payload.{Image, tokens}
-use Rattle.sixel_base.specs.Picture.{covers, picture}
-use Rattle.sixel_base.specs.Place.{across, down, span}
-use Rattle.sixel_base.specs.Stroke.{Origin, pixel}
+use Rattle.sixel_base.specs.{Decoder.origin_of, History.{Sixel, History}, OneShot.{Found, Payload}}
+use Rattle.sixel_base.specs.{OneShot.NoPayload, Payload.{Image, tokens}, Picture.{covers, picture}}
+use Rattle.sixel_base.specs.{Place.{across, down, span}, Stroke.{Origin, pixel}}
 use Rattle.sixel_base.specs.declared.state.DecoderState.{DecoderState}
 
 -- whether a sixel covers the pixel

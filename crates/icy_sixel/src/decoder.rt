@@ -5,20 +5,16 @@
 //! `Place` and `Stroke` what they draw, and `Payload` when they are rejected. The contract of
 //! decoding in one call is the record of `OneShotCalls` in `sixel_decoder`.
 
-ghost use Rattle.std.specs.Prelude.{◌≡◌, ◌≤◌, [], length, slice_index_or, slice_set, IsOk};
-ghost use Rattle.std.specs.Prelude.{OnOk, OnErr, IfOk, vec_capacity};
-ghost use Rattle.sixel_base.specs.Color.{default_registers};
-ghost use Rattle.sixel_base.specs.Decoder.{IsSetAs, new_decoder, origin_of};
-ghost use Rattle.sixel_base.specs.Decoder.{with_clip, with_pixel_limit};
-ghost use Rattle.sixel_base.specs.Limits.{area_limit};
-ghost use Rattle.sixel_base.specs.OneShot.{found, Payload, AreFoundRegisters};
+ghost use Rattle.std.specs.Prelude.{◌≡◌, ◌≤◌, [], length, slice_index_or, slice_set, IsOk, OnOk};
+ghost use Rattle.std.specs.Prelude.{OnErr, IfOk, vec_capacity};
+ghost use Rattle.sixel_base.specs.{Color.default_registers, Decoder.{IsSetAs, new_decoder}};
+ghost use Rattle.sixel_base.specs.Decoder.{origin_of, with_clip, with_pixel_limit};
+ghost use Rattle.sixel_base.specs.{Limits.area_limit, OneShot.{found, Payload, AreFoundRegisters}};
 ghost use Rattle.sixel_base.specs.Payload.{payload_registers};
-ghost use Rattle.icy_sixel.specs.ImageView.{image_value};
-ghost use Rattle.icy_sixel.specs.Registers.{with_colors};
-ghost use Rattle.sixel_decoder.specs.DcsCalls.{begun as begun_dcs};
-ghost use Rattle.sixel_decoder.specs.Memory.{most_capacity};
-ghost use Rattle.sixel_decoder.specs.OneShotCalls.{IsDecoded};
+ghost use Rattle.icy_sixel.specs.{ImageView.image_value, Registers.with_colors};
+ghost use Rattle.sixel_decoder.specs.{Memory.most_capacity, OneShotCalls.IsDecoded};
 ghost use Rattle.sixel_decoder.specs.PayloadCalls.{begun};
+ghost use Rattle.sixel_decoder.specs.DcsCalls.{begun as begun_dcs};
 
 mod dcs_session;
 mod drawn;

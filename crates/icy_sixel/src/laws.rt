@@ -1,23 +1,18 @@
 //! Laws of decoded images, stated by functions with empty bodies.
 
 ghost use Rattle.std.specs.Prelude.{◌≡◌, ℕ, List, None, Bool, true};
-ghost use Rattle.sixel_base.specs.Clip.{clipped_height, clipped_width};
-ghost use Rattle.sixel_base.specs.Dcs.{can_finish, dcs_status, has_ended};
-ghost use Rattle.sixel_base.specs.Decoder.{origin_of, with_clip, with_transparent};
-ghost use Rattle.sixel_base.specs.History.{History};
-ghost use Rattle.sixel_base.specs.Lenient.{effective, fault};
-ghost use Rattle.sixel_base.specs.OneShot.{Found, AreFoundRegisters, IsFoundImage, found_fault};
-ghost use Rattle.sixel_base.specs.Payload.{Image, first_fault};
-ghost use Rattle.sixel_base.specs.Place.{height, width};
-ghost use Rattle.sixel_base.specs.PaintedArea.{painted_area};
-ghost use Rattle.sixel_base.specs.Settings.{Settings, mode_of};
-ghost use Rattle.sixel_base.specs.Stroke.{background, background_of};
+ghost use Rattle.sixel_base.specs.{Clip.{clipped_height, clipped_width}, Dcs.can_finish};
+ghost use Rattle.sixel_base.specs.{Dcs.{dcs_status, has_ended}, Decoder.{origin_of, with_clip}};
+ghost use Rattle.sixel_base.specs.{Decoder.with_transparent, History.History, Lenient.effective};
+ghost use Rattle.sixel_base.specs.{Lenient.fault, OneShot.{Found, AreFoundRegisters, IsFoundImage}};
+ghost use Rattle.sixel_base.specs.{OneShot.found_fault, PaintedArea.painted_area, Payload.Image};
+ghost use Rattle.sixel_base.specs.{Payload.first_fault, Place.{height, width}, Settings.Settings};
+ghost use Rattle.sixel_base.specs.{Settings.mode_of, Stroke.{background, background_of}};
 ghost use Rattle.sixel_base.specs.declared.state.DecoderState.{DecoderState};
 ghost use Rattle.sixel_decoder.specs.Report.{found_report};
 ghost use Rattle.icy_sixel.specs.ClippedImages.{whole_painted_area, IsInsideClip, IsPartInside};
 ghost use Rattle.icy_sixel.specs.ClippedImages.{IsWholeImage, part_report, whole_pixel, HasNoClip};
-ghost use Rattle.icy_sixel.specs.Headline.{Headline};
-ghost use Rattle.icy_sixel.specs.StrictDecoders.{IsStrict};
+ghost use Rattle.icy_sixel.specs.{Headline.Headline, StrictDecoders.IsStrict};
 ghost use Rattle.icy_sixel.specs.TransparentImages.{IsCleared, drawn_pixel_of};
 
 use crate::decoder::SixelDecoder;

@@ -2,17 +2,14 @@
 //!
 //! The contracts of its calls are the records of `ReceiverCalls`.
 
-ghost use Rattle.std.specs.Prelude.{◌≡◌, ◌*◌, ◌<◌, ◌≤◌, ◌∷◌, [], true, false, length, min};
-ghost use Rattle.std.specs.Prelude.{IfOk, IfSome, None, Ok, Some, vec_capacity};
-ghost use Rattle.sixel_base.specs.CallFault.{FailsBy, RowsReleased};
-ghost use Rattle.sixel_base.specs.Decoder.{new_decoder};
-ghost use Rattle.sixel_decoder.specs.Memory.{most_capacity};
-ghost use Rattle.sixel_decoder.specs.Report.{found_report};
-ghost use Rattle.icy_sixel.specs.ImageView.{image_value};
-ghost use Rattle.icy_sixel.specs.ReceivedImages.{received_report};
+ghost use Rattle.std.specs.Prelude.{◌≡◌, ◌*◌, ◌<◌, ◌≤◌, ◌∷◌, [], true, false, length, min, IfOk};
+ghost use Rattle.std.specs.Prelude.{IfSome, None, Ok, Some, vec_capacity};
+ghost use Rattle.sixel_base.specs.{CallFault.{FailsBy, RowsReleased}, Decoder.new_decoder};
+ghost use Rattle.sixel_decoder.specs.{Memory.most_capacity, Report.found_report};
+ghost use Rattle.icy_sixel.specs.{ImageView.image_value, ReceivedImages.received_report};
 ghost use Rattle.icy_sixel.specs.Receiver.{AreSettingsKept, OfPayload, OfString, found, idle};
-ghost use Rattle.icy_sixel.specs.Receiver.{is_open, start_of};
-ghost use Rattle.icy_sixel.specs.ReceiverCalls.{IsAborted, IsBegun, IsFed, IsFinished, whole_of};
+ghost use Rattle.icy_sixel.specs.{Receiver.{is_open, start_of}, ReceiverCalls.{IsAborted, IsBegun}};
+ghost use Rattle.icy_sixel.specs.ReceiverCalls.{IsFed, IsFinished, whole_of};
 ghost use Rattle.icy_sixel.specs.inside.Receiving.{reception_of};
 
 mod drawn;

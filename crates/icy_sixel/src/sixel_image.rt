@@ -1,10 +1,8 @@
 //! An image: its pixels, sizes, pixel shape and background.
 
-ghost use Rattle.std.specs.Prelude.{◌≡◌, ℕ, ◌+◌, ◌*◌, ◌<◌, ◌≤◌, ◌↔◌, length, slice_index, IsTrue};
-ghost use Rattle.std.specs.Prelude.{MatchOption, MatchResult, vec_capacity};
-ghost use Rattle.std.specs.Option.{option_or};
-ghost use Rattle.sixel_base.specs.Settings.{pad_of};
-ghost use Rattle.sixel_base.specs.Size.{size_fault, buffer_fault};
+ghost use Rattle.std.specs.{Option.option_or, Prelude.{◌≡◌, ℕ, ◌+◌, ◌*◌, ◌<◌, ◌≤◌, ◌↔◌, length}};
+ghost use Rattle.std.specs.Prelude.{slice_index, IsTrue, MatchOption, MatchResult, vec_capacity};
+ghost use Rattle.sixel_base.specs.{Settings.pad_of, Size.{size_fault, buffer_fault}};
 ghost use Rattle.sixel_decoder.specs.Memory.{most_capacity};
 
 mod encoding;

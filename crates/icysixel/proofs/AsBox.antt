@@ -1,16 +1,15 @@
 -- A pointer and its parts own what a box of the state owns.
-use Rattle.icysixel.proofs.Steps
-use Steps.{◌≡◌, true, [], Option, Some, arith, nat_tests, impl, tnil, dnil, Slot, plain}
-use Rattle.std.specs.Prelude.{is_some}
-use Rattle.std.proofs.alloc.Calls.{Al}
+use Rattle.std.{proofs.alloc.Calls.Al, specs.Prelude.is_some}
 use Rattle.std_alloc.proofs.BoxSteps.Form.{Bx}
-use Rattle.std_heap.specs.contracts.Global as Heap
 use Rattle.std_heap.specs.contracts.GlobalAllocator.TheImpl.{ghosts, dict}
+use Rattle.icysixel.proofs.Steps
+use Rattle.std_heap.specs.contracts.Global as Heap
 use Rattle.std_heap.proofs.Global.TheLaws as heap
 use Rattle.icysixel.specs.contracts.state.State as State
 use Rattle.icysixel.proofs.state.State.TheLaws as state
 use Rattle.icysixel.specs.contracts.state_pointer.box_parts.BoxParts as BoxParts
 use Rattle.icysixel.specs.contracts.state_pointer.StatePointer as StatePointer
+use Steps.{◌≡◌, true, [], Option, Some, arith, nat_tests, impl, tnil, dnil, Slot, plain}
 
 -- the allocator that an export has
 abbrev pub al : Al

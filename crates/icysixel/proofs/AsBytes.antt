@@ -1,15 +1,13 @@
 -- A vector of bytes at the allocator that an export has, and the fields of a block.
-use Rattle.icysixel.proofs.Steps
-use Steps.{ℕ, ◌<◌, ◌^◌, List, [], ◌∷◌, refl, Ura, Val, Logic, Item, Goal, Step, ‵, u8, Is}
-use Steps.{RattleType, owned, shape, to, Struct, Struct-Makes}
-use denote.Struct.Field.{u8-field}
+use denote.{Param.Laws.of_field, Param.Shared.copy_shared, Struct.Field.u8-field}
 use denote.Struct.Laws.{u8-laws, u8-copy}
-use denote.Param.Laws.{of_field}
-use denote.Param.Shared.{copy_shared}
 use Rattle.std_alloc.proofs.VecSteps.El.{El}
 use Rattle.icysixel.proofs.AsBox.{al}
+use Rattle.icysixel.proofs.Steps
 use Rattle.icysixel.specs.contracts.bytes.Bytes as Bytes
 use Rattle.icysixel.proofs.bytes.Bytes.TheLaws as laws
+use Steps.{ℕ, ◌<◌, ◌^◌, List, [], ◌∷◌, refl, Ura, Val, Logic, Item, Goal, Step, ‵, u8, Is}
+use Steps.{RattleType, owned, shape, to, Struct, Struct-Makes}
 
 abbrev pub E : El
 E = record {

@@ -1,18 +1,17 @@
 -- The codes of errors: of a call on an image and a palette, and of finishing an image, which finds
 -- no missing command.
 use Rattle.std.proofs.Common.{◌≡◌, ℕ, Bool, false, inl, inr, refl, arith, ◌≢◌, true, List}
-use Rattle.std.specs.Prelude.{Err, IsTrue, None, Ok, Option, Result, Some, IfErr, MatchBool}
-use Rattle.sixel_base.specs.CallFault.{CallFault, FailsBy, IsCallFault}
-use Rattle.sixel_base.specs.{declared.error.SixelError.SixelError, Limits.Limit}
+use Rattle.std.{proofs.lemmas.Bool.Decides.nat_tests, specs.Prelude.{Err, IsTrue, None, Ok, Option}}
+use Rattle.std.specs.Prelude.{Result, Some, IfErr, MatchBool}
+use Rattle.sixel_base.{specs.CallFault.{CallFault, FailsBy, IsCallFault}, specs.Fault.Fault}
+use Rattle.sixel_base.{specs.Fault.{Faults, IsFault, MissingCommand}, specs.Limits.Limit}
+use Rattle.sixel_base.specs.declared.error.SixelError.{SixelError}
 use Rattle.sixel_base.specs.declared.error.SixelError.TheVariants.{OutOfMemory}
-use Rattle.icysixel.specs.Code.{IsCallCode, IsCodeOf, fault_code}
-use Rattle.icysixel.specs.{Encodings.FailsByCode, Finish.IsFinished, Heights.IsStored}
-use Rattle.icysixel.specs.{declared.shape.Shape.Shape, declared.state.State.State}
-use Rattle.std.proofs.lemmas.Bool.Decides.{nat_tests}
-use Rattle.sixel_base.specs.Fault.{Fault, Faults, IsFault, MissingCommand}
+use Rattle.icysixel.{specs.Code.{IsCallCode, IsCodeOf, fault_code}, specs.Encodings.FailsByCode}
+use Rattle.icysixel.{specs.Finish.IsFinished, specs.Heights.IsStored}
+use Rattle.icysixel.{specs.declared.shape.Shape.Shape, specs.declared.state.State.State}
 use Rattle.sixel_decoder.specs.FinishedImages.{IsAgain, end_fault, end_wants, failed}
-use Rattle.icy_sixel.specs.Receiver.{Form, is_open}
-use Rattle.icy_sixel.proofs.StoredErrors.{end_other}
+use Rattle.icy_sixel.{proofs.StoredErrors.end_other, specs.Receiver.{Form, is_open}}
 use Rattle.icy_sixel.specs.declared.receiver.received_image.Height.{Height}
 use Rattle.icy_sixel.specs.declared.receiver.received_image.ReceivedImage.{ReceivedImage}
 

@@ -1,13 +1,12 @@
 -- Rows in the caller's memory: without gaps, read one below the other, and in RGBA.
 use Rattle.std.proofs.Common.{◌≡◌, ℕ, zero, suc, ◌+◌, ◌-◌, ◌*◌, List, ◌++◌, take, drop, ap, ◌∙◌}
-use Rattle.std.proofs.Common.{arith, ◌<◌, ◌≤◌, add-one, true, length, sym}
-use Rattle.std.proofs.{Math.Seq.take-add, lemmas.Bool.false≢true, lemmas.List.take_all}
+use Rattle.std.proofs.{Common.{arith, ◌<◌, ◌≤◌, add-one, true, length, sym}, Math.Seq.take-add}
+use Rattle.std.proofs.{lemmas.Bool.false≢true, lemmas.Bool.Decides.nat_tests, lemmas.List.take_all}
 use Rattle.sixel_base.specs.Picture.{joined}
-use Rattle.icysixel.specs.{Rows.rows_of, Rows.extent, Rows.wanted, declared.format.Format.Format}
-use Rattle.std.specs.Prelude.{Some, slice_range}
-use Rattle.std.proofs.lemmas.Bool.Decides.{nat_tests}
-use Rattle.icysixel.specs.Formats.{is_rgba, pixel_len, rgba_pixels}
+use Rattle.icysixel.specs.{Formats.{is_rgba, pixel_len, rgba_pixels}, Rows.{rows_of, extent}}
+use Rattle.icysixel.specs.{Rows.wanted, declared.format.Format.Format}
 use Rattle.icysixel.specs.declared.format.Format.TheVariants.{Rgba, Bgra, Rgb, Bgr, Indexed}
+use Rattle.std.specs.Prelude.{Some, slice_range}
 
 -- they are the bytes from the first on
 pub dense_rows : (wide height : ℕ) (bytes : List ℕ)

@@ -1,7 +1,6 @@
 -- How many witnesses a palette has.
 use Rattle.std.proofs.Common.{◌≡◌, ℕ, ◌+◌, ◌≤◌, List, [], ◌∷◌, length, ap, arith, inl, inr}
-use Rattle.std.proofs.{Common.length-append, lemmas.Bool.cases_lt}
-use Rattle.std.specs.Prelude.{min}
+use Rattle.std.{proofs.Common.length-append, proofs.lemmas.Bool.cases_lt, specs.Prelude.min}
 use Rattle.sixel_palette.specs.Palette.{IsShown, IsPalette, AreWitnesses, palette_room}
 
 -- at most one more than the bound of its entries

@@ -3,17 +3,15 @@
 -- the codes from 10 on are errors of sizes and data.
 use Rattle.std.specs.Prelude.{◌≡◌, ℕ, nat_le, ℤ, pos, negsuc, if◌then◌else◌, Option, Some, None}
 use Rattle.sixel_base.specs.CallFault.{CallFault, Exactly, ColorCount, IndexRange, RowsNotFinal}
-use Rattle.sixel_base.specs.CallFault.{RowsReleased, ShortStride}
-use Rattle.sixel_base.specs.Fault.{Fault, text_of, Malformed, TooLarge, MissingCommand, BadHeader}
-use Rattle.sixel_base.specs.Fault.{StreamFailed, DcsStreamFailed, Incomplete, NoIntroducer}
-use Rattle.sixel_base.specs.Fault.{Overflow}
-use Rattle.sixel_base.specs.Settings.{Settings}
-use Rattle.sixel_base.specs.declared.error.SixelError.{SixelError}
+use Rattle.sixel_base.specs.{CallFault.{RowsReleased, ShortStride}, Fault.{Fault, text_of}}
+use Rattle.sixel_base.specs.Fault.{Malformed, TooLarge, MissingCommand, BadHeader, StreamFailed}
+use Rattle.sixel_base.specs.Fault.{DcsStreamFailed, Incomplete, NoIntroducer, Overflow}
+use Rattle.sixel_base.specs.{Settings.Settings, declared.error.SixelError.SixelError}
+use Rattle.sixel_decoder.specs.declared.received.Status.{Status}
+use Rattle.sixel_decoder.specs.declared.received.Status.TheVariants.{Payload, Dcs}
 use Rattle.sixel_base.specs.declared.error.SixelError.TheVariants as error
 use Rattle.sixel_base.specs.declared.status.SixelFeedStatus.TheVariants as payload
 use Rattle.sixel_base.specs.declared.status.SixelDcsFeedStatus.TheVariants as string
-use Rattle.sixel_decoder.specs.declared.received.Status.{Status}
-use Rattle.sixel_decoder.specs.declared.received.Status.TheVariants.{Payload, Dcs}
 
 -- the code of a fault of data; no call of C returns the two of a stream that has failed
 abbrev pub fault_code : Fault → ℕ

@@ -1,13 +1,11 @@
 -- How C says that an image is encoded, and what the call does that encodes one. The numbers are
 -- this library's own, and include/icysixel.h names them.
-use Rattle.std.specs.Prelude.{◌≡◌, ◌≢◌, ◌*◌, ◌<◌, ◌≤◌, ◌==◌, ◌||◌, not, if◌then◌else◌, ℕ, nat_lt}
-use Rattle.std.specs.Prelude.{nat_le, ◌&&◌, List, [], length, slice_index_or, take, Bool, Option}
-use Rattle.std.specs.Prelude.{Some, None, IsTrue, ◌⊎◌, Result, Err, IfOk, IfErr, IsErrAnd}
-use Rattle.std.specs.Prelude.{MatchResult, String, string_bytes}
-use Rattle.std.specs.Option.{option_or}
+use Rattle.std.specs.{Option.option_or, Prelude.{◌≡◌, ◌≢◌, ◌*◌, ◌<◌, ◌≤◌, ◌==◌, ◌||◌, not}}
+use Rattle.std.specs.Prelude.{if◌then◌else◌, ℕ, nat_lt, nat_le, ◌&&◌, List, [], length}
+use Rattle.std.specs.Prelude.{slice_index_or, take, Bool, Option, Some, None, IsTrue, ◌⊎◌, Result}
+use Rattle.std.specs.Prelude.{Err, IfOk, IfErr, IsErrAnd, MatchResult, String, string_bytes}
 use Rattle.std.specs.declared.alloc.Global.{Global}
-use Rattle.sixel_base.specs.CallFault.{CallFault, color_count_fault}
-use Rattle.sixel_base.specs.Payload.{Image}
+use Rattle.sixel_base.specs.{CallFault.{CallFault, color_count_fault}, Payload.Image}
 use Rattle.sixel_base.specs.Size.{encode_fault}
 use Rattle.sixel_base.specs.declared.error.SixelError.{SixelError}
 use Rattle.sixel_base.specs.declared.settings.BackgroundMode.{BackgroundMode}
@@ -15,28 +13,23 @@ use Rattle.sixel_base.specs.declared.settings.BackgroundMode.TheVariants.{Opaque
 use Rattle.sixel_base.specs.declared.settings.PixelAspectRatio.{PixelAspectRatio}
 use Rattle.sixel_base.specs.declared.settings.PixelAspectRatio.TheVariants.{Ratio5To1, Ratio3To1}
 use Rattle.sixel_base.specs.declared.settings.PixelAspectRatio.TheVariants.{Ratio2To1, Square}
-use Rattle.sixel_encoder.specs.Form.{IsFormText}
-use Rattle.sixel_encoder.specs.IndexedDrawing.{IsPaletteText, IsTextOf, index_range_fault}
-use Rattle.sixel_encoder.specs.IndexedDrawing.{indexed_drawing}
+use Rattle.sixel_encoder.specs.{Form.IsFormText, IndexedDrawing.{IsPaletteText, IsTextOf}}
+use Rattle.sixel_encoder.specs.IndexedDrawing.{index_range_fault, indexed_drawing}
 use Rattle.sixel_encoder.specs.RefinedText.{IsBackgroundText, IsRefinedText}
-use Rattle.sixel_encoder.specs.declared.refined.Background.{Background}
-use Rattle.sixel_palette.specs.declared.dither.Amplitude.TheVariants as amplitude
-use Rattle.sixel_palette.specs.declared.dither.Dither.{Dither}
-use Rattle.sixel_palette.specs.declared.dither.Dither.TheVariants.{Off, Diffusion, Ordered}
-use Rattle.sixel_encoder.specs.declared.form.TextForm.{TextForm}
+use Rattle.sixel_encoder.specs.declared.{refined.Background.Background, form.TextForm.TextForm}
 use Rattle.sixel_encoder.specs.declared.form.TextForm.TheVariants.{Plain, Compact}
+use Rattle.sixel_palette.specs.declared.{dither.Dither.Dither, dither.Dither.TheVariants.Off}
+use Rattle.sixel_palette.specs.declared.dither.Dither.TheVariants.{Diffusion, Ordered}
 use Rattle.sixel_palette.specs.declared.mapping.Mapping.{Mapping}
 use Rattle.sixel_palette.specs.declared.mapping.Tolerance.TheVariants.{Auto, Squared}
-use Rattle.icysixel.specs.Code.{IsCallCode, IsCodeOf}
-use Rattle.icysixel.specs.Formats.{is_rgba, pixel_len, rgba_pixels}
+use Rattle.icysixel.specs.{Code.{IsCallCode, IsCodeOf}, Formats.{is_rgba, pixel_len, rgba_pixels}}
 use Rattle.icysixel.specs.Rows.{has_gaps, rows_of, stride_of, wanted}
-use Rattle.icysixel.specs.declared.bytes.Bytes.{Bytes}
-use Rattle.icysixel.specs.declared.encoding.Dithering.{Dithering}
-use Rattle.icysixel.specs.declared.encoding.Encoding.{Encoding}
-use Rattle.icysixel.specs.declared.encoding.PaletteMode.{PaletteMode}
+use Rattle.icysixel.specs.declared.{bytes.Bytes.Bytes, encoding.Dithering.Dithering}
+use Rattle.icysixel.specs.declared.{encoding.Encoding.Encoding, encoding.PaletteMode.PaletteMode}
 use Rattle.icysixel.specs.declared.encoding.PaletteMode.TheVariants.{Refined, Farthest, Given}
 use Rattle.icysixel.specs.declared.encoding.PaletteMode.TheVariants.{Indexed, OnBackground}
 use Rattle.icysixel.specs.declared.format.Format.{Format}
+use Rattle.sixel_palette.specs.declared.dither.Amplitude.TheVariants as amplitude
 use Rattle.icysixel.specs.declared.format.Format.TheVariants as format
 
 -- ---- numbers

@@ -2,17 +2,12 @@
 -- code. The facts are those of the receiver, by ReceiverCalls of icy_sixel.
 use Rattle.std.specs.Prelude.{ℕ, ◌≡◌, ◌≢◌, List, true, false, nat_lt, ◌==◌, ◌&&◌, if◌then◌else◌}
 use Rattle.std.specs.Prelude.{Result, MatchResult}
-use Rattle.icy_sixel.specs.Bands.{band_of}
-use Rattle.icy_sixel.specs.ReceivedRows.{rows_so_far}
-use Rattle.icy_sixel.specs.Receiver.{is_open}
-use Rattle.icy_sixel.specs.ReceiverCalls.{received}
-use Rattle.icy_sixel.specs.ReceiverCalls as receivers
-use Rattle.icy_sixel.specs.declared.receiver.FailedFeed.{FailedFeed}
+use Rattle.icy_sixel.specs.{Bands.band_of, ReceivedRows.rows_so_far, Receiver.is_open}
+use Rattle.icy_sixel.specs.{ReceiverCalls.received, declared.receiver.FailedFeed.FailedFeed}
 use Rattle.sixel_decoder.specs.declared.received.Received.{Received}
-use Rattle.icysixel.specs.Changes.{AreKept}
-use Rattle.icysixel.specs.Code.{IsCodeOf, status_code, status_byte}
-use Rattle.icysixel.specs.declared.state.State.{State}
-use Rattle.icysixel.specs.declared.stream.Fed.{Fed}
+use Rattle.icysixel.specs.{Changes.AreKept, Code.{IsCodeOf, status_code, status_byte}}
+use Rattle.icysixel.specs.{declared.state.State.State, declared.stream.Fed.Fed}
+use Rattle.icy_sixel.specs.ReceiverCalls as receivers
 
 -- what C receives of a feed
 abbrev pub fed_of : Received → Fed

@@ -1,16 +1,13 @@
 -- What finishing an image and decoding in one call do, as C sees them: the state before and after,
 -- what is reported, and the code. The facts are those of the receiver.
 use Rattle.std.specs.Prelude.{ℕ, ◌≡◌, true, false, None, Result, IfOk, min}
-use Rattle.sixel_base.specs.declared.error.SixelError.{SixelError}
-use Rattle.sixel_base.specs.OneShot.{Found}
+use Rattle.sixel_base.specs.{OneShot.Found, declared.error.SixelError.SixelError}
 use Rattle.icy_sixel.specs.ReceivedImages.{found_report, received_report}
 use Rattle.icy_sixel.specs.Receiver.{AreSettingsKept, found, is_open, is_over, no_image}
 use Rattle.icy_sixel.specs.ReceiverCalls.{whole_of}
-use Rattle.icy_sixel.specs.ReceiverCalls as receivers
 use Rattle.icy_sixel.specs.declared.receiver.received_image.ReceivedImage.{ReceivedImage}
-use Rattle.icysixel.specs.Heights.{IsStored}
-use Rattle.icysixel.specs.declared.shape.Shape.{Shape}
-use Rattle.icysixel.specs.declared.state.State.{State}
+use Rattle.icysixel.specs.{Heights.IsStored, declared.shape.Shape.Shape, declared.state.State.State}
+use Rattle.icy_sixel.specs.ReceiverCalls as receivers
 
 -- The open image was finished: what the receiver returned, which is stored and reported.
 pub record IsClosed (before after : State) (now : Shape) (code : ℕ) : Type 0 where

@@ -8,9 +8,7 @@ use Rattle.icy_sixel.specs.declared.receiver.received_image.Height.{Height}
 use Rattle.icy_sixel.specs.declared.receiver.received_image.Height.TheVariants.{Bands, Raster}
 use Rattle.icy_sixel.specs.declared.receiver.received_image.Height.TheVariants.{Drawn}
 use Rattle.icy_sixel.specs.declared.receiver.received_image.ReceivedImage.{ReceivedImage}
-use Rattle.icysixel.specs.Code.{IsCodeOf}
-use Rattle.icysixel.specs.Shape.{shape_of}
-use Rattle.icysixel.specs.declared.shape.Shape.{Shape}
+use Rattle.icysixel.specs.{Code.IsCodeOf, Shape.shape_of, declared.shape.Shape.Shape}
 
 -- whether the header names a height
 abbrev pub is_height : ℕ → Bool

@@ -5,22 +5,19 @@ use Rattle.std.specs.Prelude.{ℕ, ◌≡◌, ◌≢◌, ◌*◌, ◌/◌, ◌%�
 use Rattle.std.specs.Prelude.{nat_le, length, slice_index, true, false, Option, Some, None}
 use Rattle.std.specs.Prelude.{unwrap_or, Result, MatchResult}
 use Rattle.sixel_base.specs.CallFault.{CallFault, IsCallFault, RowsNotFinal, RowsReleased}
-use Rattle.sixel_base.specs.CallFault.{ShortStride}
-use Rattle.sixel_base.specs.declared.error.SixelError.{SixelError}
+use Rattle.sixel_base.specs.{CallFault.ShortStride, declared.error.SixelError.SixelError}
 use Rattle.sixel_base.specs.declared.error.SixelError.TheVariants.{BufferSizeMismatch}
 use Rattle.sixel_base.specs.declared.error.SixelError.TheVariants.{IntegerOverflow}
-use Rattle.icy_sixel.specs.ReceivedRows.{IsRowCopy, RowLayout, copy_fault, pixel_so_far, usize_max}
-use Rattle.icy_sixel.specs.ReceivedRows as receivers
-use Rattle.icy_sixel.specs.ReceivedImages.{received_fault, received_pixel}
+use Rattle.icy_sixel.specs.{ReceivedImages.{received_fault, received_pixel}, ReceivedRows.IsRowCopy}
+use Rattle.icy_sixel.specs.ReceivedRows.{RowLayout, copy_fault, pixel_so_far, usize_max}
 use Rattle.icy_sixel.specs.Receiver.{Reception, is_open, size}
 use Rattle.icy_sixel.specs.declared.receiver.received_image.ReceivedImage.{ReceivedImage}
 use Rattle.sixel_canvas.specs.Layout.{in_order, pixel_at}
 use Rattle.sixel_canvas.specs.declared.channels.ChannelOrder.{ChannelOrder}
 use Rattle.sixel_canvas.specs.declared.channels.ChannelOrder.TheVariants.{Rgba, Bgra}
-use Rattle.icysixel.specs.Changes.{AreKept}
-use Rattle.icysixel.specs.Rows.{stride_of}
-use Rattle.icysixel.specs.declared.layout.Layout.{Layout}
+use Rattle.icysixel.specs.{Changes.AreKept, Rows.stride_of, declared.layout.Layout.Layout}
 use Rattle.icysixel.specs.declared.state.State.{State}
+use Rattle.icy_sixel.specs.ReceivedRows as receivers
 
 -- whether the header names an order of channels
 abbrev pub is_order : ℕ → Bool

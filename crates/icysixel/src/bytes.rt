@@ -1,9 +1,7 @@
 //! A block of memory that the library transfers to its caller: `icysixel_bytes` of the header.
 
-ghost use Rattle.std.specs.Prelude.{◌≡◌, ◌≤◌, ℕ, List, [], length};
-ghost use Rattle.std.specs.Mem.{manually_drop_value};
-ghost use Rattle.icysixel.specs.Blocks.{IsNoBlock};
-ghost use Rattle.icysixel.specs.inside.Bytes.{bytes_own};
+ghost use Rattle.std.specs.{Mem.manually_drop_value, Prelude.{◌≡◌, ◌≤◌, ℕ, List, [], length}};
+ghost use Rattle.icysixel.specs.{Blocks.IsNoBlock, inside.Bytes.bytes_own};
 
 mod vec_parts;
 

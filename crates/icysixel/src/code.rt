@@ -1,8 +1,7 @@
 //! The numbers that C receives: result codes and statuses of a feed.
 
 ghost use Rattle.std.specs.Prelude.{◌≡◌, ◌≢◌};
-ghost use Rattle.sixel_base.specs.CallFault.{CallFault, IsCallFault};
-ghost use Rattle.sixel_base.specs.Fault.{Fault, IsFault};
+ghost use Rattle.sixel_base.specs.{CallFault.{CallFault, IsCallFault}, Fault.{Fault, IsFault}};
 ghost use Rattle.icysixel.specs.Code.{IsCallCode, IsCodeOf, fault_code, status_code, status_byte};
 
 use icy_sixel::script::Status;

@@ -1,8 +1,7 @@
 //! The call that counts the different colors of an image.
 
 ghost use Rattle.std.specs.Prelude.{◌≡◌, ◌≢◌, ◌↔◌, ℕ, List, min};
-ghost use Rattle.sixel_palette.specs.Palette.{HasSize, IsShown};
-ghost use Rattle.sixel_palette.specs.Refined.{IsRegisterColor};
+ghost use Rattle.sixel_palette.specs.{Palette.{HasSize, IsShown}, Refined.IsRegisterColor};
 
 use crate::code::{Code, code_of};
 use icy_sixel::count_colors;

@@ -2,9 +2,7 @@
 
 ghost use Rattle.std.specs.Prelude.{◌≡◌, ◌≢◌, None};
 ghost use Rattle.sixel_base.specs.OneShot.{Payload, found};
-ghost use Rattle.icysixel.specs.Changes.{Acts};
-ghost use Rattle.icysixel.specs.Code.{settings_of};
-ghost use Rattle.icysixel.specs.Finish.{IsDecoded};
+ghost use Rattle.icysixel.specs.{Changes.Acts, Code.settings_of, Finish.IsDecoded};
 
 use crate::code::Code;
 use crate::handle::Handle;

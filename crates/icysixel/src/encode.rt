@@ -1,9 +1,8 @@
 //! The call that encodes pixels in the caller's memory.
 
-ghost use Rattle.std.specs.Prelude.{◌≡◌, ◌≢◌, ◌*◌, ◌≤◌, None, not, length, IfOk, IfErr};
-ghost use Rattle.std.specs.Prelude.{true, false, string_bytes};
-ghost use Rattle.sixel_base.specs.Size.{encode_fault};
-ghost use Rattle.sixel_base.specs.CallFault.{FailsBy};
+ghost use Rattle.std.specs.Prelude.{◌≡◌, ◌≢◌, ◌*◌, ◌≤◌, None, not, length, IfOk, IfErr, true};
+ghost use Rattle.std.specs.Prelude.{false, string_bytes};
+ghost use Rattle.sixel_base.specs.{CallFault.FailsBy, Size.encode_fault};
 ghost use Rattle.sixel_encoder.specs.Encoding.{image_fault, source_value};
 ghost use Rattle.sixel_encoder.specs.IndexedDrawing.{index_count_fault};
 ghost use Rattle.icysixel.specs.Encodings.{FailsByCode, IsEncoded, IsRowsText, IsTextIn};

@@ -3,8 +3,7 @@
 ghost use Rattle.std.specs.Prelude.{◌≡◌, ◌≢◌, ◌/◌, ◌<◌, ◌≤◌, Some, None, true, false, length, take};
 ghost use Rattle.sixel_base.specs.CallFault.{CallFault};
 ghost use Rattle.sixel_palette.specs.Dithering.{AreDithered, indices_fault};
-ghost use Rattle.icysixel.specs.Code.{IsCallCode};
-ghost use Rattle.icysixel.specs.Encodings.{is_kind, mapping_of};
+ghost use Rattle.icysixel.specs.{Code.IsCallCode, Encodings.{is_kind, mapping_of}};
 ghost use Rattle.icysixel.specs.RefinedOutput.{IsSameAfter};
 
 use crate::code::{Code, code_of};

@@ -1,9 +1,8 @@
 //! The calls that report the progress of the open image.
 
 ghost use Rattle.std.specs.Prelude.{◌≡◌, ◌≢◌, Some, None, ℕ, true, false, cond, if◌then◌else◌};
+ghost use Rattle.icysixel.specs.{Changes.Reads, declared.state.State.State};
 ghost use Rattle.icy_sixel.specs.Receiver.{drawn_height, in_payload, is_open, size as size_of};
-ghost use Rattle.icysixel.specs.Changes.{Reads};
-ghost use Rattle.icysixel.specs.declared.state.State.{State};
 
 use crate::code::Code;
 use crate::handle::Handle;

@@ -1,8 +1,7 @@
 //! The call that refines the palette of an image.
 
 ghost use Rattle.std.specs.Prelude.{◌≡◌, ◌≢◌, ◌/◌, ◌%◌, ◌<◌, ◌≤◌, Some, None, length, take};
-ghost use Rattle.sixel_base.specs.CallFault.{ColorCount, color_count_fault};
-ghost use Rattle.sixel_base.specs.Limits.{area_limit};
+ghost use Rattle.sixel_base.specs.{CallFault.{ColorCount, color_count_fault}, Limits.area_limit};
 ghost use Rattle.icysixel.specs.RefinedOutput.{IsRefinedOutput, IsSameAfter, refined_room};
 
 use crate::choose_palette::buffers_code;

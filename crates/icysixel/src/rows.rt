@@ -2,9 +2,8 @@
 
 ghost use Rattle.std.specs.Prelude.{◌≡◌, ◌≢◌, Some, None, is_some, true, false};
 ghost use Rattle.icy_sixel.specs.ReceivedRows.{rows_so_far};
-ghost use Rattle.icysixel.specs.Changes.{Acts, Reads};
-ghost use Rattle.icysixel.specs.RowCopies.{AreRowsCopied, AreRowsReleased, is_order};
-ghost use Rattle.icysixel.specs.declared.state.State.{State};
+ghost use Rattle.icysixel.specs.{Changes.{Acts, Reads}, RowCopies.{AreRowsCopied, AreRowsReleased}};
+ghost use Rattle.icysixel.specs.{RowCopies.is_order, declared.state.State.State};
 
 use crate::code::Code;
 use crate::handle::Handle;

@@ -1,10 +1,8 @@
 //! The calls that copy, transfer and free the pixels of the stored image.
 
 ghost use Rattle.std.specs.Prelude.{◌≡◌, ◌≢◌, ◌≤◌, Some, None, is_some, true, false, []};
-ghost use Rattle.icysixel.specs.Blocks.{IsNoBlock};
-ghost use Rattle.icysixel.specs.Changes.{Acts};
-ghost use Rattle.icysixel.specs.RowCopies.{ArePixelsCopied, ArePixelsTaken, is_order};
-ghost use Rattle.icysixel.specs.declared.state.State.{State};
+ghost use Rattle.icysixel.specs.{Blocks.IsNoBlock, Changes.Acts, RowCopies.ArePixelsCopied};
+ghost use Rattle.icysixel.specs.{RowCopies.{ArePixelsTaken, is_order}, declared.state.State.State};
 
 use crate::bytes::Bytes;
 use crate::code::Code;

@@ -2,10 +2,8 @@
 
 ghost use Rattle.std.specs.Prelude.{◌≡◌, ◌≢◌, Some, None, false};
 ghost use Rattle.icy_sixel.specs.Receiver.{OfPayload, OfString, begun, is_open, no_image, start_of};
-ghost use Rattle.icysixel.specs.Changes.{Acts, IsOpened};
-ghost use Rattle.icysixel.specs.Code.{given, settings_of};
-ghost use Rattle.icysixel.specs.Feed.{IsBandFed, IsFed, fed_of};
-ghost use Rattle.icysixel.specs.Finish.{IsFinished};
+ghost use Rattle.icysixel.specs.{Changes.{Acts, IsOpened}, Code.{given, settings_of}};
+ghost use Rattle.icysixel.specs.{Feed.{IsBandFed, IsFed, fed_of}, Finish.IsFinished};
 ghost use Rattle.icysixel.specs.declared.state.State.{State};
 
 use crate::code::{Code, FeedStatus, code_of, status_byte, status_code};

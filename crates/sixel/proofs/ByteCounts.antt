@@ -1,8 +1,7 @@
 -- How many bytes of a list belong to a complete DCS sequence.
-use Rattle.std.proofs.Common.{◌≡◌, ℕ, ◌<◌, List, arith}
-use Rattle.sixel_base.specs.declared.status.SixelDcsFeedStatus.TheVariants.{Complete}
+use Rattle.std.proofs.{Common.{◌≡◌, ℕ, ◌<◌, List, arith}, lemmas.Bool.Decides.nat_tests}
 use Rattle.sixel_base.specs.Dcs.{Stage, stage, stage_count, stage_status, dcs_status, dcs_count}
-use Rattle.std.proofs.lemmas.Bool.Decides.{nat_tests}
+use Rattle.sixel_base.specs.declared.status.SixelDcsFeedStatus.TheVariants.{Complete}
 
 stage_counts : (bytes : List ℕ) (w : Stage) → stage_status w ≡ Complete → 0 < stage_count bytes w
 stage_counts bytes w is = grind (arith, nat_tests)

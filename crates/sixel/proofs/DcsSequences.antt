@@ -1,16 +1,11 @@
 -- What a session that was fed some of the bytes shows about the DCS sequence at their start.
-use Rattle.std.proofs.Common.{◌≡◌, ℕ, ◌<◌, Bool, true, false, List, [], ◌∷◌, ◌++◌, append-nil}
-use Rattle.std.proofs.Common.{refl, ap, sym, ◌∙◌, arith, length, take, drop, Option, Some, None}
-use Rattle.std.specs.Prelude.{◌==◌, if◌then◌else◌}
-use Rattle.std.specs.Option.{option_or}
-use Rattle.std.proofs.lemmas.Bool.Decides.{nat_tests}
-use Rattle.std.proofs.lemmas.List.{take-append-drop}
-use Rattle.sixel_base.specs.declared.error.SixelError.{SixelError}
-use Rattle.sixel_base.specs.Fault.{Fault, Faults}
-use Rattle.sixel_base.specs.Dcs.{dcs_status, dcs_fault, has_ended, end_fault}
-use Rattle.sixel_base.specs.Limits.{Limit}
-use Rattle.icy_sixel.specs.Receiver.{OfString}
-use Rattle.icy_sixel.specs.inside.Session.{IsWhole}
+use Rattle.std.proofs.Common.{◌≡◌, ℕ, ◌<◌, Bool, true, false, List, [], ◌∷◌, ◌++◌, append-nil, refl}
+use Rattle.std.proofs.Common.{ap, sym, ◌∙◌, arith, length, take, drop, Option, Some, None}
+use Rattle.std.proofs.{lemmas.Bool.Decides.nat_tests, lemmas.List.take-append-drop}
+use Rattle.std.specs.{Option.option_or, Prelude.{◌==◌, if◌then◌else◌}}
+use Rattle.sixel_base.specs.{Dcs.{dcs_status, dcs_fault, has_ended, end_fault}, Fault.Fault}
+use Rattle.sixel_base.specs.{Fault.Faults, Limits.Limit, declared.error.SixelError.SixelError}
+use Rattle.icy_sixel.specs.{Receiver.OfString, inside.Session.IsWhole}
 use Rattle.icy_sixel.proofs.Chunks.{rejoined, same}
 use Rattle.sixel.specs.Sequences.{sequence_fault}
 

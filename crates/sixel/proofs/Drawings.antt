@@ -1,10 +1,8 @@
 -- What is drawn of the image of a file, and what a call on it reports.
 use Rattle.std.proofs.Common.{◌≡◌, Option, None, Ok, List, ℕ, Result, arith}
-use Rattle.sixel_base.specs.Payload.{Image}
-use Rattle.sixel.specs.declared.netpbm.error.NetpbmError.{NetpbmError}
-use Rattle.sixel_base.specs.CallFault.{CallFault, FailsBy}
-use Rattle.sixel.specs.Drawing.{painting_read}
 use Rattle.std.proofs.lemmas.Bool.Decides.{nat_tests}
+use Rattle.sixel_base.specs.{CallFault.{CallFault, FailsBy}, Payload.Image}
+use Rattle.sixel.specs.{Drawing.painting_read, declared.netpbm.error.NetpbmError.NetpbmError}
 
 -- a call that returned a value has no fault
 pub no_call_fault : {X : Type 0} (fault : Option CallFault) (x : X) → FailsBy fault (Ok x)

@@ -1,10 +1,9 @@
 -- What files add to the output: those before a file, and that one.
-use Rattle.std.proofs.Common.{◌≡◌, ◌++◌, ℕ, List, [], ◌∷◌, IfSome, Option, Some, None}
-use Rattle.std.proofs.Common.{Err, append_assoc, append-nil, arith, max, refl, sym, inl, inr}
+use Rattle.std.proofs.Common.{◌≡◌, ◌++◌, ℕ, List, [], ◌∷◌, IfSome, Option, Some, None, Err}
+use Rattle.std.proofs.Common.{append_assoc, append-nil, arith, max, refl, sym, inl, inr}
 use Rattle.std.specs.Io.KnownBytes.{Appends}
-use Rattle.sixel.specs.Ending.{Ending, Done, Refused, Unreadable}
-use Rattle.sixel.specs.Files.{AreFileOutputs, IsFileOutput}
-use Rattle.sixel.specs.WorkOutput.{Begins, ServesPicture, Writes}
+use Rattle.sixel.specs.{Ending.{Ending, Done, Refused, Unreadable}, Files.AreFileOutputs}
+use Rattle.sixel.specs.{Files.IsFileOutput, WorkOutput.{Begins, ServesPicture, Writes}}
 use Rattle.sixel.specs.declared.fault.Fault.TheVariants.{Sixel, Input, Output}
 use Rattle.sixel.specs.declared.fault.PictureFault.{PictureFault}
 use Rattle.sixel.specs.declared.fault.PictureFault.TheVariants.{Shared, Netpbm}

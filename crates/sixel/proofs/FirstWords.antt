@@ -2,9 +2,8 @@
 use Rattle.std.proofs.Common.{◌≡◌, ◌≤◌, ◌<◌, ◌+◌, ◌-◌, List, [], ◌∷◌, ◌++◌, ℕ, arith, length}
 use Rattle.std.proofs.Common.{get_or, take, drop, string_bytes, String}
 use Rattle.std.specs.declared.alloc.Global.{Global}
-use Rattle.std.proofs.lemmas.List.{map-append, take_all, take_more}
+use Rattle.std.proofs.lemmas.{Bool.Decides.nat_tests, List.{map-append, take_all, take_more}}
 use Rattle.sixel.specs.Words.{words_of}
-use Rattle.std.proofs.lemmas.Bool.Decides.{nat_tests}
 
 -- the first two arguments, and those after them
 pub two_words : (words : List (String Global)) (name value : String Global) → 2 ≤ length words

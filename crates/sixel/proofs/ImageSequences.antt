@@ -1,27 +1,22 @@
 -- The output for DCS sequences, image by image.
 use Rattle.std.proofs.Common.{◌≡◌, ◌<◌, ◌++◌, ◌∷◌, ◌∙◌, List, None, Option, [], append-nil, ap}
-use Rattle.std.proofs.Common.{append_assoc, drop, length, length-drop, refl, Err, subst, sym}
-use Rattle.std.proofs.Common.{arith, true, ℕ}
-use Rattle.std.proofs.KnownBytes.{Appends-nil, Appends-trans}
+use Rattle.std.proofs.Common.{append_assoc, drop, length, length-drop, refl, Err, subst, sym, arith}
+use Rattle.std.proofs.{Common.{true, ℕ}, KnownBytes.{Appends-nil, Appends-trans}}
 use Rattle.std.proofs.lemmas.Bool.Decides.{nat_tests}
 use Rattle.std.specs.Io.KnownBytes.{Appends}
 use Rattle.sixel_base.specs.declared.error.SixelError.{SixelError}
-use Rattle.sixel_base.specs.declared.error.SixelError.TheVariants.{OutOfMemory}
-use Rattle.sixel_base.specs.Fault as data_fault
-use Rattle.sixel_base.specs.Payload.{Image}
-use Rattle.sixel_base.specs.Dcs.{dcs_count, dcs_status}
-use Rattle.sixel_base.specs.declared.state.DecoderState.{DecoderState}
+use Rattle.sixel_base.specs.{declared.error.SixelError.TheVariants.OutOfMemory, Payload.Image}
+use Rattle.sixel_base.specs.{Dcs.{dcs_count, dcs_status}, declared.state.DecoderState.DecoderState}
 use Rattle.sixel_base.specs.declared.status.SixelDcsFeedStatus.{SixelDcsFeedStatus}
 use Rattle.sixel_base.specs.declared.status.SixelDcsFeedStatus.TheVariants.{NeedMoreData, Complete}
 use Rattle.sixel_base.specs.declared.status.SixelDcsFeedStatus.TheVariants.{Cancelled, Interrupted}
-use Rattle.sixel.specs.declared.fault.Fault.{Fault}
-use Rattle.sixel.specs.declared.fault.Fault.TheVariants.{Sixel, Input, Output}
-use Rattle.sixel.specs.Form.{image_form}
-use Rattle.sixel.specs.Ending.{Ending, Done, Refused, Unreadable}
+use Rattle.sixel.specs.{Ending.{Ending, Done, Refused, Unreadable}, Form.image_form}
 use Rattle.sixel.specs.Sequences.{HasEnded, IsSequencesOutput, Over, Broken, Followed, rest_of}
-use Rattle.sixel.specs.Sequences.{rest_by, sequence_fault}
-use Rattle.sixel.specs.WorkOutput.{IsImageOutput, Begins, Serves, Writes}
+use Rattle.sixel.specs.{Sequences.{rest_by, sequence_fault}, WorkOutput.{IsImageOutput, Begins}}
+use Rattle.sixel.specs.{WorkOutput.{Serves, Writes}, declared.fault.Fault.Fault}
+use Rattle.sixel.specs.declared.fault.Fault.TheVariants.{Sixel, Input, Output}
 use Rattle.sixel.proofs.ByteCounts.{complete_counts}
+use Rattle.sixel_base.specs.Fault as data_fault
 
 -- The images before the rest were written, and an output for the rest completes that for all.
 pub record Leads (start : DecoderState) (bytes : List ℕ) (now : DecoderState) (rest : List ℕ)

@@ -3,20 +3,15 @@ use Rattle.std.proofs.Common.{◌≡◌, ◌++◌, IfSome, MatchResult, List, No
 use Rattle.std.proofs.Common.{[], arith, inl, refl, ℕ}
 use Rattle.std.proofs.lemmas.Bool.Decides.{nat_tests}
 use Rattle.sixel_base.specs.declared.error.SixelError.TheVariants.{OutOfMemory}
-use Rattle.sixel_base.specs.Decoder.{new_decoder}
-use Rattle.sixel.specs.declared.fault.Fault.{Fault}
-use Rattle.sixel.specs.declared.fault.Fault.TheVariants.{Sixel, Input, Output}
-use Rattle.sixel.specs.declared.words.Word.{Word}
-use Rattle.sixel.specs.declared.words.Word.TheVariants.{Payload, Decode, Frames, Encode}
-use Rattle.sixel.specs.Ending.{Ending, Done, Refused}
-use Rattle.sixel.specs.Sequences.{Broken}
-use Rattle.sixel_base.specs.Fault as data_fault
-use Rattle.sixel_base.specs.Payload.{Image}
-use Rattle.sixel.specs.WorkOutput.{IsImageOutput, IsOutput, IsWhole, Serves, ServesPicture}
-use Rattle.sixel.specs.WorkOutput.{ServesPictureInput}
+use Rattle.sixel_base.specs.{Decoder.new_decoder, Payload.Image}
+use Rattle.sixel.specs.declared.{fault.Fault.Fault, fault.Fault.TheVariants.{Sixel, Input, Output}}
 use Rattle.sixel.specs.declared.fault.PictureFault.{PictureFault}
-use Rattle.sixel.specs.declared.fault.PictureFault.TheVariants.{Shared}
+use Rattle.sixel.specs.declared.{fault.PictureFault.TheVariants.Shared, words.Word.Word}
+use Rattle.sixel.specs.declared.words.Word.TheVariants.{Payload, Decode, Frames, Encode}
+use Rattle.sixel.specs.{Ending.{Ending, Done, Refused}, Sequences.Broken, WorkOutput.IsImageOutput}
+use Rattle.sixel.specs.WorkOutput.{IsOutput, IsWhole, Serves, ServesPicture, ServesPictureInput}
 use Rattle.std.specs.Result.{IsErrAnd}
+use Rattle.sixel_base.specs.Fault as data_fault
 
 -- what was written of an output of one kind is of another
 pub Serves-map : {A : Type 0} (result : Result A Fault) (IsText IsOther : List ℕ → Ending → Type 0)

@@ -1,14 +1,10 @@
 -- What a writer has after a write of some bytes and then of the rest.
 use Rattle.std.proofs.Common.{◌≡◌, ◌++◌, ℕ, ◌+◌, ◌-◌, List, append_assoc, length, take, drop, refl}
-use Rattle.std.proofs.Common.{Err, take-add, Option, arith}
-use Rattle.std.proofs.lemmas.List.{take_rest}
-use Rattle.std.proofs.KnownBytes.{Appends-trans}
+use Rattle.std.proofs.{Common.{Err, take-add, Option, arith}, KnownBytes.Appends-trans}
+use Rattle.std.proofs.lemmas.{Bool.Decides.nat_tests, List.take_rest}
 use Rattle.std.specs.Io.KnownBytes.{Appends}
-use Rattle.sixel.specs.declared.fault.Fault.{Fault}
-use Rattle.sixel.specs.declared.fault.Fault.TheVariants.{Sixel, Input, Output}
-use Rattle.sixel.specs.Ending.{Done}
-use Rattle.sixel.specs.WorkOutput.{IsWhole, Serves}
-use Rattle.std.proofs.lemmas.Bool.Decides.{nat_tests}
+use Rattle.sixel.specs.declared.{fault.Fault.Fault, fault.Fault.TheVariants.{Sixel, Input, Output}}
+use Rattle.sixel.specs.{Ending.Done, WorkOutput.{IsWhole, Serves}}
 
 -- a write of what is left of the bytes goes on where the earlier ones stopped
 pub Appends-rest : (a b c : Option (List ℕ)) (bytes : List ℕ) (done count : ℕ)

@@ -1,23 +1,19 @@
 -- What `draw` writes for the image of a file: its SIXEL output in a refined palette or in that of a
 -- palette file, in the compact form. The defaults are this program's own.
-use Rattle.std.specs.Prelude.{◌≡◌, ◌⊎◌, ◌/◌, ℕ, List, [], length, map, max, min, Option}
-use Rattle.std.specs.Prelude.{Err, MatchOption, None, Ok, Result, Some}
-use Rattle.std.specs.List.{range_with_len}
-use Rattle.std.specs.Option.{unwrap_or}
-use Rattle.sixel.specs.netpbm.Image.{image_of}
-use Rattle.sixel.specs.declared.netpbm.error.NetpbmError.{NetpbmError}
-use Rattle.sixel.specs.declared.netpbm.error.NetpbmError.TheVariants.{OutOfMemory as NoMemory}
-use Rattle.sixel_base.specs.CallFault.{CallFault, IsCallFault}
-use Rattle.sixel_base.specs.declared.error.SixelError.TheVariants.{OutOfMemory}
-use Rattle.sixel_base.specs.Payload.{Image}
-use Rattle.sixel_palette.specs.Palette.{color_at}
-use Rattle.sixel_encoder.specs.IndexedDrawing.{IsPaletteText, palette_fault}
-use Rattle.sixel_encoder.specs.RefinedText.{IsRefinedText}
-use Rattle.sixel_palette.specs.declared.mapping.Mapping.{Mapping}
-use Rattle.sixel_encoder.specs.declared.form.TextForm.TheVariants.{Compact}
+use Rattle.std.specs.{List.range_with_len, Option.unwrap_or, Prelude.{◌≡◌, ◌⊎◌, ◌/◌, ℕ, List, []}}
+use Rattle.std.specs.Prelude.{length, map, max, min, Option, Err, MatchOption, None, Ok, Result}
+use Rattle.std.specs.Prelude.{Some}
+use Rattle.sixel.specs.Ending.{Ending, Done, Refused, Unreadable}
 use Rattle.sixel.specs.declared.draw.options.DrawPalette.{DrawPalette}
 use Rattle.sixel.specs.declared.draw.options.DrawPalette.TheVariants.{Standard, Refined, File}
-use Rattle.sixel.specs.Ending.{Ending, Done, Refused, Unreadable}
+use Rattle.sixel.specs.{declared.netpbm.error.NetpbmError.NetpbmError, netpbm.Image.image_of}
+use Rattle.sixel_base.specs.{CallFault.{CallFault, IsCallFault}, Payload.Image}
+use Rattle.sixel_base.specs.declared.error.SixelError.TheVariants.{OutOfMemory}
+use Rattle.sixel_palette.specs.{Palette.color_at, declared.mapping.Mapping.Mapping}
+use Rattle.sixel_encoder.specs.IndexedDrawing.{IsPaletteText, palette_fault}
+use Rattle.sixel_encoder.specs.RefinedText.{IsRefinedText}
+use Rattle.sixel_encoder.specs.declared.form.TextForm.TheVariants.{Compact}
+use Rattle.sixel.specs.declared.netpbm.error.NetpbmError.TheVariants.{OutOfMemory as NoMemory}
 
 -- What was read has the output of a call: a text, or an error with nothing written. The call is
 -- given by its fault and the texts that it can return.

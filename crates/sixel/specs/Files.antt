@@ -2,9 +2,7 @@
 -- and the statuses are this program's own. The content of a file is known where the host states it.
 use Rattle.std.specs.Prelude.{◌≡◌, ◌⊎◌, ℕ, zero, suc, max, List, [], ◌∷◌, ◌++◌, IfSome, Option}
 use Rattle.std.specs.Prelude.{Some, None}
-use Rattle.sixel.specs.Ending.{Ending, Done}
-use Rattle.sixel.specs.Options.{Stated}
-use Rattle.sixel.specs.WorkOutput.{Begins, IsPictureOutput}
+use Rattle.sixel.specs.{Ending.{Ending, Done}, Options.Stated, WorkOutput.{Begins, IsPictureOutput}}
 use Rattle.sixel.specs.declared.picture.PictureWord.TheVariants.{Draw}
 
 -- what a file adds to the output: with status 0 the whole output, else nothing or a beginning

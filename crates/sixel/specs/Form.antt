@@ -3,8 +3,7 @@
 -- parameters that a DCS sequence gives a shape and a background. The other is PAM, netpbm's format
 -- for raw channels: lines that name the sizes, from `P7` to `ENDHDR`, and the pixels.
 use Rattle.std.specs.Prelude.{ℕ, List, [], ◌∷◌, ◌++◌, codes, decimal}
-use Rattle.sixel_base.specs.Settings.{p1_of, p2_of}
-use Rattle.sixel_base.specs.Payload.{Image}
+use Rattle.sixel_base.specs.{Payload.Image, Settings.{p1_of, p2_of}}
 
 -- the byte that ends a line
 abbrev pub line_end : List ℕ

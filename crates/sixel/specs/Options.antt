@@ -1,24 +1,20 @@
 -- What the arguments after `draw` state: pairs of an option, whose name begins with `-`, and a
 -- value, of which the last one of a name counts, and then names of files. `-c` and `-p` contradict
 -- each other. They are this program's own.
-use Rattle.std.specs.Prelude.{◌∷◌, [], List, ℕ, codes, Option, None, Some, option_map, nat_lt}
-use Rattle.std.specs.Prelude.{if◌then◌else◌, Result, Ok, Err, Bool, false, ◌||◌}
-use Rattle.std.specs.Option.{ok_or, unwrap_or}
-use Rattle.std.specs.Str.{bytes_eq}
-use Rattle.std.specs.Str.Parse.{starts_with_minus}
-use Rattle.sixel_palette.specs.declared.dither.Amplitude.TheVariants as amplitudes
-use Rattle.sixel_palette.specs.declared.dither.Dither.{Dither}
-use Rattle.sixel_palette.specs.declared.dither.Dither.TheVariants as dithers
-use Rattle.sixel_palette.specs.declared.mapping.Mapping.{Mapping}
+use Rattle.std.specs.{Option.{ok_or, unwrap_or}, Prelude.{◌∷◌, [], List, ℕ, codes, Option, None}}
+use Rattle.std.specs.Prelude.{Some, option_map, nat_lt, if◌then◌else◌, Result, Ok, Err, Bool, false}
+use Rattle.std.specs.{Prelude.{◌||◌}, Str.bytes_eq, Str.Parse.starts_with_minus}
+use Rattle.sixel_palette.specs.{declared.dither.Dither.Dither, declared.mapping.Mapping.Mapping}
 use Rattle.sixel_palette.specs.declared.mapping.Tolerance.TheVariants.{Auto, Squared}
-use Rattle.sixel.specs.Number.{number_within}
+use Rattle.sixel.specs.{Number.number_within, declared.draw.option_fault.OptionFault.OptionFault}
 use Rattle.sixel.specs.declared.draw.options.DitherKind.{DitherKind}
 use Rattle.sixel.specs.declared.draw.options.DitherKind.TheVariants.{Off, Diffusion, Ordered}
 use Rattle.sixel.specs.declared.draw.options.DrawOptions.{DrawOptions}
 use Rattle.sixel.specs.declared.draw.options.DrawPalette.{DrawPalette}
-use Rattle.sixel.specs.declared.draw.options.TheConstants.{MAX_DISTANCE}
 use Rattle.sixel.specs.declared.draw.options.DrawPalette.TheVariants.{Standard, Refined, File}
-use Rattle.sixel.specs.declared.draw.option_fault.OptionFault.{OptionFault}
+use Rattle.sixel.specs.declared.draw.options.TheConstants.{MAX_DISTANCE}
+use Rattle.sixel_palette.specs.declared.dither.Amplitude.TheVariants as amplitudes
+use Rattle.sixel_palette.specs.declared.dither.Dither.TheVariants as dithers
 use Rattle.sixel.specs.declared.draw.option_fault.OptionFault.TheVariants as faults
 
 -- a palette, a strength and a tolerance that no option states, and diffusion

@@ -2,20 +2,15 @@
 -- each, until one ends early or no byte is left. It follows from the meaning of DCS sequences, and
 -- does not mention chunks. The order is this program's own: each image is written before the next
 -- sequence is read, and stays written if that one is rejected.
-use Rattle.std.specs.Prelude.{◌≡◌, ◌<◌, ℕ, true, List, [], ◌∷◌, ◌++◌, length, drop, Option, None}
-use Rattle.std.specs.Option.{option_or}
-use Rattle.sixel_base.specs.declared.error.SixelError.{SixelError}
-use Rattle.sixel_base.specs.Fault.{Fault, Faults}
-use Rattle.sixel_base.specs.Payload.{Image}
-use Rattle.sixel_base.specs.Decoder.{IsSetAs}
-use Rattle.sixel_base.specs.declared.state.DecoderState.{DecoderState}
+use Rattle.std.specs.{Option.option_or, Prelude.{◌≡◌, ◌<◌, ℕ, true, List, [], ◌∷◌, ◌++◌, length}}
+use Rattle.std.specs.Prelude.{drop, Option, None}
+use Rattle.sixel_base.specs.declared.{error.SixelError.SixelError, state.DecoderState.DecoderState}
 use Rattle.sixel_base.specs.declared.status.SixelDcsFeedStatus.{SixelDcsFeedStatus}
 use Rattle.sixel_base.specs.declared.status.SixelDcsFeedStatus.TheVariants.{Complete}
-use Rattle.sixel_base.specs.Dcs.{dcs_status, dcs_count, dcs_fault, end_fault}
-use Rattle.sixel_base.specs.Limits.{Limit}
-use Rattle.sixel_base.specs.OneShot.{found, IsFoundImage, AreFoundRegisters}
-use Rattle.sixel.specs.Form.{image_form}
-use Rattle.sixel.specs.Ending.{Ending, Done, Refused}
+use Rattle.sixel_base.specs.{Dcs.{dcs_status, dcs_count, dcs_fault, end_fault}, Decoder.IsSetAs}
+use Rattle.sixel_base.specs.{Fault.{Fault, Faults}, Limits.Limit, OneShot.{found, IsFoundImage}}
+use Rattle.sixel_base.specs.{OneShot.AreFoundRegisters, Payload.Image}
+use Rattle.sixel.specs.{Ending.{Ending, Done, Refused}, Form.image_form}
 
 -- why the sequence is rejected that the bytes begin with, if no more come after them: a fault, or
 -- an end that is missing

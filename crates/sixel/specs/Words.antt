@@ -3,18 +3,15 @@
 use Rattle.std.specs.Prelude.{◌≡◌, ◌<◌, ◌∷◌, [], List, ℕ, codes, map, None, Err, Ok, Option, Result}
 use Rattle.std.specs.Prelude.{Some, String, option_and_then, option_map, string_bytes}
 use Rattle.std.specs.declared.alloc.Global.{Global}
-use Rattle.sixel.specs.Number.{number_of, number_within}
-use Rattle.sixel.specs.Options.{Stated, Wrong, default_options, stated_by, wrong_of}
-use Rattle.sixel.specs.declared.draw.options.Drawing.{Drawing}
+use Rattle.sixel.specs.{Number.{number_of, number_within}, Options.{Stated, Wrong, default_options}}
+use Rattle.sixel.specs.Options.{stated_by, wrong_of}
 use Rattle.sixel.specs.declared.draw.option_fault.OptionFault.{OptionFault}
-use Rattle.sixel.specs.declared.notice.Notice.{Notice}
+use Rattle.sixel.specs.declared.{draw.options.Drawing.Drawing, notice.Notice.Notice}
 use Rattle.sixel.specs.declared.notice.Notice.TheVariants.{Help, Version}
 use Rattle.sixel.specs.declared.picture.PictureWord.{PictureWord}
-use Rattle.sixel.specs.declared.picture.PictureWord.TheVariants.{Pam, Draw}
-use Rattle.sixel.specs.declared.words.Word.{Word}
+use Rattle.sixel.specs.declared.{picture.PictureWord.TheVariants.{Pam, Draw}, words.Word.Word}
 use Rattle.sixel.specs.declared.words.Word.TheVariants.{Payload, Decode, Frames, Encode}
-use Rattle.sixel.specs.declared.work.Work.{Work}
-use Rattle.sixel.specs.declared.work.Work.TheVariants.{Data, Picture}
+use Rattle.sixel.specs.declared.{work.Work.Work, work.Work.TheVariants.{Data, Picture}}
 
 -- work on data that can be done: chunks have at least one byte
 abbrev pub IsServable : Word → Type 0

@@ -1,35 +1,27 @@
 -- What the program writes for its work and the bytes of its input, and how it ends: as the
 -- definitions of the data's meaning say, or with out of memory, which may come before any image.
 -- The order is this program's own: an image is written once it is whole.
-use Rattle.std.specs.Prelude.{◌≡◌, ◌⊎◌, ℕ, true, List, [], ◌++◌, IfSome, Option, None, Some, Result}
-use Rattle.std.specs.Prelude.{Ok, Err, String, string_bytes}
-use Rattle.std.specs.Io.KnownBytes.{Appends, Keeps}
+use Rattle.std.specs.{Io.KnownBytes.{Appends, Keeps}, Prelude.{◌≡◌, ◌⊎◌, ℕ, true, List, [], ◌++◌}}
+use Rattle.std.specs.Prelude.{IfSome, Option, None, Some, Result, Ok, Err, String, string_bytes}
 use Rattle.std.specs.declared.alloc.Global.{Global}
+use Rattle.sixel_base.specs.{Decoder.{new_decoder, origin_of}, OneShot.{no_settings, found}}
+use Rattle.sixel_base.specs.{OneShot.{found_fault, IsFoundImage}, Payload.{Image, payload_fault}}
+use Rattle.sixel_base.specs.{Payload.payload_image, Stroke.Origin}
 use Rattle.sixel_base.specs.declared.error.SixelError.TheVariants.{OutOfMemory}
-use Rattle.sixel_base.specs.Decoder.{new_decoder, origin_of}
-use Rattle.sixel_base.specs.Stroke.{Origin}
-use Rattle.sixel_base.specs.Fault as data_fault
-use Rattle.sixel_base.specs.Payload.{Image, payload_fault, payload_image}
 use Rattle.sixel_encoder.specs.Encoding.{image_fault, IsText, square_value}
-use Rattle.sixel_base.specs.OneShot.{no_settings, found, found_fault, IsFoundImage}
-use Rattle.sixel.specs.declared.fault.Fault.{Fault}
-use Rattle.sixel.specs.declared.fault.Fault.TheVariants.{Sixel, Input, Output}
-use Rattle.sixel.specs.declared.words.Word.{Word}
+use Rattle.sixel.specs.{declared.fault.Fault.Fault, declared.fault.Fault.TheVariants.{Sixel, Input}}
+use Rattle.sixel.specs.{declared.fault.Fault.TheVariants.Output, declared.words.Word.Word}
 use Rattle.sixel.specs.declared.words.Word.TheVariants.{Payload, Decode, Frames, Encode}
 use Rattle.sixel.specs.declared.fault.PictureFault.{PictureFault}
 use Rattle.sixel.specs.declared.fault.PictureFault.TheVariants.{Shared, Netpbm}
 use Rattle.sixel.specs.declared.picture.PictureWord.{PictureWord}
 use Rattle.sixel.specs.declared.picture.PictureWord.TheVariants.{Pam, Draw}
-use Rattle.sixel.specs.declared.response.Response.{Response}
+use Rattle.sixel.specs.{declared.response.Response.Response, declared.work.Work.Work}
+use Rattle.sixel.specs.{declared.work.Work.TheVariants.{Data, Picture}, Form.{image_form, pam_form}}
+use Rattle.sixel.specs.{Ending.{Ending, Done, Refused, Unreadable}, netpbm.Image.image_of}
+use Rattle.sixel.specs.{Drawing.IsDrawOutput, Options.mapping_of, Sequences.IsSequencesOutput}
+use Rattle.sixel_base.specs.Fault as data_fault
 use Rattle.sixel.specs.declared.response.Response.TheVariants.{Done as Completed, Usage, Failed}
-use Rattle.sixel.specs.declared.work.Work.{Work}
-use Rattle.sixel.specs.declared.work.Work.TheVariants.{Data, Picture}
-use Rattle.sixel.specs.Form.{image_form, pam_form}
-use Rattle.sixel.specs.Ending.{Ending, Done, Refused, Unreadable}
-use Rattle.sixel.specs.netpbm.Image.{image_of}
-use Rattle.sixel.specs.Drawing.{IsDrawOutput}
-use Rattle.sixel.specs.Options.{mapping_of}
-use Rattle.sixel.specs.Sequences.{IsSequencesOutput}
 
 -- what a writer contains grew by a text of this kind
 abbrev pub Writes : (List ℕ → Type 0) → Option (List ℕ) → Option (List ℕ) → Type 0

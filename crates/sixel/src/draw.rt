@@ -1,10 +1,8 @@
 //! The SIXEL output of the images of PAM, PPM and PGM files, by the options of `draw`.
 
 ghost use Rattle.std.specs.Prelude.{◌≡◌};
-ghost use Rattle.sixel.specs.Options.{mapping_of};
-ghost use Rattle.sixel.specs.WorkOutput.{Draws};
 ghost use Rattle.sixel.specs.Drawing.{IsDrawOutput, IsPaletteOutput, IsRefinedOutput};
-ghost use Rattle.sixel.specs.Drawing.{standard_limit};
+ghost use Rattle.sixel.specs.{Drawing.standard_limit, Options.mapping_of, WorkOutput.Draws};
 ghost use Rattle.sixel.specs.netpbm.Image.{image_of};
 
 pub mod files;

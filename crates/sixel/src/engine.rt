@@ -1,9 +1,7 @@
 //! The work of the program on its input, from the first byte to the output.
 
-ghost use Rattle.std.specs.Prelude.{OnOk};
-ghost use Rattle.std.specs.Io.KnownBytes.{IsAtEnd};
-ghost use Rattle.sixel.specs.Words.{IsServable};
-ghost use Rattle.sixel.specs.WorkOutput.{IsOutput, Serves, ServesInput};
+ghost use Rattle.std.specs.{Io.KnownBytes.IsAtEnd, Prelude.OnOk};
+ghost use Rattle.sixel.specs.{Words.IsServable, WorkOutput.{IsOutput, Serves, ServesInput}};
 
 use crate::fault::Fault;
 use crate::image_output::write_image;

@@ -3,8 +3,7 @@
 ghost use Rattle.std.specs.Prelude.{◌≡◌, MatchResult};
 ghost use Rattle.sixel.specs.declared.fault.PictureFault.{PictureFault};
 ghost use Rattle.sixel.specs.declared.response.Response.TheVariants.{Done, Usage, Failed};
-ghost use Rattle.sixel.specs.Words.{IsAskedBy, words_of};
-ghost use Rattle.sixel.specs.WorkOutput.{IsWorkOutput, Responds};
+ghost use Rattle.sixel.specs.{Words.{IsAskedBy, words_of}, WorkOutput.{IsWorkOutput, Responds}};
 
 use crate::engine::serve;
 use crate::fault::PictureFault;

@@ -1,22 +1,16 @@
 //! DCS sequences that follow one another, on one decoder.
 
-ghost use Rattle.std.specs.Prelude.{◌≡◌, ◌<◌, ◌≤◌, ◌+◌, ◌^◌, [], length, take, drop, true, false};
-ghost use Rattle.std.specs.Prelude.{None, IfOk, OnOk, IfErr, OnErr};
-ghost use Rattle.std.specs.Io.KnownBytes.{Appends};
-ghost use Rattle.sixel_base.specs.Decoder.{new_decoder, IsSetAs};
-ghost use Rattle.sixel_base.specs.Fault.{Faults};
-ghost use Rattle.sixel_base.specs.Dcs.{dcs_status, dcs_count, dcs_fault};
-ghost use Rattle.sixel_base.specs.Payload.{Image};
+ghost use Rattle.std.specs.{Io.KnownBytes.Appends, Prelude.{◌≡◌, ◌<◌, ◌≤◌, ◌+◌, ◌^◌, [], length}};
+ghost use Rattle.std.specs.Prelude.{take, drop, true, false, None, IfOk, OnOk, IfErr, OnErr};
+ghost use Rattle.sixel_base.specs.{Dcs.{dcs_status, dcs_count, dcs_fault}, Decoder.new_decoder};
+ghost use Rattle.sixel_base.specs.{Decoder.IsSetAs, Fault.Faults, OneShot.{found, IsFoundImage}};
+ghost use Rattle.sixel_base.specs.{OneShot.AreFoundRegisters, Payload.Image};
 ghost use Rattle.sixel_base.specs.declared.status.SixelDcsFeedStatus.{SixelDcsFeedStatus};
-ghost use Rattle.icy_sixel.specs.ImageView.{image_value};
-ghost use Rattle.icy_sixel.specs.Receiver.{AreSettingsKept, OfString, start_of};
-ghost use Rattle.icy_sixel.specs.inside.Session.{IsWhole};
+ghost use Rattle.icy_sixel.specs.{ImageView.image_value, Receiver.{AreSettingsKept, OfString}};
+ghost use Rattle.icy_sixel.specs.{Receiver.start_of, inside.Session.IsWhole};
 ghost use Rattle.sixel_decoder.specs.declared.received.Status.TheVariants.{Dcs};
-ghost use Rattle.sixel_base.specs.OneShot.{found, IsFoundImage, AreFoundRegisters};
-ghost use Rattle.sixel.specs.Sequences.{HasEnded, IsSequencesOutput, rest_by, rest_of};
-ghost use Rattle.sixel.specs.Sequences.{sequence_fault};
-ghost use Rattle.sixel.specs.Form.{image_form};
-ghost use Rattle.sixel.specs.WorkOutput.{Serves};
+ghost use Rattle.sixel.specs.{Form.image_form, Sequences.{HasEnded, IsSequencesOutput, rest_by}};
+ghost use Rattle.sixel.specs.{Sequences.{rest_of, sequence_fault}, WorkOutput.Serves};
 
 use crate::fault::Fault;
 use crate::image_output::write_image;

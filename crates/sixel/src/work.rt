@@ -1,8 +1,7 @@
 //! The work that all arguments ask for.
 
 ghost use Rattle.std.specs.Prelude.{IfSome, IfNone};
-ghost use Rattle.sixel.specs.declared.work.Work.{Work};
-ghost use Rattle.sixel.specs.Words.{IsAskedBy, IsDoable, words_of};
+ghost use Rattle.sixel.specs.{Words.{IsAskedBy, IsDoable, words_of}, declared.work.Work.Work};
 
 use crate::picture::{PictureWord, read_picture_word};
 use crate::words::{Word, read_word};

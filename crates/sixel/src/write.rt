@@ -3,8 +3,7 @@
 //! The clauses on bytes hold where the writer reports the bytes that it contains. An error of the
 //! writer, and a write of 0 bytes, is the fault `Output`, and is not retried.
 
-ghost use Rattle.std.specs.List.{concat};
-ghost use Rattle.std.specs.Prelude.{map};
+ghost use Rattle.std.specs.{List.concat, Prelude.map};
 ghost use Rattle.sixel.specs.WorkOutput.{IsWhole, Serves};
 
 use crate::fault::Fault;

@@ -1,7 +1,6 @@
 -- The table of default colors is the one that the rule of the registers gives.
 use Rattle.std.proofs.Common.{◌≡◌, ℕ, List, drop, map, get_or, refl}
-use Rattle.std.specs.List.{range_with_len}
-use Rattle.std.specs.Int.{to_be_bytes, w32}
+use Rattle.std.specs.{Int.{to_be_bytes, w32}, List.range_with_len}
 use Rattle.sixel_base.specs.declared.registers.defaults.TheConstants.{DEFAULT_CODES}
 use Rattle.sixel_base.specs.Color.{default_registers}
 

@@ -1,16 +1,11 @@
 -- How the fields of a text change as the text goes on by a digit or a semicolon.
 use Rattle.std.proofs.Common.{◌≡◌, ◌≢◌, ℕ, zero, suc, ◌+◌, ◌-◌, ◌*◌, ◌<◌, ◌≤◌, min, max, Bool, true}
 use Rattle.std.proofs.Common.{false, cond, ◌==◌, List, [], ◌∷◌, ◌++◌, map, length, get_or, refl}
-use Rattle.std.proofs.Common.{arith, rules, tests, length-append}
-use Rattle.std.proofs.lemmas.List.{map-append, length-map}
-use Rattle.std.specs.List.{slice_split, onto_first}
-use Rattle.std.specs.Char.{digit_value}
-use Rattle.std.proofs.lemmas.List.Splits.{length-slice_split}
-use Rattle.std.proofs.lemmas.Int.Digits.{digits_value_push}
-use Rattle.sixel_base.specs.Limits.{parameter_limit}
-use Rattle.sixel_base.specs.Fields.{fields, field, parameter}
-use Rattle.std.proofs.lemmas.Bool.Decides.{nat_tests}
-use Rattle.std.proofs.lemmas.Grind.{common_steps}
+use Rattle.std.proofs.{Common.{arith, rules, tests, length-append}, lemmas.Bool.Decides.nat_tests}
+use Rattle.std.proofs.{lemmas.Grind.common_steps, lemmas.Int.Digits.digits_value_push}
+use Rattle.std.proofs.{lemmas.List.{map-append, length-map}, lemmas.List.Splits.length-slice_split}
+use Rattle.std.specs.{Char.digit_value, List.{slice_split, onto_first}}
+use Rattle.sixel_base.specs.{Fields.{fields, field, parameter}, Limits.parameter_limit}
 
 -- the pieces, of which the last goes on by an element
 abbrev pub onto_last : ℕ → List (List ℕ) → List (List ℕ)

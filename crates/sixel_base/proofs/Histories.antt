@@ -2,12 +2,9 @@
 -- spelling of any gives it back.
 use Rattle.std.proofs.Common.{◌≡◌, ℕ, Bool, true, false, not, cond, List, [], ◌∷◌, ◌++◌, refl, ap}
 use Rattle.std.proofs.Common.{sym, ◌∙◌, arith, append_assoc, fold}
-use Rattle.std.specs.Prelude.{IsTrue, ◌||◌}
-use Rattle.std.specs.List.{list_all}
-use Rattle.std.proofs.lemmas.List.{append-nil}
+use Rattle.std.specs.{List.list_all, Prelude.{IsTrue, ◌||◌}}
+use Rattle.std.proofs.lemmas.{Bool.Decides.nat_tests, Grind.common_steps, List.append-nil}
 use Rattle.std.proofs.lemmas.List.Sums.{fold-append}
-use Rattle.std.proofs.lemmas.Bool.Decides.{nat_tests}
-use Rattle.std.proofs.lemmas.Grind.{common_steps}
 use Rattle.sixel_base.specs.Bytes.{is_ignored, is_terminator, is_digit, is_parameter, front}
 use Rattle.sixel_base.specs.History.{Token, Repeat, Raster, Color, History, start, text, spelling}
 use Rattle.sixel_base.specs.History.{spellings, IsToken, takes, goes_on, AreTokens, IsHistory}

@@ -1,13 +1,11 @@
 -- What the parameters of a text become as the text goes on by a byte.
 use Rattle.std.proofs.Common.{◌≡◌, ◌≢◌, ℕ, ◌+◌, ◌-◌, ◌<◌, ◌≤◌, min, max, List, [], ◌∷◌, ◌++◌}
-use Rattle.std.proofs.Common.{length, get_or, set, arith}
+use Rattle.std.proofs.{Common.{length, get_or, set, arith}, lemmas.Bool.Decides.nat_tests}
 use Rattle.std.proofs.lemmas.List.{get_or-set_same, get_or-set_other}
-use Rattle.sixel_base.specs.Fields.{fields, field}
-use Rattle.sixel_base.specs.inside.Parameters.{Parameters, Keeps}
+use Rattle.sixel_base.specs.{Fields.{fields, field}, inside.Parameters.{Parameters, Keeps}}
 use Rattle.sixel_base.proofs.Fields.{raised, length-on_last, get_or-on_last_same}
 use Rattle.sixel_base.proofs.Fields.{get_or-on_last_other, fields-push_digit}
 use Rattle.sixel_base.proofs.Fields.{length-fields-push_separator, field-push_separator}
-use Rattle.std.proofs.lemmas.Bool.Decides.{nat_tests}
 
 -- a semicolon counts a field more, and changes no value
 pub Keeps-push_separator : (old new : Parameters) → new.values ≡ old.values

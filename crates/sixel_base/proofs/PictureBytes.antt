@@ -1,14 +1,10 @@
 -- The bytes of a picture: its pixels, joined row by row.
 use Rattle.std.proofs.Common.{◌≡◌, ℕ, zero, suc, ◌+◌, ◌*◌, ◌<◌, List, ◌++◌, length, refl, sym, ap}
 use Rattle.std.proofs.Common.{◌∙◌, append_assoc, append-nil, length-append, add-zero, add-suc}
-use Rattle.std.proofs.Common.{arith}
+use Rattle.std.proofs.{Common.{arith, get_or}, Math.Nat.mul_comm, lemmas.Bool.cases_lt}
+use Rattle.std.proofs.{lemmas.Bool.Decides.nat_tests, lemmas.List.get_or_append_left}
+use Rattle.std.proofs.{lemmas.List.get_or-append-add, lemmas.Nat.mul-add-lt}
 use Rattle.sixel_base.specs.Picture.{joined}
-use Rattle.std.proofs.lemmas.Bool.Decides.{nat_tests}
-use Rattle.std.proofs.Common.{get_or}
-use Rattle.std.proofs.Math.Nat.{mul_comm}
-use Rattle.std.proofs.lemmas.Bool.{cases_lt}
-use Rattle.std.proofs.lemmas.Nat.{mul-add-lt}
-use Rattle.std.proofs.lemmas.List.{get_or_append_left, get_or-append-add}
 
 -- one more piece at the front
 pub joined-front : (f : ℕ → List ℕ) (n : ℕ) → joined f (suc n) ≡ f 0 ++ joined (λ k. f (suc k)) n

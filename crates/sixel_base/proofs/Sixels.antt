@@ -1,5 +1,4 @@
-use Rattle.std.proofs.Common.{◌≡◌, ℕ, ◌%◌, ◌^◌, false, ap}
-use Rattle.std.proofs.Math.Nat.{zero-div}
+use Rattle.std.proofs.{Common.{◌≡◌, ℕ, ◌%◌, ◌^◌, false, ap}, Math.Nat.zero-div}
 use Rattle.std.specs.Prelude.{◌==◌}
 use Rattle.sixel_base.specs.Picture.{is_set}
 

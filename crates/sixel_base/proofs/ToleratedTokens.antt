@@ -1,18 +1,12 @@
 -- The tokens that lenient decoding tolerates have no fault, and those of a history without a fault
 -- are all tolerated.
 use Rattle.std.proofs.Common.{◌≡◌, true, false, [], ◌∷◌, refl, ap, cond, Option, Some, None, ◌+◌}
-use Rattle.std.proofs.Common.{arith, ℕ, List}
-use Rattle.std.specs.Prelude.{min}
-use Rattle.sixel_base.specs.Stroke.{registers}
-use Rattle.std.specs.Option.{option_or}
-use Rattle.sixel_base.specs.Fault.{Fault}
-use Rattle.sixel_base.specs.History.{Token, History}
-use Rattle.sixel_base.specs.Limits.{Limit}
-use Rattle.sixel_base.specs.Payload.{fault_of, first_fault}
-use Rattle.sixel_base.specs.Lenient.{without, with_tolerated, tolerated, ignored, ignored_count}
-use Rattle.sixel_base.specs.Lenient.{count_limit, effective, fault}
-use Rattle.std.proofs.lemmas.Bool.Decides.{nat_tests}
-use Rattle.std.proofs.lemmas.Grind.{common_steps}
+use Rattle.std.{proofs.Common.{arith, ℕ, List}, proofs.lemmas.Bool.Decides.nat_tests}
+use Rattle.std.{proofs.lemmas.Grind.common_steps, specs.Option.option_or, specs.Prelude.min}
+use Rattle.sixel_base.{specs.Fault.Fault, specs.History.{Token, History}, specs.Lenient.without}
+use Rattle.sixel_base.specs.Lenient.{with_tolerated, tolerated, ignored, ignored_count, count_limit}
+use Rattle.sixel_base.{specs.Lenient.{effective, fault}, specs.Limits.Limit, specs.Payload.fault_of}
+use Rattle.sixel_base.{specs.Payload.first_fault, specs.Stroke.registers}
 
 -- the tokens that take effect where one is ignored have no fault of their own
 without-faultless : (limit : Limit) (token : Token) (older : History)

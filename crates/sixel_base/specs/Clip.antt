@@ -1,11 +1,9 @@
 -- What a clip leaves of a picture: the columns and rows from the top left corner on that are inside
 -- it. Nothing outside is drawn or stored. A clip has no effect on faults. The rule is this
 -- library's own.
-use Rattle.std.specs.Prelude.{ℕ, ◌+◌, ◌-◌, ◌%◌, ◌^◌, min, nat_le, nat_lt, Bool, ◌&&◌}
-use Rattle.std.specs.Prelude.{if◌then◌else◌, List}
-use Rattle.sixel_base.specs.History.{History}
-use Rattle.sixel_base.specs.Limits.{Limit}
-use Rattle.sixel_base.specs.Place.{across, down, width, height}
+use Rattle.std.specs.Prelude.{ℕ, ◌+◌, ◌-◌, ◌%◌, ◌^◌, min, nat_le, nat_lt, Bool, ◌&&◌, if◌then◌else◌}
+use Rattle.std.specs.Prelude.{List}
+use Rattle.sixel_base.specs.{History.History, Limits.Limit, Place.{across, down, width, height}}
 use Rattle.sixel_base.specs.Stroke.{Origin, background, pixel}
 
 -- the width and the height of what is inside

@@ -2,9 +2,8 @@
 -- blue, or hue, lightness and saturation as DEC's terminals place them (blue at 0 degrees), here as
 -- exact fractions, rounded half up. And the table of 256 registers that a terminal starts with:
 -- DEC's sixteen, then a color cube in steps of 20 percent, and grays from black to white.
-use Rattle.std.specs.Prelude.{ℕ, ◌+◌, ◌-◌, ◌*◌, ◌/◌, ◌%◌, min, nat_lt, ◌==◌, if◌then◌else◌, List}
-use Rattle.std.specs.Prelude.{[], ◌∷◌, map, slice_index_or}
-use Rattle.std.specs.List.{range_with_len}
+use Rattle.std.specs.{List.range_with_len, Prelude.{ℕ, ◌+◌, ◌-◌, ◌*◌, ◌/◌, ◌%◌, min, nat_lt, ◌==◌}}
+use Rattle.std.specs.Prelude.{if◌then◌else◌, List, [], ◌∷◌, map, slice_index_or}
 
 -- a percentage as a byte
 abbrev pub byte_of : ℕ → ℕ

@@ -2,21 +2,17 @@
 -- and after its `q` a payload. The payload ends at the string terminator, as one byte or as ESC and
 -- `\`. CAN or SUB cancels it. Another byte after ESC interrupts it, as another C1 control does,
 -- which is left to the caller. From DEC's device control strings.
-use Rattle.std.specs.Prelude.{ℕ, ◌≡◌, ◌+◌, ◌-◌, ◌==◌, Bool, true, false, ◌&&◌, ◌||◌}
-use Rattle.std.specs.Prelude.{if◌then◌else◌, List, [], ◌∷◌, length, Option, Some, None}
-use Rattle.sixel_base.specs.Fault.{Fault, NoIntroducer, Incomplete}
-use Rattle.sixel_base.specs.Bytes.{is_terminator, count, first_terminator}
-use Rattle.sixel_base.specs.Limits.{Limit}
-use Rattle.sixel_base.specs.Settings.{Settings}
-use Rattle.sixel_base.specs.Payload.{Image, fed_fault, settled, growths, payload_image}
-use Rattle.sixel_base.specs.Payload.{payload_registers}
+use Rattle.std.specs.Prelude.{ℕ, ◌≡◌, ◌+◌, ◌-◌, ◌==◌, Bool, true, false, ◌&&◌, ◌||◌, if◌then◌else◌}
+use Rattle.std.specs.Prelude.{List, [], ◌∷◌, length, Option, Some, None}
+use Rattle.sixel_base.specs.{Fault.{Fault, NoIntroducer, Incomplete}, Bytes.{is_terminator, count}}
+use Rattle.sixel_base.specs.{Bytes.first_terminator, Limits.Limit, Settings.Settings, Payload.Image}
+use Rattle.sixel_base.specs.Payload.{fed_fault, settled, growths, payload_image, payload_registers}
+use Rattle.sixel_base.specs.{PaintedArea.{payload_painted_area, payload_size}, Decoder.origin_of}
+use Rattle.sixel_base.specs.Header.{Headed, Open, Begun, Faulty, headed, header_text, settings_of}
+use Rattle.sixel_base.specs.declared.state.DecoderState.{DecoderState}
 use Rattle.sixel_base.specs.declared.status.SixelDcsFeedStatus.{SixelDcsFeedStatus}
 use Rattle.sixel_base.specs.declared.status.SixelDcsFeedStatus.TheVariants.{NeedMoreData, Complete}
 use Rattle.sixel_base.specs.declared.status.SixelDcsFeedStatus.TheVariants.{Cancelled, Interrupted}
-use Rattle.sixel_base.specs.PaintedArea.{payload_painted_area, payload_size}
-use Rattle.sixel_base.specs.Decoder.{origin_of}
-use Rattle.sixel_base.specs.declared.state.DecoderState.{DecoderState}
-use Rattle.sixel_base.specs.Header.{Headed, Open, Begun, Faulty, headed, header_text, settings_of}
 
 -- whether the introducer came: not yet, never, or these bytes follow it
 pub data Introduced : Type 0 where

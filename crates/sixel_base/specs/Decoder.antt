@@ -2,10 +2,8 @@
 -- and what its host has set: whether images are cropped to their raster attributes, and which
 -- pixels one may have. The last two are this library's own.
 use Rattle.std.specs.Prelude.{ℕ, ◌≡◌, min, max, Bool, false}
-use Rattle.sixel_base.specs.Settings.{Settings}
-use Rattle.sixel_base.specs.Color.{default_registers}
-use Rattle.sixel_base.specs.Stroke.{Origin}
-use Rattle.sixel_base.specs.Limits.{area_limit, side_limit, whole_limit}
+use Rattle.sixel_base.specs.{Color.default_registers, Limits.{area_limit, side_limit, whole_limit}}
+use Rattle.sixel_base.specs.{Settings.Settings, Stroke.Origin}
 use Rattle.sixel_base.specs.declared.state.DecoderState.{DecoderState}
 
 -- the limit of pixels that a host gets who asks for `pixels`: at least one, at most the limit of a

@@ -3,11 +3,8 @@
 -- library's own; where sixels are drawn, by DEC's manual, is in Place.
 use Rattle.std.specs.Prelude.{ℕ, zero, suc, ◌+◌, max, min, nat_lt, Bool, if◌then◌else◌, List, []}
 use Rattle.std.specs.Prelude.{◌∷◌}
-use Rattle.sixel_base.specs.Dcs.{Stage, Heading, Failing, Reading}
-use Rattle.sixel_base.specs.History.{Sixel, History}
-use Rattle.sixel_base.specs.Picture.{is_set}
-use Rattle.sixel_base.specs.Limits.{Limit}
-use Rattle.sixel_base.specs.Payload.{image_height, tokens}
+use Rattle.sixel_base.specs.{Dcs.{Stage, Heading, Failing, Reading}, History.{Sixel, History}}
+use Rattle.sixel_base.specs.{Limits.Limit, Payload.{image_height, tokens}, Picture.is_set}
 use Rattle.sixel_base.specs.Place.{down}
 
 -- the last of the first k rows that a sixel with these bits sets, plus one, or 0 if there is none

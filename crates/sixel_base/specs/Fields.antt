@@ -2,8 +2,7 @@
 -- other the lesser of its decimal value and the limit. This is the parameter string of DEC's
 -- control functions with a limit of our own.
 use Rattle.sixel_base.specs.Limits.{parameter_limit}
-use Rattle.std.specs.Prelude.{ℕ, ◌==◌, min, List, [], ◌∷◌, map, slice_index}
-use Rattle.std.specs.List.{slice_split}
+use Rattle.std.specs.{List.slice_split, Prelude.{ℕ, ◌==◌, min, List, [], ◌∷◌, map, slice_index}}
 use Rattle.std.specs.Str.Parse.{digits_value}
 
 -- the value of one field of digits

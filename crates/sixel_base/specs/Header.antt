@@ -3,11 +3,9 @@
 -- each at most `header_limit` here.
 use Rattle.std.specs.Prelude.{ℕ, ◌==◌, nat_lt, min, Bool, ◌||◌, if◌then◌else◌, List, [], ◌∷◌}
 use Rattle.std.specs.Prelude.{length, Option, Some, None}
-use Rattle.sixel_base.specs.Limits.{header_limit}
-use Rattle.sixel_base.specs.Fault.{Fault, Malformed, BadHeader}
-use Rattle.sixel_base.specs.Bytes.{is_parameter, is_ignored, is_terminator, carrying}
-use Rattle.sixel_base.specs.Fields.{fields, field}
-use Rattle.sixel_base.specs.Settings.{Settings}
+use Rattle.sixel_base.specs.{Bytes.{is_parameter, is_ignored, is_terminator, carrying}, Fault.Fault}
+use Rattle.sixel_base.specs.{Fault.{Malformed, BadHeader}, Fields.{fields, field}}
+use Rattle.sixel_base.specs.{Limits.header_limit, Settings.Settings}
 
 -- a byte that a header may have before its `q`
 abbrev pub is_header : ℕ → Bool

@@ -2,9 +2,8 @@
 -- of bytes. A history is the tokens newest first, so that "the last one before" is a recursion. The
 -- commands are those of DEC's sixel data: repeat introducer, raster attributes, color introducer,
 -- graphics carriage return and graphics new line.
-use Rattle.std.specs.Prelude.{ℕ, ◌+◌, ◌-◌, ◌<◌, ◌==◌, ◌≡◌, Bool, false, if◌then◌else◌, List, []}
-use Rattle.std.specs.Prelude.{◌∷◌, ◌++◌, IsTrue, fold}
-use Rattle.std.specs.List.{list_all}
+use Rattle.std.specs.{List.list_all, Prelude.{ℕ, ◌+◌, ◌-◌, ◌<◌, ◌==◌, ◌≡◌, Bool, false}}
+use Rattle.std.specs.Prelude.{if◌then◌else◌, List, [], ◌∷◌, ◌++◌, IsTrue, fold}
 use Rattle.sixel_base.specs.Bytes.{is_sixel, is_digit, is_parameter, is_skipped}
 
 -- A sixel by its six bits, a command by the text of its parameters, a byte that is skipped.

@@ -2,9 +2,7 @@
 -- tolerated take effect. A sixel that is ignored leaves a repeat of one column, so that its own
 -- repeat does not pass on to the next sixel. The rule is this library's own.
 use Rattle.std.specs.Prelude.{ℕ, ◌+◌, min, [], ◌∷◌, Option, None, is_none, if◌then◌else◌}
-use Rattle.sixel_base.specs.Fault.{Fault}
-use Rattle.sixel_base.specs.History.{Token, Sixel, Repeat, History}
-use Rattle.sixel_base.specs.Limits.{Limit}
+use Rattle.sixel_base.specs.{Fault.Fault, History.{Token, Sixel, Repeat, History}, Limits.Limit}
 use Rattle.sixel_base.specs.TokenFaults.{fault_of, first_fault}
 
 -- the tokens that take effect where this one is ignored

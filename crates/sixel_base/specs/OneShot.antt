@@ -3,14 +3,11 @@
 -- first terminator or the end. Without an introducer all bytes are a payload.
 use Rattle.std.specs.Prelude.{ℕ, ◌≡◌, ◌==◌, Bool, false, ◌&&◌, if◌then◌else◌, List, [], ◌∷◌, Option}
 use Rattle.std.specs.Prelude.{Some, None}
-use Rattle.sixel_base.specs.Fault.{Fault, MissingCommand}
-use Rattle.sixel_base.specs.Limits.{Limit}
-use Rattle.sixel_base.specs.Settings.{Settings}
-use Rattle.sixel_base.specs.Payload.{Image, payload_fault, payload_image, payload_registers}
-use Rattle.sixel_base.specs.Payload.{payload_wants}
-use Rattle.sixel_base.specs.Decoder.{origin_of}
+use Rattle.sixel_base.specs.{Decoder.origin_of, Fault.{Fault, MissingCommand}, Header.Headed}
+use Rattle.sixel_base.specs.Header.{Open, Begun, Faulty, headed, header_text, settings_of}
+use Rattle.sixel_base.specs.{Limits.Limit, Payload.{Image, payload_fault, payload_image}}
+use Rattle.sixel_base.specs.{Payload.{payload_registers, payload_wants}, Settings.Settings}
 use Rattle.sixel_base.specs.declared.state.DecoderState.{DecoderState}
-use Rattle.sixel_base.specs.Header.{Headed, Open, Begun, Faulty, headed, header_text, settings_of}
 
 -- whether a list begins with `P`
 abbrev pub begins_with_p : List ℕ → Bool

@@ -3,12 +3,9 @@
 -- this library's own, and does not depend on how pixels are stored. Where sixels are drawn, by
 -- DEC's manual, is in Place.
 use Rattle.std.specs.Prelude.{ℕ, ◌+◌, max, min, ◌&&◌, if◌then◌else◌, List, [], ◌∷◌}
-use Rattle.sixel_base.specs.History.{Sixel, History}
-use Rattle.sixel_base.specs.Picture.{is_struck, total}
-use Rattle.sixel_base.specs.Place.{span, across, down, height}
 use Rattle.sixel_base.specs.Clip.{clipped_bits, clipped_height, clipped_width, is_inside}
-use Rattle.sixel_base.specs.Limits.{Limit}
-use Rattle.sixel_base.specs.Payload.{settled_tokens}
+use Rattle.sixel_base.specs.{History.{Sixel, History}, Limits.Limit, Payload.settled_tokens}
+use Rattle.sixel_base.specs.{Picture.{is_struck, total}, Place.{span, across, down, height}}
 
 -- the greatest right edge of a sixel that covers a pixel of the row, 0 where none does
 abbrev pub row_extent : Limit → History → ℕ → ℕ

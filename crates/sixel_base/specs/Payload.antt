@@ -3,20 +3,15 @@
 -- The limits are this library's own.
 use Rattle.std.specs.Prelude.{ℕ, Bool, ◌+◌, ◌*◌, nat_lt, ◌&&◌, ◌||◌, if◌then◌else◌, List, [], ◌∷◌}
 use Rattle.std.specs.Prelude.{Option, is_none, min}
-use Rattle.sixel_base.specs.Limits.{Limit}
-pub use Rattle.sixel_base.specs.Limits.{area_limit}
-pub use Rattle.sixel_base.specs.TokenFaults.{area_fault, extent_fault, fault_of, first_fault}
-use Rattle.sixel_base.specs.Lenient.{fault, effective}
+use Rattle.sixel_base.specs.{Bytes.{front, is_terminated}, Clip.clipped_width, Fault.Fault}
+use Rattle.sixel_base.specs.History.{Sixel, Repeat, Raster, Color, History, history_of}
+use Rattle.sixel_base.specs.{Lenient.{fault, effective}, Limits.Limit, Picture.picture, Place.width}
+use Rattle.sixel_base.specs.{Place.{height, raster_height}, Settings.{mode_of, ratio_of}}
+use Rattle.sixel_base.specs.Stroke.{Origin, pixel, ratio, registers}
 use Rattle.sixel_base.specs.declared.settings.BackgroundMode.{BackgroundMode}
 use Rattle.sixel_base.specs.declared.settings.PixelAspectRatio.{PixelAspectRatio}
-use Rattle.sixel_base.specs.Settings.{mode_of, ratio_of}
-use Rattle.sixel_base.specs.Fault.{Fault}
-use Rattle.sixel_base.specs.Clip.{clipped_width}
-use Rattle.sixel_base.specs.Picture.{picture}
-use Rattle.sixel_base.specs.Bytes.{front, is_terminated}
-use Rattle.sixel_base.specs.History.{Sixel, Repeat, Raster, Color, History, history_of}
-use Rattle.sixel_base.specs.Place.{width, height, raster_height}
-use Rattle.sixel_base.specs.Stroke.{Origin, pixel, ratio, registers}
+pub use Rattle.sixel_base.specs.Limits.{area_limit}
+pub use Rattle.sixel_base.specs.TokenFaults.{area_fault, extent_fault, fault_of, first_fault}
 
 -- the tokens but a newest one that could go on
 abbrev pub closed : History → History

@@ -1,11 +1,9 @@
 -- Which sizes an image may have: none is zero, its bytes can be counted, and where it is to be
 -- encoded it stays within the limits with its height rounded up to whole bands of six rows, so that
 -- it can be decoded again. The limits are this library's own.
-use Rattle.std.specs.Prelude.{ℕ, ◌+◌, ◌*◌, ◌/◌, ◌==◌, nat_lt, ◌||◌, if◌then◌else◌, Option, Some}
-use Rattle.std.specs.Prelude.{None, Result, Ok, Err}
-use Rattle.std.specs.Option.{option_or}
-use Rattle.sixel_base.specs.Limits.{side_limit, area_limit}
-use Rattle.sixel_base.specs.declared.error.SixelError.{SixelError}
+use Rattle.std.specs.{Option.option_or, Prelude.{ℕ, ◌+◌, ◌*◌, ◌/◌, ◌==◌, nat_lt, ◌||◌}}
+use Rattle.std.specs.Prelude.{if◌then◌else◌, Option, Some, None, Result, Ok, Err}
+use Rattle.sixel_base.specs.{Limits.{side_limit, area_limit}, declared.error.SixelError.SixelError}
 use Rattle.sixel_base.specs.declared.error.SixelError.TheVariants.{InvalidDimensions}
 use Rattle.sixel_base.specs.declared.error.SixelError.TheVariants.{BufferSizeMismatch}
 use Rattle.sixel_base.specs.declared.error.SixelError.TheVariants.{IntegerOverflow}

@@ -8,13 +8,9 @@ use Rattle.sixel_base.specs.declared.settings.BackgroundMode.TheVariants.{Opaque
 use Rattle.sixel_base.specs.declared.settings.PixelAspectRatio.{PixelAspectRatio}
 use Rattle.sixel_base.specs.declared.settings.PixelAspectRatio.TheVariants.{Ratio5To1, Ratio3To1}
 use Rattle.sixel_base.specs.declared.settings.PixelAspectRatio.TheVariants.{Ratio2To1, Square}
-use Rattle.sixel_base.specs.Settings.{Settings, mode_of}
-use Rattle.sixel_base.specs.Fields.{fields, field}
-use Rattle.sixel_base.specs.Color.{rgb, hls}
-use Rattle.sixel_base.specs.Picture.{covers}
-use Rattle.sixel_base.specs.History.{Sixel, Raster, Color, History}
-use Rattle.sixel_base.specs.Limits.{Limit}
-use Rattle.sixel_base.specs.Place.{span, across, down}
+use Rattle.sixel_base.specs.{Color.{rgb, hls}, Fields.{fields, field}, History.{Sixel, Raster}}
+use Rattle.sixel_base.specs.{History.{Color, History}, Limits.Limit, Picture.covers, Place.span}
+use Rattle.sixel_base.specs.{Place.{across, down}, Settings.{Settings, mode_of}}
 
 -- the register that a color introducer selects
 abbrev pub named_by : List ℕ → ℕ

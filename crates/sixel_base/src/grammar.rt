@@ -1,8 +1,7 @@
 //! The law that the bytes of a payload divide into tokens in one way.
 
 ghost use Rattle.std.specs.Prelude.{◌≡◌, ℕ, List};
-ghost use Rattle.sixel_base.specs.Bytes.{front};
-ghost use Rattle.sixel_base.specs.History.{History, IsHistory, history_of};
+ghost use Rattle.sixel_base.specs.{Bytes.front, History.{History, IsHistory, history_of}};
 
 /// States that a payload has exactly one history of sixels and commands.
 ///

@@ -1,9 +1,7 @@
 //! The laws of lenient decoding, stated by a function with an empty body.
 
 ghost use Rattle.std.specs.Prelude.{◌≡◌, ◌↔◌, None};
-ghost use Rattle.sixel_base.specs.History.{History};
-ghost use Rattle.sixel_base.specs.Lenient.{ignored, tolerated};
-ghost use Rattle.sixel_base.specs.Limits.{Limit};
+ghost use Rattle.sixel_base.specs.{History.History, Lenient.{ignored, tolerated}, Limits.Limit};
 ghost use Rattle.sixel_base.specs.Payload.{first_fault};
 
 /// States which tokens of a payload lenient decoding ignores.

@@ -1,8 +1,7 @@
 //! Whether a payload or a DCS sequence has ended.
 
 ghost use Rattle.std.specs.Prelude.{◌≡◌};
-ghost use Rattle.sixel_base.specs.Dcs.{has_ended};
-ghost use Rattle.sixel_base.specs.Status.{status_of};
+ghost use Rattle.sixel_base.specs.{Dcs.has_ended, Status.status_of};
 
 /// Whether a payload has ended, as far as it was fed.
 #[derive(Clone, Copy, Debug, PartialEq, Eq)]

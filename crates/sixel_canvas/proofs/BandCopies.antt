@@ -1,9 +1,8 @@
 -- A part of a row of a band that is drawn by a copy of the same part of a row above it.
 use Rattle.std.proofs.Common.{◌≡◌, ℕ, ◌+◌, ◌-◌, ◌*◌, ◌<◌, ◌≤◌, List, [], get_or, true, arith}
-use Rattle.std.specs.Prelude.{nat_lt, ◌&&◌, if◌then◌else◌}
+use Rattle.std.{proofs.lemmas.Bool.Decides.nat_tests, specs.Prelude.{nat_lt, ◌&&◌, if◌then◌else◌}}
 use Rattle.sixel_base.specs.Picture.{covers, is_set}
 use Rattle.sixel_canvas.specs.inside.Band.{stored}
-use Rattle.std.proofs.lemmas.Bool.Decides.{nat_tests}
 
 -- a row that begins before another one is above it
 pub row_above : (wide from bit first : ℕ) → first * wide + from < bit * wide + from → first < bit

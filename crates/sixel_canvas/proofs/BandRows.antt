@@ -2,18 +2,14 @@
 -- width do to a pixel.
 use Rattle.std.proofs.Common.{◌≡◌, ℕ, ◌+◌, ◌*◌, ◌<◌, ◌≤◌, Bool, true, false, List, ◌++◌, length}
 use Rattle.std.proofs.Common.{get_or, take, drop, replicate, refl, ap, ◌∙◌, length-take}
-use Rattle.std.proofs.Common.{get_or-take, get_or-drop, arith}
+use Rattle.std.proofs.{Common.{get_or-take, get_or-drop, arith}, lemmas.Bool.eqb-true}
+use Rattle.std.proofs.{lemmas.Nat.row_fits, lemmas.List.{get_or_append_left, get_or-append_right}}
+use Rattle.std.proofs.{lemmas.List.{get_or_past, get_or-set_same, get_or-set_other}, Math.ListN.set}
+use Rattle.std.proofs.{lemmas.Bool.Decides.nat_tests, lemmas.Grind.common_steps}
 use Rattle.std.specs.Prelude.{nat_le, nat_lt, ◌==◌, ◌&&◌, ◌||◌, if◌then◌else◌}
-use Rattle.std.proofs.lemmas.Bool.{eqb-true}
-use Rattle.std.proofs.lemmas.Nat.{row_fits}
-use Rattle.std.proofs.lemmas.List.{get_or_append_left, get_or-append_right, get_or_past}
-use Rattle.std.proofs.lemmas.List.{get_or-set_same, get_or-set_other}
-use Rattle.std.proofs.Math.ListN.{set}
 use Rattle.sixel_canvas.proofs.RowPixels.{get_or-more_default}
 use Rattle.sixel_base.specs.Picture.{covers, is_set, is_struck}
 use Rattle.sixel_canvas.specs.inside.Band.{filled, stored}
-use Rattle.std.proofs.lemmas.Bool.Decides.{nat_tests}
-use Rattle.std.proofs.lemmas.Grind.{common_steps}
 
 -- a place lies between two columns of a row just where its row is that one, and its column is
 -- between them

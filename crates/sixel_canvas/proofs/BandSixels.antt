@@ -1,12 +1,9 @@
 -- Which pixels of a band four or eight sixels of one column each cover.
-use Rattle.std.proofs.Common.{◌≡◌, ℕ, ◌+◌, ◌*◌, ◌<◌, ◌≤◌, false, List}
-use Rattle.std.proofs.Common.{length, get_or, refl, ap, ◌∙◌, arith}
+use Rattle.std.proofs.Common.{◌≡◌, ℕ, ◌+◌, ◌*◌, ◌<◌, ◌≤◌, false, List, length, get_or, refl, ap}
+use Rattle.std.proofs.{Common.{◌∙◌, arith}, lemmas.Bool.Decides.nat_tests}
 use Rattle.std.specs.Prelude.{nat_le, nat_lt, ◌&&◌, if◌then◌else◌}
-use Rattle.sixel_canvas.proofs.Lanes.{each_of_four, four_lanes, get_or-twice}
-use Rattle.sixel_canvas.specs.Drawn.{covers_eight}
-use Rattle.sixel_canvas.specs.inside.Band.{covers_four, mixed_at, stored}
-use Rattle.sixel_canvas.proofs.BandRows.{within_row}
-use Rattle.std.proofs.lemmas.Bool.Decides.{nat_tests}
+use Rattle.sixel_canvas.proofs.{BandRows.within_row, Lanes.{each_of_four, four_lanes, get_or-twice}}
+use Rattle.sixel_canvas.specs.{Drawn.covers_eight, inside.Band.{covers_four, mixed_at, stored}}
 
 -- one row of four sixels more
 pub mixed_more :

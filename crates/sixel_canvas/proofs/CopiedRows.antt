@@ -1,13 +1,11 @@
 -- What a caller's memory has once one more row of pixels was copied there.
 use Rattle.std.proofs.Common.{◌≡◌, ℕ, ◌+◌, ◌-◌, ◌*◌, ◌/◌, ◌%◌, ◌<◌, ◌≤◌, List, length, get_or, take}
 use Rattle.std.proofs.Common.{drop, arith, length-take, length-drop, get_or-take, get_or-drop}
-use Rattle.std.specs.Prelude.{nat_le, nat_lt, ◌==◌, ◌&&◌, if◌then◌else◌}
 use Rattle.std.proofs.lemmas.List.{get_or_append_left, get_or-append_right}
-use Rattle.std.proofs.lemmas.Nat.{mul-le}
+use Rattle.std.{proofs.lemmas.Nat.mul-le, specs.Prelude.{nat_le, nat_lt, ◌==◌, ◌&&◌, if◌then◌else◌}}
 use borrow.Rule.Slice.PartMut.{put_mid}
-use Rattle.sixel_canvas.specs.Layout.{AreCopied, AreRowsIn, in_order}
+use Rattle.sixel_canvas.{proofs.BandRows.within_row, specs.Layout.{AreCopied, AreRowsIn, in_order}}
 use Rattle.sixel_canvas.specs.declared.channels.RowLayout.{RowLayout}
-use Rattle.sixel_canvas.proofs.BandRows.{within_row}
 
 -- bytes with a part of them written over
 spliced : (a k : ℕ) (xs ys : List ℕ) (i : ℕ) → a + k ≤ length xs → length ys ≡ k →

@@ -1,13 +1,11 @@
 -- Lanes: what holds of each of four, and pixels that are chosen among two as numbers.
 use Rattle.std.proofs.Common.{◌≡◌, ℕ, ◌+◌, ◌-◌, ◌/◌, ◌^◌, ◌%◌, ◌<◌, Bool, cond, List, [], ◌∷◌, ◌++◌}
 use Rattle.std.proofs.Common.{length, map, get_or, bit_and, refl, subst, arith}
-use Rattle.std.specs.Prelude.{◌==◌, if◌then◌else◌}
-use Rattle.std.specs.Int.{to_le_bytes, w32}
-use Rattle.std.proofs.lemmas.Grind.{and_numeral, common_steps}
+use Rattle.std.specs.{Int.{to_le_bytes, w32}, Prelude.{◌==◌, if◌then◌else◌}}
+use Rattle.std.proofs.lemmas.{Bool.Decides.nat_tests, Grind.{and_numeral, common_steps}}
 use Rattle.std.proofs.lemmas.List.{get_or_append_left}
 use lib.Lanes.{sel_l, top, zip2}
 use Rattle.sixel_base.specs.Picture.{is_set}
-use Rattle.std.proofs.lemmas.Bool.Decides.{nat_tests}
 
 -- what holds of each of four
 pub each_of_four : (P : ℕ → Type 0) → P 0 → P 1 → P 2 → P 3 → (k : ℕ) → k < 4 → P k

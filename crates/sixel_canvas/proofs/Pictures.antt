@@ -1,8 +1,6 @@
 -- Pictures with the same pixels.
-use Rattle.std.proofs.Common.{◌≡◌, ℕ, List, arith}
-use Rattle.sixel_base.specs.Picture.{picture}
-use Rattle.sixel_base.proofs.PictureBytes.{joined-same}
-use Rattle.std.proofs.lemmas.Bool.Decides.{nat_tests}
+use Rattle.std.{proofs.Common.{◌≡◌, ℕ, List, arith}, proofs.lemmas.Bool.Decides.nat_tests}
+use Rattle.sixel_base.{proofs.PictureBytes.joined-same, specs.Picture.picture}
 
 pub picture_same : (p q : ℕ → ℕ → List ℕ) (width height : ℕ) →
     ((column row : ℕ) → p column row ≡ q column row) →

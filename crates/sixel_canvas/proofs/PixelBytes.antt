@@ -1,14 +1,11 @@
 -- What the bytes of a row are once those of one pixel more were written to it.
-use Rattle.std.proofs.Common.{◌≡◌, ℕ, ◌+◌, ◌*◌, ◌/◌, ◌%◌, ◌<◌, ◌≤◌, List, length, get_or}
-use Rattle.std.proofs.Common.{inl, inr, arith, [], ◌∷◌, ◌++◌, take}
+use Rattle.std.proofs.Common.{◌≡◌, ℕ, ◌+◌, ◌*◌, ◌/◌, ◌%◌, ◌<◌, ◌≤◌, List, length, get_or, inl, inr}
+use Rattle.std.{proofs.Common.{arith, [], ◌∷◌, ◌++◌, take}, proofs.lemmas.Bool.cases_lt}
+use Rattle.std.{proofs.lemmas.Bool.Decides.nat_tests, proofs.lemmas.Grind.get_or-set_at}
+use Rattle.std.{proofs.lemmas.Grind.common_steps, proofs.lemmas.List.get_or_append_left}
+use Rattle.std.proofs.lemmas.List.{get_or-append_right, get_or-set_other, length-set}
 use Rattle.std.specs.Prelude.{slice_set, min, nat_lt, if◌then◌else◌}
-use Rattle.sixel_canvas.specs.Layout.{pixel_at}
-use Rattle.std.proofs.lemmas.Bool.{cases_lt}
-use Rattle.std.proofs.lemmas.List.{get_or_append_left, get_or-append_right}
-use Rattle.std.proofs.lemmas.List.{get_or-set_other, length-set}
-use Rattle.sixel_canvas.proofs.RowBytes.{pixel_part}
-use Rattle.std.proofs.lemmas.Grind.{get_or-set_at, common_steps}
-use Rattle.std.proofs.lemmas.Bool.Decides.{nat_tests}
+use Rattle.sixel_canvas.{proofs.RowBytes.pixel_part, specs.Layout.pixel_at}
 
 -- four bytes are a pixel
 pub pixel_four : (bytes : List ℕ) (i : ℕ) → 4 * i + 4 ≤ length bytes →

@@ -1,12 +1,9 @@
 -- The pixels that bytes are: how many, which of them, and those of bytes that were put together.
-use Rattle.std.proofs.Common.{◌≡◌, ℕ, zero, suc, ◌+◌, ◌-◌, ◌*◌, ◌≤◌, List, [], ◌∷◌, ◌++◌}
-use Rattle.std.proofs.Common.{length, get_or, take, drop, replicate, refl, ap, ◌∙◌, arith}
-use Rattle.std.proofs.Common.{length-take, length-append, length-drop, sym}
-use Rattle.std.specs.List.{flat_map}
-use Rattle.sixel_canvas.specs.Row.{IsThrifty, row_state}
-use Rattle.sixel_base.specs.Picture.{joined}
-use Rattle.sixel_base.proofs.PictureBytes.{joined-front, length-joined}
-use Rattle.sixel_canvas.specs.inside.Pixels.{pixels_of}
+use Rattle.std.proofs.Common.{◌≡◌, ℕ, zero, suc, ◌+◌, ◌-◌, ◌*◌, ◌≤◌, List, [], ◌∷◌, ◌++◌, length}
+use Rattle.std.proofs.Common.{get_or, take, drop, replicate, refl, ap, ◌∙◌, arith, length-take}
+use Rattle.std.{proofs.Common.{length-append, length-drop, sym}, specs.List.flat_map}
+use Rattle.sixel_canvas.{specs.Row.{IsThrifty, row_state}, specs.inside.Pixels.pixels_of}
+use Rattle.sixel_base.{proofs.PictureBytes.{joined-front, length-joined}, specs.Picture.joined}
 
 four_more : (n : ℕ) → 4 * suc n ≡ suc (suc (suc (suc (4 * n))))
 four_more n = omega arith

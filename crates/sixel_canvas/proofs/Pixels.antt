@@ -1,14 +1,12 @@
 use Rattle.std.proofs.Common.{◌≡◌, ℕ, zero, suc, ◌+◌, ◌-◌, ◌*◌, ◌<◌, ◌≤◌, min, List, [], ◌∷◌, ◌++◌}
-use Rattle.std.proofs.Common.{length, get_or, take, drop, refl, ap, ◌∙◌, take_all}
-use Rattle.std.proofs.Common.{get_or-drop, length-drop, arith}
+use Rattle.std.proofs.Common.{length, get_or, take, drop, refl, ap, ◌∙◌, take_all, get_or-drop}
+use Rattle.std.proofs.{Common.{length-drop, arith}, lemmas.Bool.Decides.nat_tests}
+use Rattle.std.proofs.{lemmas.List.{append-nil, drop_all, get_or_past}, lemmas.Slice.put_mid-paste}
 use Rattle.std.specs.List.{flat_map}
-use Rattle.std.proofs.lemmas.List.{append-nil, drop_all, get_or_past}
-use Rattle.std.proofs.lemmas.Slice.{put_mid-paste}
 use borrow.Rule.Slice.PartMut.{put_mid}
 use Rattle.sixel_base.specs.Picture.{joined}
 use Rattle.sixel_base.proofs.PictureBytes.{joined-front, joined-same, joined-add, length-joined}
 use Rattle.sixel_canvas.proofs.Spans.{IsColored}
-use Rattle.std.proofs.lemmas.Bool.Decides.{nat_tests}
 
 -- a span in one color is that color's bytes, over and over
 joined-colored : (color span : List ℕ) (n : ℕ) → length color ≡ 4 → length span ≡ 4 * n

@@ -1,16 +1,12 @@
 -- What a canvas shows once rows were released: the bytes of each released row have its pixels.
 use Rattle.std.proofs.Common.{◌≡◌, ℕ, ◌+◌, ◌-◌, ◌*◌, ◌≤◌, List, [], ap, length, drop, get_or, inl}
-use Rattle.std.proofs.Common.{inr, length-take, length-drop, arith}
-use Rattle.std.proofs.Math.Nat.{mul-le-mul_right}
-use Rattle.std.proofs.lemmas.Grind.{common_steps}
+use Rattle.std.proofs.{Common.{inr, length-take, length-drop, arith}, Math.Nat.mul-le-mul_right}
+use Rattle.std.proofs.{lemmas.Bool.{cases_lt, lt-ltb, le-ltb}, lemmas.Bool.Decides.nat_tests}
+use Rattle.std.proofs.{lemmas.Grind.common_steps, lemmas.Nat.row_fits}
 use Rattle.std.specs.Prelude.{min, nat_lt, if◌then◌else◌}
-use Rattle.std.proofs.lemmas.Bool.{cases_lt, lt-ltb, le-ltb}
-use Rattle.std.proofs.lemmas.Nat.{row_fits}
-use Rattle.sixel_canvas.specs.Layout.{stored_pixel}
+use Rattle.sixel_canvas.specs.{Layout.stored_pixel, inside.ReleasedRows.{row_bytes, row_pixel}}
 use Rattle.sixel_canvas.specs.inside.RowsState.{RowsState, AreRows, final}
-use Rattle.sixel_canvas.specs.inside.ReleasedRows.{row_bytes, row_pixel}
 use Rattle.sixel_canvas.proofs.RowBytes.{pixel_part, products}
-use Rattle.std.proofs.lemmas.Bool.Decides.{nat_tests}
 
 -- the bytes from row `n` on, below `free` others
 pub dropped : (bytes : List ℕ) (width free n : ℕ) →

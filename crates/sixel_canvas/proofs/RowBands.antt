@@ -2,12 +2,9 @@
 use Rattle.std.proofs.Common.{◌≡◌, ℕ, ◌*◌, ◌/◌, ◌%◌, ◌<◌, List, [], length, get_or, set, ◌∙◌, arith}
 use Rattle.std.specs.Prelude.{if◌then◌else◌}
 use Rattle.sixel_base.specs.Picture.{is_struck}
-use Rattle.sixel_canvas.specs.inside.RowBand.{line_in}
-use Rattle.sixel_canvas.specs.inside.TaggedRow.{TaggedRowState}
+use Rattle.sixel_canvas.specs.inside.{RowBand.line_in, TaggedRow.TaggedRowState}
 use Rattle.sixel_canvas.proofs.RowCosts.{band_made}
-use Rattle.std.proofs.lemmas.List.{get_or_default}
-use Rattle.std.proofs.lemmas.Bool.Decides.{nat_tests}
-use Rattle.std.proofs.lemmas.Grind.{common_steps}
+use Rattle.std.proofs.lemmas.{Bool.Decides.nat_tests, Grind.common_steps, List.get_or_default}
 
 -- the rows of a band that was made, whatever stands for others
 pub band_read : (bands : List (List TaggedRowState)) (band : ℕ) (rows : List TaggedRowState)

@@ -1,21 +1,17 @@
 -- The bytes of rows of pixels: which pixel stands at an index, and the picture that they are.
-use Rattle.std.proofs.Common.{get_or, ◌≡◌, ℕ, zero, suc, ◌+◌, ◌-◌, ◌*◌}
-use Rattle.std.proofs.Common.{◌<◌, ◌≤◌, List, [], ◌∷◌, ◌++◌, length, take, drop, refl, sym, ap, ◌∙◌}
-use Rattle.std.proofs.Common.{inl, inr, length-drop, length-take, length-append, take_all, arith}
-use Rattle.std.proofs.Math.Seq.{drop-append-add, take-append_seam}
-use Rattle.std.proofs.lemmas.List.{drop-take, get_or_past, take-append-drop, take-append-le}
-use Rattle.std.proofs.lemmas.List.{drop-append-le, get_or_default}
-use Rattle.std.specs.Prelude.{min, nat_lt, ◌==◌, ◌&&◌, if◌then◌else◌, Result, IsOk, OnOk}
-use Rattle.std.specs.List.{flat_map}
-use Rattle.std.proofs.lemmas.Bool.{cases_lt, cases_order}
-use Rattle.std.proofs.lemmas.Nat.{mul-le, row_fits}
-use Rattle.sixel_base.specs.Picture.{joined, picture}
+use Rattle.std.proofs.Common.{get_or, ◌≡◌, ℕ, zero, suc, ◌+◌, ◌-◌, ◌*◌, ◌<◌, ◌≤◌, List, [], ◌∷◌}
+use Rattle.std.proofs.Common.{◌++◌, length, take, drop, refl, sym, ap, ◌∙◌, inl, inr, length-drop}
+use Rattle.std.proofs.Common.{length-take, length-append, take_all, arith}
+use Rattle.std.{proofs.Math.Seq.{drop-append-add, take-append_seam}, proofs.lemmas.Bool.cases_lt}
+use Rattle.std.{proofs.lemmas.Bool.cases_order, proofs.lemmas.Bool.Decides.nat_tests}
+use Rattle.std.{proofs.lemmas.Grind.common_steps, proofs.lemmas.List.{drop-take, get_or_past}}
+use Rattle.std.proofs.lemmas.List.{take-append-drop, take-append-le, drop-append-le, get_or_default}
+use Rattle.std.{proofs.lemmas.Nat.{mul-le, row_fits}, specs.List.flat_map, specs.Prelude.min}
+use Rattle.std.specs.Prelude.{nat_lt, ◌==◌, ◌&&◌, if◌then◌else◌, Result, IsOk, OnOk}
 use Rattle.sixel_base.proofs.PictureBytes.{joined-add, joined-front, length-joined}
-use Rattle.sixel_canvas.specs.Layout.{pixel_at}
+use Rattle.sixel_base.specs.Picture.{joined, picture}
+use Rattle.sixel_canvas.{proofs.Pixels.joined-row, specs.Layout.pixel_at}
 use Rattle.sixel_canvas.specs.inside.RowsState.{final, rows_state}
-use Rattle.sixel_canvas.proofs.Pixels.{joined-row}
-use Rattle.std.proofs.lemmas.Bool.Decides.{nat_tests}
-use Rattle.std.proofs.lemmas.Grind.{common_steps}
 
 -- a pixel of the first bytes, and one of those after them
 pub pixel_left : (xs ys : List ℕ) (n i : ℕ) → length xs ≡ 4 * n → i < n →

@@ -1,19 +1,15 @@
 -- What a canvas of rows has cost, against the runs that were drawn on it.
 use Rattle.std.proofs.Common.{◌≡◌, ℕ, zero, suc, ◌+◌, ◌*◌, ◌/◌, ◌%◌, ◌<◌, ◌≤◌, List, [], ◌∷◌, All}
-use Rattle.std.proofs.Common.{length, get_or, max, sym, ap, ◌∙◌, arith}
-use Rattle.std.specs.List.{sum_by}
+use Rattle.std.{proofs.Common.{length, get_or, max, sym, ap, ◌∙◌, arith}, specs.List.sum_by}
 use Rattle.std.proofs.lemmas.List.Elements.{All-head, All-nil, All-tail}
-use Rattle.std.proofs.lemmas.List.Sums.{sum_by-cons, sum_by-le}
-use Rattle.std.proofs.lemmas.Bool.{cases_lt}
+use Rattle.std.{proofs.lemmas.List.Sums.{sum_by-cons, sum_by-le}, proofs.lemmas.Bool.cases_lt}
+use Rattle.std.{proofs.lemmas.List.get_or_past, proofs.lemmas.Bool.Decides.nat_tests}
 use Rattle.sixel_base.specs.Picture.{total}
-use Rattle.sixel_canvas.specs.Drawn.{Run}
-use Rattle.sixel_canvas.specs.inside.RowBand.{IsRowBand, least, line_in}
-use Rattle.sixel_canvas.specs.inside.RowCanvas.{RowCanvasState, HasCost, IsDrawnBy}
-use Rattle.sixel_canvas.specs.inside.RowCanvas.{IsRowCanvas, row_canvas_work, row_edge, row_len}
-use Rattle.std.proofs.lemmas.List.{get_or_past}
-use Rattle.sixel_canvas.specs.inside.TaggedRow.{TaggedRowState, IsTaggedRow, empty_tagged_row}
 use Rattle.sixel_canvas.proofs.Totals.{total-add, total-front, total-past, total-same, total-zero}
-use Rattle.std.proofs.lemmas.Bool.Decides.{nat_tests}
+use Rattle.sixel_canvas.{specs.Drawn.Run, specs.inside.RowBand.{IsRowBand, least, line_in}}
+use Rattle.sixel_canvas.specs.inside.RowCanvas.{RowCanvasState, HasCost, IsDrawnBy, IsRowCanvas}
+use Rattle.sixel_canvas.specs.inside.RowCanvas.{row_canvas_work, row_edge, row_len}
+use Rattle.sixel_canvas.specs.inside.TaggedRow.{TaggedRowState, IsTaggedRow, empty_tagged_row}
 
 -- ---- sums over the rows
 

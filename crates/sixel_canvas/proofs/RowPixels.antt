@@ -1,13 +1,11 @@
 -- The pixels of a row that was painted or grown: how many, and which.
 use Rattle.std.proofs.Common.{◌≡◌, ℕ, ◌-◌, ◌<◌, ◌≤◌, ◌&&◌, max, List, ◌++◌, length, get_or}
 use Rattle.std.proofs.Common.{replicate, length-append, length-take, length-drop, get_or-take}
-use Rattle.std.proofs.Common.{get_or-drop, arith}
-use Rattle.std.specs.Prelude.{nat_lt, nat_le, if◌then◌else◌}
-use Rattle.std.proofs.lemmas.Bool.{lt-leb}
+use Rattle.std.proofs.{Common.{get_or-drop, arith}, lemmas.Bool.lt-leb}
 use Rattle.std.proofs.lemmas.List.{length-replicate, get_or-replicate, get_or-append_right}
-use Rattle.std.proofs.lemmas.List.{get_or_append_left, get_or_past}
+use Rattle.std.proofs.{lemmas.List.{get_or_append_left, get_or_past}, lemmas.Bool.Decides.nat_tests}
+use Rattle.std.specs.Prelude.{nat_lt, nat_le, if◌then◌else◌}
 use Rattle.sixel_canvas.specs.Row.{RowState, painted, reached_to}
-use Rattle.std.proofs.lemmas.Bool.Decides.{nat_tests}
 
 -- a row that was painted has as many pixels
 pub painted_length : (from to : ℕ) (color : List ℕ) (row : RowState) → from ≤ to

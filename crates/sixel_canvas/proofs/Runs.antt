@@ -1,11 +1,9 @@
 -- What runs of one column each, and one run more, do to right edges, columns and counts.
-use Rattle.std.proofs.Common.{◌≡◌, ℕ, ◌+◌, ◌*◌, ◌<◌, ◌≤◌, max, List, [], ◌∷◌}
-use Rattle.std.proofs.Common.{length, take, length-take, arith}
-use Rattle.sixel_canvas.specs.inside.BandCanvas.{IsPaid}
+use Rattle.std.proofs.Common.{◌≡◌, ℕ, ◌+◌, ◌*◌, ◌<◌, ◌≤◌, max, List, [], ◌∷◌, length, take}
+use Rattle.std.proofs.{Common.{length-take, arith}, lemmas.Bool.Decides.nat_tests}
 use Rattle.sixel_canvas.specs.Drawn.{Run, band_edge, drawn_columns, lowest_top, right_edge}
 use Rattle.sixel_canvas.specs.Drawn.{rows_above, run, runs_cost, runs_paint, with_sixels}
-use Rattle.sixel_canvas.specs.Paints.{counted}
-use Rattle.std.proofs.lemmas.Bool.Decides.{nat_tests}
+use Rattle.sixel_canvas.specs.{Paints.counted, inside.BandCanvas.IsPaid}
 
 -- what sixels of one column each, drawn after some runs, make of their edges, rows and columns
 record AreDrawn (from : ℕ) (sixels : List ℕ) (top : ℕ) (runs all : List Run) : Type 0 where

@@ -1,8 +1,7 @@
 -- Rows that a sixel sets pixels of, from the top: those that were drawn on so far.
 use Rattle.std.proofs.Common.{◌≡◌, ◌≢◌, ℕ, ◌+◌, ◌/◌, ◌%◌, ◌^◌, ◌<◌, Bool, true, ◌&&◌, List, arith}
-use Rattle.std.specs.Prelude.{nat_lt, if◌then◌else◌}
+use Rattle.std.{proofs.lemmas.Bool.Decides.nat_tests, specs.Prelude.{nat_lt, if◌then◌else◌}}
 use Rattle.sixel_base.specs.Picture.{is_struck}
-use Rattle.std.proofs.lemmas.Bool.Decides.{nat_tests}
 
 -- the row of a bit that is set
 pub is_struck-hit : (top bits bit : ℕ) → bit < 6 → (bits / 2 ^ bit) % 2 ≡ 1

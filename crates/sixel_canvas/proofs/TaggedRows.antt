@@ -2,14 +2,12 @@
 use Rattle.std.proofs.Common.{◌≡◌, ℕ, ◌+◌, ◌*◌, ◌/◌, ◌%◌, ◌<◌, ◌≤◌, ◌⊎◌, ◌&&◌, min, max, true}
 use Rattle.std.proofs.Common.{false, List, length, get_or, ap, ◌∙◌, arith}
 use Rattle.std.specs.Prelude.{nat_lt, nat_le, if◌then◌else◌}
-use Rattle.std.proofs.lemmas.List.{get_or_past}
+use Rattle.std.proofs.lemmas.{Bool.Decides.nat_tests, List.get_or_past}
 use Rattle.sixel_canvas.specs.Row.{RowState, IsThrifty, painted, reached_to}
 use Rattle.sixel_canvas.specs.inside.TaggedRow.{TaggedRowState, IsTaggedRow, tag_of, tagged_pixel}
-use Rattle.sixel_canvas.specs.inside.TaggedRow.{tagged_row_state}
-use Rattle.sixel_canvas.specs.inside.Tags.{is_tag, no_tag, under}
-use Rattle.sixel_canvas.proofs.RowPixels.{grown_length, grown_pixel, painted_left}
-use Rattle.sixel_canvas.proofs.RowPixels.{painted_length, painted_pixel, painted_right}
-use Rattle.std.proofs.lemmas.Bool.Decides.{nat_tests}
+use Rattle.sixel_canvas.specs.inside.{TaggedRow.tagged_row_state, Tags.{is_tag, no_tag, under}}
+use Rattle.sixel_canvas.proofs.RowPixels.{grown_length, grown_pixel, painted_left, painted_length}
+use Rattle.sixel_canvas.proofs.RowPixels.{painted_pixel, painted_right}
 
 -- a row that was grown shows what it showed
 pub tagged_grown : (columns : ℕ) (line : TaggedRowState) (column : ℕ)

@@ -1,8 +1,7 @@
 -- Totals of numbers: of equal ones, of zeros, and with one more at the front.
 use Rattle.std.proofs.Common.{◌≡◌, ℕ, zero, suc, ◌+◌, ◌≤◌, refl, ap, inl, inr, arith}
-use Rattle.std.proofs.lemmas.Bool.{cases_lt}
+use Rattle.std.proofs.lemmas.{Bool.cases_lt, Bool.Decides.nat_tests}
 use Rattle.sixel_base.specs.Picture.{total}
-use Rattle.std.proofs.lemmas.Bool.Decides.{nat_tests}
 
 -- numbers that are equal one by one, for callers that count the columns without a canvas
 pub total-same : (f g : ℕ → ℕ) (n : ℕ) → ((k : ℕ) → f k ≡ g k) → total f n ≡ total g n

@@ -1,10 +1,8 @@
 //! Six rows of pixels in one buffer, for the bands of an image one after another.
-ghost use Rattle.std.specs.Prelude.{◌≡◌, ℕ, ◌+◌, ◌≤◌, ◌<◌, length, max};
-ghost use Rattle.std.specs.Prelude.{false, nat_le, nat_lt, ◌&&◌, ◌==◌, slice_index_or};
-ghost use Rattle.std.specs.Prelude.{IfOk, if◌then◌else◌};
+ghost use Rattle.std.specs.Prelude.{◌≡◌, ℕ, ◌+◌, ◌≤◌, ◌<◌, length, max, false, nat_le, nat_lt};
+ghost use Rattle.std.specs.Prelude.{◌&&◌, ◌==◌, slice_index_or, IfOk, if◌then◌else◌};
 ghost use Rattle.sixel_base.specs.Picture.{covers};
-ghost use Rattle.sixel_canvas.specs.inside.Band.{cell, IsBand};
-ghost use Rattle.sixel_canvas.specs.Drawn.{covers_eight};
+ghost use Rattle.sixel_canvas.specs.{Drawn.covers_eight, inside.Band.{cell, IsBand}};
 
 use crate::pixel_row::fill;
 use crate::six_rows::{draw_rows, fill_rows, mix_rows, widened};

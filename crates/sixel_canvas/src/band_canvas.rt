@@ -1,15 +1,12 @@
 //! A canvas of one band: the rows above it are final, and stored as those of the image.
-ghost use Rattle.std.specs.Prelude.{◌≡◌, ℕ, ◌+◌, ◌*◌, ◌≤◌, ◌<◌, List, max, OnErr, OnOk};
-ghost use Rattle.std.specs.Prelude.{◌-◌, length, nat_lt, if◌then◌else◌};
-ghost use Rattle.sixel_canvas.specs.Layout.{AreCopied, AreRowsIn};
-ghost use Rattle.sixel_canvas.specs.inside.Band.{cell};
-ghost use Rattle.sixel_canvas.specs.inside.BandCanvas.{above_band, band_canvas_held};
-ghost use Rattle.sixel_canvas.specs.inside.BandCanvas.{band_canvas_shown};
-ghost use Rattle.sixel_canvas.specs.inside.BandCanvas.{AreMoved, AreStored, HasColumns, IsPaid};
-ghost use Rattle.sixel_canvas.specs.Drawn.{Run};
-ghost use Rattle.sixel_canvas.specs.inside.RowsState.{final, stored_area};
-ghost use Rattle.sixel_canvas.specs.Paints.{counted};
-ghost use Rattle.sixel_canvas.specs.inside.TaggedBand.{capacity, tagged_cell};
+ghost use Rattle.std.specs.Prelude.{◌≡◌, ℕ, ◌+◌, ◌*◌, ◌≤◌, ◌<◌, List, max, OnErr, OnOk, ◌-◌};
+ghost use Rattle.std.specs.Prelude.{length, nat_lt, if◌then◌else◌};
+ghost use Rattle.sixel_canvas.specs.{Drawn.Run, Layout.{AreCopied, AreRowsIn}, Paints.counted};
+ghost use Rattle.sixel_canvas.specs.inside.{Band.cell, BandCanvas.{above_band, band_canvas_held}};
+ghost use Rattle.sixel_canvas.specs.inside.BandCanvas.{band_canvas_shown, AreMoved, AreStored};
+ghost use Rattle.sixel_canvas.specs.inside.{BandCanvas.{HasColumns, IsPaid}, RowsState.final};
+ghost use Rattle.sixel_canvas.specs.inside.{RowsState.stored_area, TaggedBand.capacity};
+ghost use Rattle.sixel_canvas.specs.inside.TaggedBand.{tagged_cell};
 
 use crate::channels::RowLayout;
 use crate::drawing::Canvas;

@@ -1,10 +1,8 @@
 //! The trait of everything that a SIXEL decoder draws on.
 ghost use Rattle.std.specs.Prelude.{◌≡◌, ℕ, ◌+◌, ◌-◌, ◌*◌, ◌^◌, ◌≤◌, ◌<◌, List, [], ◌∷◌, length};
 ghost use Rattle.std.specs.Prelude.{true, max, take, slice_index_or, IfOk, OnOk, if◌then◌else◌};
-ghost use Rattle.sixel_base.specs.Limits.{area_limit, side_limit};
-ghost use Rattle.sixel_base.specs.Picture.{covers, picture};
-ghost use Rattle.sixel_canvas.specs.Drawn.{Run, run, with_sixels, covers_eight};
-ghost use Rattle.sixel_canvas.specs.Drawn.{Work, no_work};
+ghost use Rattle.sixel_base.specs.{Limits.{area_limit, side_limit}, Picture.{covers, picture}};
+ghost use Rattle.sixel_canvas.specs.Drawn.{Run, run, with_sixels, covers_eight, Work, no_work};
 ghost use Rattle.sixel_canvas.specs.inside.Tags.{is_tag};
 
 use std::alloc::{AllocError, Global};

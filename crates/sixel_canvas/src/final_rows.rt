@@ -3,10 +3,9 @@ ghost use Rattle.std.specs.Prelude.{◌≡◌, ℕ, ◌+◌, ◌-◌, ◌*◌, �
 ghost use Rattle.std.specs.Prelude.{max, nat_lt, ◌&&◌, drop, slice_index_or, IfOk, IsOk, OnErr};
 ghost use Rattle.std.specs.Prelude.{OnOk, if◌then◌else◌, vec_len, vec_capacity};
 ghost use Rattle.sixel_base.specs.Picture.{joined, picture};
-ghost use Rattle.sixel_canvas.specs.Layout.{stored_pixel};
+ghost use Rattle.sixel_canvas.specs.{Layout.stored_pixel, Paints.counted};
 ghost use Rattle.sixel_canvas.specs.inside.RowsState.{AreMovedWithin, AreRows, AreShrunk, final};
 ghost use Rattle.sixel_canvas.specs.inside.RowsState.{stored_area};
-ghost use Rattle.sixel_canvas.specs.Paints.{counted};
 
 use crate::span::add_pixels;
 use crate::stored_rows::StoredRows;

@@ -1,8 +1,7 @@
 //! A row of pixels, drawn on by a run or by four sixels at once.
 
-ghost use Rattle.std.specs.Prelude.{◌≡◌, ℕ, ◌+◌, ◌-◌, ◌≤◌, ◌<◌, List, [], length};
-ghost use Rattle.std.specs.Prelude.{slice_index, slice_index_or, if◌then◌else◌};
-ghost use Rattle.std.specs.Int.{to_le_bytes, w32};
+ghost use Rattle.std.specs.{Int.{to_le_bytes, w32}, Prelude.{◌≡◌, ℕ, ◌+◌, ◌-◌, ◌≤◌, ◌<◌, List, []}};
+ghost use Rattle.std.specs.Prelude.{length, slice_index, slice_index_or, if◌then◌else◌};
 ghost use Rattle.sixel_base.specs.Picture.{is_set};
 ghost use Rattle.sixel_canvas.specs.inside.Band.{filled, mixed_at};
 

@@ -1,9 +1,8 @@
 //! A row of the canvas, which doubles its capacity if it is too small.
 ghost use Rattle.std.specs.Prelude.{◌≡◌, ◌+◌, ◌-◌, ◌*◌, ◌^◌, ◌<◌, ◌≤◌, ◌==◌, ◌++◌, length};
-ghost use Rattle.std.specs.Prelude.{slice_index_or, vec_len, vec_capacity};
-ghost use Rattle.std.specs.Prelude.{max, nat_lt, if◌then◌else◌, IfErr, IsOk, OnErr, OnOk};
-ghost use Rattle.sixel_base.specs.Limits.{side_limit};
-ghost use Rattle.sixel_base.specs.Picture.{joined};
+ghost use Rattle.std.specs.Prelude.{slice_index_or, vec_len, vec_capacity, max, nat_lt};
+ghost use Rattle.std.specs.Prelude.{if◌then◌else◌, IfErr, IsOk, OnErr, OnOk};
+ghost use Rattle.sixel_base.specs.{Limits.side_limit, Picture.joined};
 ghost use Rattle.sixel_base.specs.declared.error.SixelError.TheVariants.{OutOfMemory};
 ghost use Rattle.sixel_canvas.specs.Row.{IsThrifty, empty_row, painted, reached_to, room_for};
 

@@ -2,11 +2,9 @@
 ghost use Rattle.std.specs.Prelude.{◌≡◌, ℕ, ◌+◌, ◌*◌, ◌^◌, ◌≤◌, ◌<◌, ◌++◌, List, [], max, length};
 ghost use Rattle.std.specs.Prelude.{nat_le, nat_lt, ◌&&◌, true, vec_len, All, IsOk, OnOk, sum_by};
 ghost use Rattle.std.specs.Prelude.{if◌then◌else◌};
-ghost use Rattle.sixel_base.specs.Limits.{side_limit};
-ghost use Rattle.sixel_base.specs.Picture.{covers, is_struck, joined};
+ghost use Rattle.sixel_base.specs.{Limits.side_limit, Picture.{covers, is_struck, joined}};
 ghost use Rattle.sixel_canvas.specs.inside.RowBand.{IsRowBand, least, line_in};
-ghost use Rattle.sixel_canvas.specs.inside.TaggedRow.{IsTaggedRow, tagged_pixel};
-ghost use Rattle.sixel_canvas.specs.inside.Tags.{is_tag};
+ghost use Rattle.sixel_canvas.specs.inside.{TaggedRow.{IsTaggedRow, tagged_pixel}, Tags.is_tag};
 
 use crate::span::{AllocResult, add_pixels};
 use crate::tagged_row::TaggedRow;

@@ -2,14 +2,13 @@
 ghost use Rattle.std.specs.Prelude.{◌≡◌, ℕ, ◌+◌, ◌*◌, ◌/◌, ◌%◌, ◌^◌, ◌≤◌, ◌<◌, ◌++◌, List, max};
 ghost use Rattle.std.specs.Prelude.{◌-◌, [], length, true, All, vec_len, vec_capacity};
 ghost use Rattle.std.specs.Prelude.{slice_index_or, IfOk, IsOk, OnOk, if◌then◌else◌};
-ghost use Rattle.sixel_base.specs.Limits.{area_limit, side_limit};
-ghost use Rattle.sixel_base.specs.Picture.{covers, is_struck, joined, picture};
+ghost use Rattle.sixel_base.specs.{Limits.{area_limit, side_limit}, Picture.{covers, is_struck}};
+ghost use Rattle.sixel_base.specs.Picture.{joined, picture};
 ghost use Rattle.sixel_canvas.specs.Paints.{counted, ends_and_tags, least_painted};
-ghost use Rattle.sixel_canvas.specs.inside.RowBand.{IsRowBand, line_in};
-ghost use Rattle.sixel_canvas.specs.inside.RowCanvas.{AreFewTags, IsDrawnBy, IsRowCanvas};
-ghost use Rattle.sixel_canvas.specs.inside.RowCanvas.{band_line, band_rows, row_canvas_held};
-ghost use Rattle.sixel_canvas.specs.inside.RowCanvas.{row_canvas_shown, row_canvas_work, row_len};
-ghost use Rattle.sixel_canvas.specs.inside.Tags.{is_tag};
+ghost use Rattle.sixel_canvas.specs.inside.{RowBand.{IsRowBand, line_in}, RowCanvas.AreFewTags};
+ghost use Rattle.sixel_canvas.specs.inside.RowCanvas.{IsDrawnBy, IsRowCanvas, band_line, band_rows};
+ghost use Rattle.sixel_canvas.specs.inside.RowCanvas.{row_canvas_held, row_canvas_shown};
+ghost use Rattle.sixel_canvas.specs.inside.{RowCanvas.{row_canvas_work, row_len}, Tags.is_tag};
 
 use crate::drawing::Canvas;
 use crate::row_band::RowBand;

@@ -1,9 +1,8 @@
 //! Six rows of pixels, one after another without a gap.
-ghost use Rattle.std.specs.Prelude.{◌≡◌, ℕ, ◌+◌, ◌-◌, ◌*◌, ◌≤◌, ◌<◌, List, [], length};
-ghost use Rattle.std.specs.Prelude.{true, false, nat_lt, slice_index_or, IfOk, if◌then◌else◌};
+ghost use Rattle.std.specs.Prelude.{◌≡◌, ℕ, ◌+◌, ◌-◌, ◌*◌, ◌≤◌, ◌<◌, List, [], length, true, false};
+ghost use Rattle.std.specs.Prelude.{nat_lt, slice_index_or, IfOk, if◌then◌else◌};
 ghost use Rattle.sixel_base.specs.Picture.{covers, is_set};
-ghost use Rattle.sixel_canvas.specs.inside.Band.{AreDrawn, AreSixRows, covers_four, filled};
-ghost use Rattle.sixel_canvas.specs.inside.Band.{stored};
+ghost use Rattle.sixel_canvas.specs.inside.Band.{AreDrawn, AreSixRows, covers_four, filled, stored};
 ghost use Rattle.sixel_canvas.specs.Drawn.{covers_eight};
 
 use crate::pixel_row::{fill, fill_by_copy, mix};

@@ -1,8 +1,7 @@
 //! Rows of pixels that are stored without gaps, and copies of them.
 ghost use Rattle.std.specs.Prelude.{◌≡◌, ℕ, ◌+◌, ◌*◌, ◌^◌, ◌<◌, ◌/◌, ◌%◌, length, slice_index};
 ghost use Rattle.std.specs.Prelude.{nat_lt, if◌then◌else◌};
-ghost use Rattle.sixel_canvas.specs.Layout.{AreCopied, AreRowsIn, in_order, pixel_at};
-ghost use Rattle.sixel_canvas.specs.Layout.{stored_pixel};
+ghost use Rattle.sixel_canvas.specs.Layout.{AreCopied, AreRowsIn, in_order, pixel_at, stored_pixel};
 
 use crate::channels::{ChannelOrder, RowLayout, copy_row};
 

@@ -1,14 +1,10 @@
 //! A band in which a wide run over other pixels costs one tag per tile, and two ends.
-ghost use Rattle.std.specs.Prelude.{◌≡◌, ℕ, ◌+◌, ◌-◌, ◌*◌, ◌/◌, ◌≤◌, ◌<◌, length, max, min};
-ghost use Rattle.std.specs.Prelude.{true, false, nat_lt, slice_index_or, OnErr, OnOk};
-ghost use Rattle.std.specs.Prelude.{if◌then◌else◌};
+ghost use Rattle.std.specs.Prelude.{◌≡◌, ℕ, ◌+◌, ◌-◌, ◌*◌, ◌/◌, ◌≤◌, ◌<◌, length, max, min, true};
+ghost use Rattle.std.specs.Prelude.{false, nat_lt, slice_index_or, OnErr, OnOk, if◌then◌else◌};
 ghost use Rattle.sixel_base.specs.Picture.{covers};
-ghost use Rattle.sixel_canvas.specs.inside.Band.{cell};
-ghost use Rattle.sixel_canvas.specs.Drawn.{covers_eight, least_cost};
-ghost use Rattle.sixel_canvas.specs.Paints.{counted};
-ghost use Rattle.sixel_canvas.specs.inside.TaggedBand.{HasSameRoom, capacity, doubled};
-ghost use Rattle.sixel_canvas.specs.inside.TaggedBand.{most_painted, tagged_cell};
-ghost use Rattle.sixel_canvas.specs.inside.Tags.{is_tag};
+ghost use Rattle.sixel_canvas.specs.inside.{Band.cell, TaggedBand.{HasSameRoom, capacity, doubled}};
+ghost use Rattle.sixel_canvas.specs.inside.{TaggedBand.{most_painted, tagged_cell}, Tags.is_tag};
+ghost use Rattle.sixel_canvas.specs.{Drawn.{covers_eight, least_cost}, Paints.counted};
 
 mod tags;
 

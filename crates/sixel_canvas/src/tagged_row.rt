@@ -1,12 +1,10 @@
 //! A row in which a wide run over other pixels costs one tag per tile, and two ends.
-ghost use Rattle.std.specs.Prelude.{◌≡◌, ℕ, ◌+◌, ◌*◌, ◌/◌, ◌%◌, ◌^◌, ◌≤◌, ◌<◌, ◌++◌, ◌⊎◌};
-ghost use Rattle.std.specs.Prelude.{length, max, min, true, false, nat_le, nat_lt, ◌&&◌};
-ghost use Rattle.std.specs.Prelude.{vec_len, IsOk, OnOk, if◌then◌else◌};
-ghost use Rattle.sixel_base.specs.Limits.{side_limit};
-ghost use Rattle.sixel_base.specs.Picture.{joined};
-ghost use Rattle.sixel_canvas.specs.inside.TaggedRow.{IsTaggedRow, empty_tagged_row};
-ghost use Rattle.sixel_canvas.specs.inside.TaggedRow.{tag_of, tagged_pixel};
-ghost use Rattle.sixel_canvas.specs.inside.Tags.{is_tag};
+ghost use Rattle.std.specs.Prelude.{◌≡◌, ℕ, ◌+◌, ◌*◌, ◌/◌, ◌%◌, ◌^◌, ◌≤◌, ◌<◌, ◌++◌, ◌⊎◌, length};
+ghost use Rattle.std.specs.Prelude.{max, min, true, false, nat_le, nat_lt, ◌&&◌, vec_len, IsOk};
+ghost use Rattle.std.specs.Prelude.{OnOk, if◌then◌else◌};
+ghost use Rattle.sixel_base.specs.{Limits.side_limit, Picture.joined};
+ghost use Rattle.sixel_canvas.specs.inside.TaggedRow.{IsTaggedRow, empty_tagged_row, tag_of};
+ghost use Rattle.sixel_canvas.specs.inside.{TaggedRow.tagged_pixel, Tags.is_tag};
 
 use crate::row::Row;
 use crate::span::{AllocResult, add_pixels};

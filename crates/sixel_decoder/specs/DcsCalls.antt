@@ -1,15 +1,12 @@
 -- What the calls of a DCS session do, by the session before and after. What the bytes of a DCS
 -- sequence mean is in Dcs of sixel_base, which does not mention chunks.
-use Rattle.std.specs.Prelude.{ℕ, List, [], false, Result, Ok}
-use Rattle.std.specs.Result.{result_map_both}
-use Rattle.sixel_base.specs.declared.error.SixelError.{SixelError}
-use Rattle.sixel_base.specs.declared.state.DecoderState.{DecoderState}
+use Rattle.std.specs.{Prelude.{ℕ, List, [], false, Result, Ok}, Result.result_map_both}
+use Rattle.sixel_base.specs.declared.{error.SixelError.SixelError, state.DecoderState.DecoderState}
 use Rattle.sixel_base.specs.declared.status.SixelDcsFeedResult.{SixelDcsFeedResult}
 use Rattle.sixel_base.specs.declared.status.SixelDcsFeedStatus.TheVariants.{NeedMoreData}
-use Rattle.sixel_decoder.specs.FedImages.{of_sequence_fed}
-use Rattle.sixel_decoder.specs.FedImages as images
-use Rattle.sixel_decoder.specs.Reception.{of_sequence}
+use Rattle.sixel_decoder.specs.{FedImages.of_sequence_fed, Reception.of_sequence}
 use Rattle.sixel_decoder.specs.Session.{DcsSession}
+use Rattle.sixel_decoder.specs.FedImages as images
 
 -- a session that was fed nothing
 abbrev pub begun : DecoderState → DcsSession

@@ -4,24 +4,20 @@ use Rattle.std.specs.Prelude.{ℕ, ◌≡◌, ◌+◌, ◌≤◌, ◌++◌, List
 use Rattle.std.specs.Prelude.{Option, None, Result, Ok, Err, OnOk, OnErr, IfOk, IfErr, MatchBool}
 use Rattle.std.specs.Result.{result_map_both}
 use Rattle.sixel_base.specs.declared.error.SixelError.{SixelError}
+use Rattle.sixel_base.specs.declared.status.SixelDcsFeedResult.{SixelDcsFeedResult}
 use Rattle.sixel_base.specs.declared.status.SixelFeedResult.{SixelFeedResult}
 use Rattle.sixel_base.specs.declared.status.SixelFeedStatus.TheVariants.{NeedMoreData, Terminated}
-use Rattle.sixel_base.specs.declared.status.SixelDcsFeedResult.{SixelDcsFeedResult}
-use Rattle.sixel_base.specs.Bytes.{first_terminator, is_terminated}
-use Rattle.sixel_base.specs.Bytes as own
-use Rattle.sixel_base.specs.Dcs.{dcs_count, dcs_status, dcs_fault, dcs_growths, IsSameString}
-use Rattle.sixel_base.specs.Dcs as strings
-use Rattle.sixel_base.specs.Fault.{Fault, Faults}
-use Rattle.sixel_base.specs.Limits.{Limit}
-use Rattle.sixel_base.specs.Payload.{fed_fault, settled, payload_fault, payload_wants}
-use Rattle.sixel_base.specs.Payload as payloads
-use Rattle.sixel_base.specs.Settings.{Settings}
-use Rattle.sixel_base.specs.Status.{status_of}
-use Rattle.sixel_decoder.specs.FinishedImages.{IsAgain}
-use Rattle.sixel_decoder.specs.Reception.{Form, Nothing, OfPayload, OfString, Reception}
-use Rattle.sixel_decoder.specs.declared.received.FailedRead.{FailedRead}
-use Rattle.sixel_decoder.specs.declared.received.Received.{Received}
+use Rattle.sixel_base.specs.{Bytes.{first_terminator, is_terminated}, Dcs.{dcs_count, dcs_status}}
+use Rattle.sixel_base.specs.{Dcs.{dcs_fault, dcs_growths, IsSameString}, Fault.{Fault, Faults}}
+use Rattle.sixel_base.specs.{Limits.Limit, Payload.{fed_fault, settled, payload_fault}}
+use Rattle.sixel_base.specs.{Payload.payload_wants, Settings.Settings, Status.status_of}
+use Rattle.sixel_decoder.specs.{FinishedImages.IsAgain, Reception.{Form, Nothing, OfPayload}}
+use Rattle.sixel_decoder.specs.Reception.{OfString, Reception}
+use Rattle.sixel_decoder.specs.declared.{received.FailedRead.FailedRead, received.Received.Received}
 use Rattle.sixel_decoder.specs.declared.received.Status.{Status}
+use Rattle.sixel_base.specs.Bytes as own
+use Rattle.sixel_base.specs.Dcs as strings
+use Rattle.sixel_base.specs.Payload as payloads
 use Rattle.sixel_decoder.specs.declared.received.Status.TheVariants as statuses
 
 abbrev pub is_open : Form → Bool

@@ -2,15 +2,10 @@
 -- a graphics new line goes down six rows and nothing goes up. So these are the rows above the band
 -- of the next sixel. The measure is this library's own.
 use Rattle.std.specs.Prelude.{ℕ, min, Bool, if◌then◌else◌, List, []}
-use Rattle.sixel_base.specs.Clip.{clipped_height, clipped_pixel}
-use Rattle.sixel_base.specs.Dcs.{Stage, Heading, Failing, Reading, stage}
-use Rattle.sixel_base.specs.Decoder.{origin_of}
-use Rattle.sixel_base.specs.History.{History}
-use Rattle.sixel_base.specs.Limits.{Limit}
-use Rattle.sixel_base.specs.OneShot.{Found, Payload, NoPayload}
-use Rattle.sixel_base.specs.Payload.{settled_tokens, tokens}
-use Rattle.sixel_base.specs.Place.{down}
-use Rattle.sixel_base.specs.declared.state.DecoderState.{DecoderState}
+use Rattle.sixel_base.specs.{Clip.{clipped_height, clipped_pixel}, Dcs.{Stage, Heading, Failing}}
+use Rattle.sixel_base.specs.{Dcs.{Reading, stage}, Decoder.origin_of, History.History, Limits.Limit}
+use Rattle.sixel_base.specs.{OneShot.{Found, Payload, NoPayload}, Payload.{settled_tokens, tokens}}
+use Rattle.sixel_base.specs.{Place.down, declared.state.DecoderState.DecoderState}
 
 -- how many rows from the top are final: of those above the band of the next sixel, as many as the
 -- picture has inside the clip so far

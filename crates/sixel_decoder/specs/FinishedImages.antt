@@ -1,25 +1,20 @@
 -- What finishing an image that is read in chunks returns. Each field is one fact. What the bytes
 -- mean is in Payload, Dcs and OneShot of sixel_base, which do not mention chunks.
-use Rattle.std.specs.Prelude.{ℕ, ◌≡◌, ◌≢◌, ◌*◌, ◌≤◌, ◌++◌, min, if◌then◌else◌, Bool, false}
-use Rattle.std.specs.Prelude.{List, Option, Some, None, is_none, Result, Err, OnOk, IfOk, IfErr}
+use Rattle.std.specs.Prelude.{ℕ, ◌≡◌, ◌≢◌, ◌*◌, ◌≤◌, ◌++◌, min, if◌then◌else◌, Bool, false, List}
+use Rattle.std.specs.Prelude.{Option, Some, None, is_none, Result, Err, OnOk, IfOk, IfErr}
 use Rattle.std.specs.Prelude.{MatchBool}
-use Rattle.sixel_base.specs.declared.error.SixelError.{SixelError}
 use Rattle.sixel_base.specs.Dcs.{IsStringImage, AreStringRegisters, can_finish, dcs_status}
-use Rattle.sixel_base.specs.Dcs as strings
 use Rattle.sixel_base.specs.Fault.{Fault, Faults, IsFault, MissingCommand, StreamFailed}
-use Rattle.sixel_base.specs.Fault.{DcsStreamFailed}
-use Rattle.sixel_base.specs.Limits.{Limit}
-use Rattle.sixel_base.specs.OneShot.{Found, Payload, NoPayload, found_fault, IsFoundImage}
-use Rattle.sixel_base.specs.OneShot.{AreFoundRegisters, IsDecodedAs}
-use Rattle.sixel_base.specs.OneShot as one_shot
-use Rattle.sixel_base.specs.Payload.{Image, payload_fault, payload_wants}
-use Rattle.sixel_base.specs.Settings.{Settings}
-use Rattle.sixel_decoder.specs.FinalRows.{found_pixel}
-use Rattle.sixel_decoder.specs.PictureView.{picture_report, whole_image}
+use Rattle.sixel_base.specs.{Fault.DcsStreamFailed, Limits.Limit, OneShot.{Found, Payload}}
+use Rattle.sixel_base.specs.OneShot.{NoPayload, found_fault, IsFoundImage, AreFoundRegisters}
+use Rattle.sixel_base.specs.{OneShot.IsDecodedAs, Payload.{Image, payload_fault, payload_wants}}
+use Rattle.sixel_base.specs.{Settings.Settings, declared.error.SixelError.SixelError}
+use Rattle.sixel_decoder.specs.{FinalRows.found_pixel, PictureView.{picture_report, whole_image}}
 use Rattle.sixel_decoder.specs.Reception.{Form, Nothing, OfPayload, OfString, Reception, found}
-use Rattle.sixel_decoder.specs.Reception.{stage_of}
-use Rattle.sixel_decoder.specs.Report.{found_report}
+use Rattle.sixel_decoder.specs.{Reception.stage_of, Report.found_report}
 use Rattle.sixel_decoder.specs.declared.decoded_payload.DecodedPayload.{DecodedPayload}
+use Rattle.sixel_base.specs.Dcs as strings
+use Rattle.sixel_base.specs.OneShot as one_shot
 
 -- the payload that is drawn if more bytes follow those of a DCS sequence that has ended
 abbrev pub found_followed : Form → List ℕ → List ℕ → Found

@@ -2,16 +2,14 @@
 -- the bytes before its first terminator. No byte of an introducer or a header is a terminator,
 -- apart from the first one. So a DCS sequence has its first byte, and those that a payload of the
 -- bytes after it has, with its end. From DEC's device control strings.
-use Rattle.std.specs.Prelude.{ℕ, ◌≡◌, ◌+◌, ◌-◌, ◌≤◌, ◌==◌, ◌||◌, nat_lt, if◌then◌else◌}
-use Rattle.std.specs.Prelude.{Bool, List, [], ◌∷◌, length, Option}
-use Rattle.sixel_base.specs.Bytes.{count, first_terminator}
-use Rattle.sixel_base.specs.Dcs.{payload_count, payload_status, ended_with}
-use Rattle.sixel_base.specs.Status.{status_of}
-use Rattle.sixel_base.specs.declared.status.SixelFeedStatus.TheVariants.{NeedMoreData}
+use Rattle.std.specs.Prelude.{ℕ, ◌≡◌, ◌+◌, ◌-◌, ◌≤◌, ◌==◌, ◌||◌, nat_lt, if◌then◌else◌, Bool, List}
+use Rattle.std.specs.Prelude.{[], ◌∷◌, length, Option}
+use Rattle.sixel_base.specs.{Bytes.{count, first_terminator}, Dcs.{payload_count, payload_status}}
+use Rattle.sixel_base.specs.{Dcs.ended_with, Status.status_of}
 use Rattle.sixel_base.specs.declared.status.SixelDcsFeedStatus.{SixelDcsFeedStatus}
+use Rattle.sixel_base.specs.declared.status.SixelFeedStatus.TheVariants.{NeedMoreData}
 use Rattle.sixel_decoder.specs.Reception.{Form, Nothing, OfPayload, OfString}
-use Rattle.sixel_decoder.specs.declared.received.Received.{Received}
-use Rattle.sixel_decoder.specs.declared.received.Status.{Status}
+use Rattle.sixel_decoder.specs.declared.{received.Received.Received, received.Status.Status}
 use Rattle.sixel_decoder.specs.declared.received.Status.TheVariants as statuses
 
 -- the bytes after the first one of an introducer, DCS or ESC; all bytes if there is none

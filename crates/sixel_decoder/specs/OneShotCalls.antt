@@ -1,10 +1,8 @@
 -- What decoding in one call does, by the payload that the bytes contain. Each field is one fact.
 -- Which payload that is and what it means is in OneShot and Payload of sixel_base.
 use Rattle.std.specs.Prelude.{◌≡◌, ◌*◌, ◌≤◌, length, None, Result, OnOk, IfOk, IfErr}
-use Rattle.sixel_base.specs.declared.error.SixelError.{SixelError}
-use Rattle.sixel_base.specs.declared.state.DecoderState.{DecoderState}
-use Rattle.sixel_base.specs.Fault.{Faults}
-use Rattle.sixel_base.specs.OneShot.{Found, found_fault, found_wants, IsFoundImage}
+use Rattle.sixel_base.specs.declared.{error.SixelError.SixelError, state.DecoderState.DecoderState}
+use Rattle.sixel_base.specs.{Fault.Faults, OneShot.{Found, found_fault, found_wants, IsFoundImage}}
 use Rattle.sixel_base.specs.Payload.{Image}
 
 -- The decoder returns the image of the payload, or an error.

@@ -2,14 +2,11 @@
 -- bands are there. Painting is measured by these beside the area that they reach. The measure is
 -- this library's own, by Drawn of sixel_canvas, and says nothing of how pixels are stored. What a
 -- sixel is, by DEC's manual, is in History.
-use Rattle.std.specs.Prelude.{ℕ, suc, ◌+◌, ◌-◌, ◌*◌, ◌&&◌, min, max, nat_lt, if◌then◌else◌}
-use Rattle.std.specs.Prelude.{List, [], ◌∷◌, Option, Some, None}
-use Rattle.sixel_base.specs.Clip.{clipped_bits, clipped_width, is_inside}
-use Rattle.sixel_base.specs.History.{Raster, Sixel, History}
-use Rattle.sixel_base.specs.Limits.{Limit}
-use Rattle.sixel_base.specs.Payload.{settled, settled_tokens}
-use Rattle.sixel_base.specs.Place.{across, down, span}
-use Rattle.sixel_base.specs.Dcs.{Stage, Heading, Failing, Reading}
+use Rattle.std.specs.Prelude.{ℕ, suc, ◌+◌, ◌-◌, ◌*◌, ◌&&◌, min, max, nat_lt, if◌then◌else◌, List}
+use Rattle.std.specs.Prelude.{[], ◌∷◌, Option, Some, None}
+use Rattle.sixel_base.specs.{Clip.{clipped_bits, clipped_width, is_inside}, Dcs.{Stage, Heading}}
+use Rattle.sixel_base.specs.{Dcs.{Failing, Reading}, History.{Raster, Sixel, History}, Limits.Limit}
+use Rattle.sixel_base.specs.{Payload.{settled, settled_tokens}, Place.{across, down, span}}
 use Rattle.sixel_canvas.specs.Drawn.{Run, run, rows_above, drawn_columns, runs_cost, runs_least}
 use Rattle.sixel_canvas.specs.Paints.{counted}
 

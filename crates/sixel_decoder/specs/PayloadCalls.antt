@@ -1,15 +1,11 @@
 -- What the calls of a payload session do, by the session before and after. What the bytes of a
 -- payload mean is in Payload of sixel_base, which does not mention chunks.
-use Rattle.std.specs.Prelude.{◌≡◌, List, ℕ, [], false, Result, Ok}
-use Rattle.std.specs.Result.{result_map_both}
-use Rattle.sixel_base.specs.declared.error.SixelError.{SixelError}
+use Rattle.std.specs.{Prelude.{◌≡◌, List, ℕ, [], false, Result, Ok}, Result.result_map_both}
+use Rattle.sixel_base.specs.{Stroke.Origin, declared.error.SixelError.SixelError}
 use Rattle.sixel_base.specs.declared.status.SixelFeedResult.{SixelFeedResult}
 use Rattle.sixel_base.specs.declared.status.SixelFeedStatus.TheVariants.{NeedMoreData}
-use Rattle.sixel_base.specs.Stroke.{Origin}
-use Rattle.sixel_decoder.specs.FedImages.{of_payload_fed}
+use Rattle.sixel_decoder.specs.{FedImages.of_payload_fed, Reception.of_payload, Session.Session}
 use Rattle.sixel_decoder.specs.FedImages as images
-use Rattle.sixel_decoder.specs.Reception.{of_payload}
-use Rattle.sixel_decoder.specs.Session.{Session}
 
 -- a session that was fed nothing
 abbrev pub begun : Origin → Session

@@ -1,8 +1,7 @@
 -- The image of a decoded payload, apart from where its bytes are stored: pixels, sizes, pixel shape
 -- and background mode. Which image that is, by DEC's manual, is in Payload of sixel_base.
 use Rattle.std.specs.Prelude.{ℕ, List, ◌++◌}
-use Rattle.sixel_base.specs.Payload.{Image}
-use Rattle.sixel_base.specs.Picture.{picture}
+use Rattle.sixel_base.specs.{Payload.Image, Picture.picture}
 use Rattle.sixel_decoder.specs.Report.{Report}
 use Rattle.sixel_decoder.specs.declared.decoded_payload.DecodedPayload.{DecodedPayload}
 

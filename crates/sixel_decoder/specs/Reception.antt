@@ -3,19 +3,14 @@
 -- Dcs and Payload of sixel_base, where DEC's manual gives the rules.
 use Rattle.std.specs.Prelude.{ℕ, ◌≡◌, Bool, false, List, [], Option, None}
 use Rattle.sixel_base.specs.Dcs.{Stage, Heading, Failing, Reading, stage, stage_in_payload}
-use Rattle.sixel_base.specs.Dcs.{stage_painted_area, stage_size}
-use Rattle.sixel_base.specs.Decoder.{origin_of}
-use Rattle.sixel_base.specs.DrawnHeight.{stage_drawn_height}
-use Rattle.sixel_base.specs.Fault.{Fault, StreamFailed}
-use Rattle.sixel_base.specs.Limits.{Limit}
-use Rattle.sixel_base.specs.OneShot.{Found, Payload, NoPayload}
-use Rattle.sixel_base.specs.OneShot as one_shot
-use Rattle.sixel_base.specs.Settings.{Settings}
+use Rattle.sixel_base.specs.{Dcs.{stage_painted_area, stage_size}, Decoder.origin_of}
+use Rattle.sixel_base.specs.{DrawnHeight.stage_drawn_height, Fault.{Fault, StreamFailed}}
+use Rattle.sixel_base.specs.{Limits.Limit, OneShot.{Found, Payload, NoPayload}, Settings.Settings}
 use Rattle.sixel_base.specs.declared.state.DecoderState.{DecoderState}
-use Rattle.sixel_decoder.specs.FinalRows.{stage_final_rows}
-use Rattle.sixel_decoder.specs.Paints as measures
-use Rattle.sixel_decoder.specs.Paints.{stage_measure, stage_sixels}
+use Rattle.sixel_decoder.specs.{FinalRows.stage_final_rows, Paints.{stage_measure, stage_sixels}}
 use Rattle.sixel_decoder.specs.Session.{Session, DcsSession, decoder_of}
+use Rattle.sixel_base.specs.OneShot as one_shot
+use Rattle.sixel_decoder.specs.Paints as measures
 
 -- what is received: nothing, a payload that is read with these settings, or a DCS sequence
 pub data Form : Type 0 where

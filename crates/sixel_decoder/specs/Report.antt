@@ -2,15 +2,10 @@
 -- attributes name, and how many commands were ignored. The measures are this library's own. Raster
 -- attributes, by DEC's manual, are in Place of sixel_base.
 use Rattle.std.specs.Prelude.{ℕ, nat_lt, if◌then◌else◌, List, [], ◌∷◌}
-use Rattle.sixel_base.specs.Decoder.{origin_of}
-use Rattle.sixel_base.specs.DrawnHeight.{image_drawn_height}
-use Rattle.sixel_base.specs.Fields.{field}
-use Rattle.sixel_base.specs.History.{Raster, History}
-use Rattle.sixel_base.specs.IgnoredCommands.{payload_ignored}
-use Rattle.sixel_base.specs.OneShot.{Found, Payload, NoPayload}
-use Rattle.sixel_base.specs.Payload.{tokens}
-use Rattle.sixel_base.specs.Place.{raster_height}
-use Rattle.sixel_base.specs.Stroke.{Origin}
+use Rattle.sixel_base.specs.{Decoder.origin_of, DrawnHeight.image_drawn_height, Fields.field}
+use Rattle.sixel_base.specs.{History.{Raster, History}, IgnoredCommands.payload_ignored}
+use Rattle.sixel_base.specs.{OneShot.{Found, Payload, NoPayload}, Payload.tokens}
+use Rattle.sixel_base.specs.{Place.raster_height, Stroke.Origin}
 use Rattle.sixel_base.specs.declared.state.DecoderState.{DecoderState}
 
 -- the last width that is not zero of those that raster attributes name, 0 where there is none

@@ -4,8 +4,7 @@
 -- canvas has released. This library's own: it does not mention chunks, because chunk boundaries
 -- have no effect.
 use Rattle.std.specs.Prelude.{Bool, List, ℕ}
-use Rattle.sixel_base.specs.Stroke.{Origin}
-use Rattle.sixel_base.specs.declared.state.DecoderState.{DecoderState}
+use Rattle.sixel_base.specs.{Stroke.Origin, declared.state.DecoderState.DecoderState}
 
 pub record Session : Type 0 where
   pub origin : Origin

@@ -2,9 +2,8 @@
 
 ghost use Rattle.std.specs.Prelude.{◌≡◌, ◌∷◌, ◌++◌, List, ℕ, [], slice_set, true, if◌then◌else◌};
 ghost use Rattle.sixel_canvas.specs.inside.Tags.{is_tag};
-ghost use Rattle.sixel_base.specs.inside.Parameters.{Keeps};
-ghost use Rattle.sixel_base.specs.Decoder.{origin_of};
-ghost use Rattle.sixel_base.specs.Stroke.{background, is_definition, definition};
+ghost use Rattle.sixel_base.specs.{Decoder.origin_of, Stroke.{background, is_definition}};
+ghost use Rattle.sixel_base.specs.{Stroke.definition, inside.Parameters.Keeps};
 
 use sixel_base::parameters::Parameters;
 use sixel_base::registers::Registers;

@@ -1,9 +1,8 @@
 //! The end of a DCS sequence after its payload, and how many bytes belong to it.
 
 ghost use Rattle.std.specs.Prelude.{◌≡◌, ◌+◌, ◌≤◌, ◌++◌, List, ℕ, length, Some};
-ghost use Rattle.sixel_base.specs.Bytes.{count, first_terminator};
-ghost use Rattle.sixel_base.specs.Dcs.{end_count, end_status, ended_with};
-ghost use Rattle.sixel_base.specs.Dcs.{escape_count, escape_status};
+ghost use Rattle.sixel_base.specs.{Bytes.{count, first_terminator}, Dcs.{end_count, end_status}};
+ghost use Rattle.sixel_base.specs.Dcs.{ended_with, escape_count, escape_status};
 ghost use Rattle.sixel_base.specs.declared.status.SixelDcsFeedStatus.TheVariants.{NeedMoreData};
 ghost use Rattle.sixel_decoder.specs.inside.DcsParser.{GoesTo};
 

@@ -2,15 +2,13 @@
 
 ghost use Rattle.std.specs.Prelude.{◌≡◌, ◌≤◌, ◌++◌, ◌+◌, ◌∷◌, [], true, false, List, ℕ, length};
 ghost use Rattle.std.specs.Prelude.{◌||◌, None, Option, IfOk, OnErr, OnOk, MatchResult};
-ghost use Rattle.sixel_base.specs.Dcs.{has_come};
+ghost use Rattle.sixel_base.specs.{Dcs.has_come, Fault.{IsFault, DcsStreamFailed}};
 ghost use Rattle.sixel_base.specs.declared.state.DecoderState.{DecoderState};
-ghost use Rattle.sixel_base.specs.Fault.{IsFault, DcsStreamFailed};
 ghost use Rattle.sixel_decoder.specs.declared.dcs_parser.DcsState.TheVariants.{Start, Payload};
 ghost use Rattle.sixel_decoder.specs.declared.dcs_parser.DcsState.TheVariants.{Failed};
 ghost use Rattle.sixel_decoder.specs.inside.DcsParser.{HasFollowed, IsInPayload, is_begun};
 ghost use Rattle.sixel_decoder.specs.inside.DcsParser.{is_failed, is_head, StepsInto, Heads};
-ghost use Rattle.sixel_decoder.specs.inside.DcsParser.{Follows};
-ghost use Rattle.sixel_decoder.specs.inside.DcsReader.{released_of};
+ghost use Rattle.sixel_decoder.specs.inside.{DcsParser.Follows, DcsReader.released_of};
 
 use crate::bytes::tail;
 use crate::dcs_end::end_now;

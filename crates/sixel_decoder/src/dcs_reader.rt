@@ -5,12 +5,10 @@
 ghost use Rattle.std.specs.Prelude.{◌≡◌, ◌≤◌, ◌<◌, ◌∷◌, [], true, false, max, None, IsTrue, IfErr};
 ghost use Rattle.std.specs.Prelude.{IfSome};
 ghost use Rattle.sixel_base.specs.Dcs.{dcs_status, has_ended};
-ghost use Rattle.sixel_decoder.specs.DcsCalls.{begun, byte_read, IsFed};
-ghost use Rattle.sixel_decoder.specs.FedImages.{uncounted};
-ghost use Rattle.sixel_decoder.specs.FinalRows.{dcs_final_rows};
-ghost use Rattle.sixel_decoder.specs.FinishedImages.{IsTaken};
-ghost use Rattle.sixel_decoder.specs.ImageEnds.{Extends};
-ghost use Rattle.sixel_decoder.specs.Reception.{of_sequence, HasNoPayload, IsPayloadOf, OfString};
+ghost use Rattle.sixel_decoder.specs.{DcsCalls.{begun, byte_read, IsFed}, FedImages.uncounted};
+ghost use Rattle.sixel_decoder.specs.{FinalRows.dcs_final_rows, FinishedImages.IsTaken};
+ghost use Rattle.sixel_decoder.specs.{ImageEnds.Extends, Reception.{of_sequence, HasNoPayload}};
+ghost use Rattle.sixel_decoder.specs.Reception.{IsPayloadOf, OfString};
 
 use crate::dcs_parser::{DcsParser, DcsState};
 use crate::decoded_payload::DecodedPayload;

@@ -2,10 +2,9 @@
 
 ghost use Rattle.std.specs.Prelude.{◌≡◌, ◌∷◌, ◌++◌, ◌⊎◌, ◌<◌, [], List, ℕ, MatchResult, IfOk};
 ghost use Rattle.std.specs.Prelude.{IfErr, ◌≤◌, length, drop, IfSome, IfNone, Some, None};
-ghost use Rattle.sixel_base.specs.OneShot.{after_introducer};
+ghost use Rattle.sixel_base.specs.{Fault.IsFault, Header.{headed, header_text, settings_of}};
+ghost use Rattle.sixel_base.specs.{Header.{header_field, Begun}, OneShot.after_introducer};
 ghost use Rattle.sixel_base.specs.inside.Parameters.{Keeps};
-ghost use Rattle.sixel_base.specs.Fault.{IsFault};
-ghost use Rattle.sixel_base.specs.Header.{headed, header_text, settings_of, header_field, Begun};
 ghost use Rattle.sixel_decoder.specs.inside.Header.{IsHeaderFault};
 
 use crate::bytes::{is_ignored, is_parameter, is_terminator};

@@ -3,13 +3,10 @@
 //! A feed that fails and each feed after it are counted by these functions.
 
 ghost use Rattle.std.specs.Prelude.{◌≡◌, ◌*◌, ◌+◌, ◌≤◌, ◌++◌, List, ℕ, drop, length, true, false};
-ghost use Rattle.sixel_base.specs.Bytes.{count, first_terminator};
-ghost use Rattle.sixel_base.specs.Dcs.{ended_with};
-ghost use Rattle.sixel_base.specs.Settings.{Settings};
-ghost use Rattle.sixel_base.specs.Status.{status_of};
-ghost use Rattle.sixel_decoder.specs.ImageEnds.{Extends, IsEnd, inside};
-ghost use Rattle.sixel_decoder.specs.Reception.{OfPayload, OfString};
-ghost use Rattle.sixel_decoder.specs.inside.DcsParser.{GoesTo};
+ghost use Rattle.sixel_base.specs.{Bytes.{count, first_terminator}, Dcs.ended_with};
+ghost use Rattle.sixel_base.specs.{Settings.Settings, Status.status_of};
+ghost use Rattle.sixel_decoder.specs.{ImageEnds.{Extends, IsEnd, inside}, Reception.OfPayload};
+ghost use Rattle.sixel_decoder.specs.{Reception.OfString, inside.DcsParser.GoesTo};
 
 use crate::bytes::{is_terminator, tail};
 use crate::dcs_end::{end_later, end_now};

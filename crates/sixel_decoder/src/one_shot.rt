@@ -3,13 +3,10 @@
 //! The contracts of both calls are the record of `OneShotCalls`, registers, report and first row.
 
 ghost use Rattle.std.specs.Prelude.{◌≡◌, IfOk, []};
-ghost use Rattle.sixel_base.specs.Decoder.{origin_of};
-ghost use Rattle.sixel_base.specs.OneShot.{found, Payload, AreFoundRegisters};
-ghost use Rattle.sixel_base.specs.Payload.{payload_registers};
-ghost use Rattle.sixel_base.specs.Stroke.{Origin};
-ghost use Rattle.sixel_decoder.specs.OneShotCalls.{IsDecoded};
-ghost use Rattle.sixel_decoder.specs.PictureView.{picture_report, picture_value};
-ghost use Rattle.sixel_decoder.specs.Report.{found_report};
+ghost use Rattle.sixel_base.specs.{Decoder.origin_of, OneShot.{found, Payload, AreFoundRegisters}};
+ghost use Rattle.sixel_base.specs.{Payload.payload_registers, Stroke.Origin};
+ghost use Rattle.sixel_decoder.specs.{OneShotCalls.IsDecoded, PictureView.picture_report};
+ghost use Rattle.sixel_decoder.specs.{PictureView.picture_value, Report.found_report};
 ghost use Rattle.sixel_decoder.specs.inside.PayloadParser.{Stands, Decodes};
 
 use crate::bytes::tail;

@@ -1,21 +1,16 @@
 //! What each closed command changes: position, extent, registers and canvas.
 
-ghost use Rattle.std.specs.Prelude.{◌≡◌, ◌<◌, ◌≤◌, ◌+◌, ◌*◌, ◌∷◌, List, ℕ, true, false, []};
-ghost use Rattle.std.specs.Prelude.{max, min, nat_lt, if◌then◌else◌, ◌&&◌};
-ghost use Rattle.std.specs.Prelude.{IfOk, OnOk, IfErr, MatchResult};
-ghost use Rattle.sixel_base.specs.Decoder.{origin_of};
-ghost use Rattle.sixel_base.specs.DrawnHeight.{drawn_height};
-ghost use Rattle.sixel_base.specs.Fault.{is_fault};
-ghost use Rattle.sixel_base.specs.History.{History, Sixel, Repeat, Raster, Color, Return, Newline};
-ghost use Rattle.sixel_base.specs.Limits.{Limit, area_limit, repeat_limit, side_limit};
-ghost use Rattle.sixel_base.specs.Clip.{clipped_bits};
+ghost use Rattle.std.specs.Prelude.{◌≡◌, ◌<◌, ◌≤◌, ◌+◌, ◌*◌, ◌∷◌, List, ℕ, true, false, [], max};
+ghost use Rattle.std.specs.Prelude.{min, nat_lt, if◌then◌else◌, ◌&&◌, IfOk, OnOk, IfErr};
+ghost use Rattle.std.specs.Prelude.{MatchResult};
+ghost use Rattle.sixel_base.specs.{Clip.clipped_bits, Decoder.origin_of, DrawnHeight.drawn_height};
+ghost use Rattle.sixel_base.specs.{Fault.is_fault, History.{History, Sixel, Repeat, Raster, Color}};
+ghost use Rattle.sixel_base.specs.{History.{Return, Newline}, Limits.{Limit, area_limit}};
+ghost use Rattle.sixel_base.specs.{Limits.{repeat_limit, side_limit}, Stroke.Origin};
 ghost use Rattle.sixel_base.specs.declared.error.SixelError.TheVariants.{OutOfMemory};
-ghost use Rattle.sixel_base.specs.Stroke.{Origin};
 ghost use Rattle.sixel_base.specs.inside.Parameters.{Keeps};
-ghost use Rattle.sixel_canvas.specs.Drawn.{no_work};
-ghost use Rattle.sixel_canvas.specs.inside.Tags.{is_tag};
-ghost use Rattle.sixel_decoder.specs.inside.Ready.{IsReady};
-ghost use Rattle.sixel_decoder.specs.inside.Sizes.{IsTooLarge};
+ghost use Rattle.sixel_canvas.specs.{Drawn.no_work, inside.Tags.is_tag};
+ghost use Rattle.sixel_decoder.specs.{inside.Ready.IsReady, inside.Sizes.IsTooLarge};
 
 mod ready;
 mod sixels;

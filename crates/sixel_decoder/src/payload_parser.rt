@@ -3,20 +3,18 @@
 //! A command takes effect when it is closed: by the next byte that does not continue it, by the
 //! terminator, or by the end. So a chunk may end within a command.
 
-ghost use Rattle.std.specs.Prelude.{◌≡◌, ◌<◌, ◌≤◌, ◌+◌, ◌∷◌, ℕ, true, false, []};
-ghost use Rattle.std.specs.Prelude.{length, max, min, slice_index, fold, take, IfOk};
-ghost use Rattle.std.specs.Prelude.{IsTrue, OnOk, ◌⊎◌, Bool, if◌then◌else◌};
+ghost use Rattle.std.specs.Prelude.{◌≡◌, ◌<◌, ◌≤◌, ◌+◌, ◌∷◌, ℕ, true, false, [], length, max, min};
+ghost use Rattle.std.specs.Prelude.{slice_index, fold, take, IfOk, IsTrue, OnOk, ◌⊎◌, Bool};
+ghost use Rattle.std.specs.Prelude.{if◌then◌else◌};
 ghost use Rattle.sixel_canvas.specs.Drawn.{no_work};
-ghost use Rattle.sixel_base.specs.Bytes.{is_sixel as sixel};
-ghost use Rattle.sixel_base.specs.History.{History, begun, goes_on, read};
-ghost use Rattle.sixel_base.specs.Decoder.{origin_of};
+ghost use Rattle.sixel_base.specs.{Decoder.origin_of, History.{History, begun, goes_on, read}};
+ghost use Rattle.sixel_base.specs.{Lenient.{effective, ignored_count}, Stroke.Origin};
 ghost use Rattle.sixel_base.specs.inside.Parameters.{IsDigit};
-ghost use Rattle.sixel_base.specs.Lenient.{effective, ignored_count};
-ghost use Rattle.sixel_base.specs.Stroke.{Origin};
 ghost use Rattle.sixel_decoder.specs.inside.Runs.{IsPrintable, IsSixelByte};
 ghost use Rattle.sixel_decoder.specs.declared.payload_parser.OpenCommand.TheVariants.{Ground};
 ghost use Rattle.sixel_decoder.specs.declared.payload_parser.OpenCommand.TheVariants.{InRepeat};
 ghost use Rattle.sixel_decoder.specs.declared.payload_parser.OpenCommand.TheVariants.{InColor};
+ghost use Rattle.sixel_base.specs.Bytes.{is_sixel as sixel};
 
 use crate::bytes::{is_ignored, is_numbered, is_parameter, is_terminator, tail};
 use crate::decoded_payload::DecodedPayload;

@@ -4,16 +4,12 @@
 
 ghost use Rattle.std.specs.Prelude.{◌≡◌, ◌≤◌, ◌<◌, ◌+◌, ◌∷◌, [], true, false, length, max, min};
 ghost use Rattle.std.specs.Prelude.{None, IsTrue, IfErr, IfSome};
-ghost use Rattle.sixel_base.specs.Bytes.{is_terminated};
-ghost use Rattle.sixel_base.specs.Clip.{clipped_pixel};
-ghost use Rattle.sixel_base.specs.Decoder.{origin_of};
+ghost use Rattle.sixel_base.specs.{Bytes.is_terminated, Clip.clipped_pixel, Decoder.origin_of};
 ghost use Rattle.sixel_base.specs.Payload.{tokens};
 ghost use Rattle.sixel_canvas.specs.Layout.{AreCopied, AreRowsIn};
-ghost use Rattle.sixel_decoder.specs.FedImages.{uncounted};
-ghost use Rattle.sixel_decoder.specs.FinalRows.{payload_final_rows, row_count};
-ghost use Rattle.sixel_decoder.specs.FinishedImages.{IsTaken};
-ghost use Rattle.sixel_decoder.specs.ImageEnds.{Extends};
-ghost use Rattle.sixel_decoder.specs.PayloadCalls.{begun, byte_read, IsFed};
+ghost use Rattle.sixel_decoder.specs.{FedImages.uncounted, FinalRows.payload_final_rows};
+ghost use Rattle.sixel_decoder.specs.{FinalRows.row_count, FinishedImages.IsTaken};
+ghost use Rattle.sixel_decoder.specs.{ImageEnds.Extends, PayloadCalls.{begun, byte_read, IsFed}};
 ghost use Rattle.sixel_decoder.specs.Progress.{IsBandPaintCount, IsBandWriteCount, IsDrawnHeight};
 ghost use Rattle.sixel_decoder.specs.Progress.{IsPaintCount, IsSizeSoFar, IsWriteCount};
 ghost use Rattle.sixel_decoder.specs.Reception.{OfPayload, of_payload};

@@ -1,12 +1,11 @@
 //! Raster attributes: pixel aspect ratio, sizes that they name, and extent.
 
-ghost use Rattle.std.specs.Prelude.{◌≡◌, ◌*◌, ◌≤◌, List, ℕ, length, max};
-ghost use Rattle.std.specs.Prelude.{nat_le, nat_lt, if◌then◌else◌, MatchResult};
-ghost use Rattle.sixel_base.specs.Fields.{fields, field};
-ghost use Rattle.sixel_base.specs.Limits.{side_limit};
+ghost use Rattle.std.specs.Prelude.{◌≡◌, ◌*◌, ◌≤◌, List, ℕ, length, max, nat_le, nat_lt};
+ghost use Rattle.std.specs.Prelude.{if◌then◌else◌, MatchResult};
+ghost use Rattle.sixel_base.specs.{Fields.{fields, field}, Limits.side_limit};
 ghost use Rattle.sixel_base.specs.inside.Parameters.{Keeps};
-ghost use Rattle.sixel_base.specs.Stroke.{ratio_from as shape_from};
 ghost use Rattle.sixel_decoder.specs.inside.Sizes.{IsTooLarge};
+ghost use Rattle.sixel_base.specs.Stroke.{ratio_from as shape_from};
 
 use sixel_base::limits::MAX_SIDE;
 use sixel_base::parameters::Parameters;

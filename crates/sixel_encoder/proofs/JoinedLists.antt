@@ -1,8 +1,9 @@
 -- What is joined of a function's lists: one list more, some more, empty ones, and that it depends
 -- on no list past the end.
-use Rattle.sixel_encoder.proofs.Names.{◌≡◌, ℕ, zero, suc, ◌+◌, ◌<◌, ◌≤◌, List, ◌++◌, append_assoc}
-use Rattle.sixel_encoder.proofs.Names.{refl, ap, sym, ◌∙◌, inl, inr, arith, [], flat_map, cases_lt}
-use Rattle.sixel_encoder.proofs.Names.{flat_map-append, append-nil, nat_tests}
+use Rattle.std.proofs.Common.{◌≡◌, ℕ, zero, suc, ◌+◌, ◌<◌, ◌≤◌, List, ◌++◌, append_assoc, refl, ap}
+use Rattle.std.{proofs.Common.{sym, ◌∙◌, inl, inr, arith, []}, proofs.lemmas.Bool.cases_lt}
+use Rattle.std.{proofs.lemmas.Bool.Decides.nat_tests, proofs.lemmas.Grind.flat_map-append}
+use Rattle.std.{proofs.lemmas.List.append-nil, specs.Prelude.flat_map}
 use Rattle.sixel_base.specs.Picture.{joined}
 
 pub joined-none : {A : Type 0} (f : ℕ → List A) → joined f 0 ≡ []

@@ -1,4 +1,3 @@
-mod Names
 pub mod band_rows
 pub mod compact_form
 pub mod drawings

@@ -1,7 +1,7 @@
 -- The bits of a mask: each is the answer of its test.
-use Rattle.sixel_encoder.proofs.Names.{◌≡◌, ℕ, zero, suc, ◌+◌, ◌*◌, ◌^◌, ◌<◌, Bool, cond, false}
-use Rattle.sixel_encoder.proofs.Names.{refl, arith, bit_at, nat_tests, pow_more, bit_at_lowest}
-use Rattle.sixel_encoder.proofs.Names.{bit_at-suc}
+use Rattle.std.proofs.Common.{◌≡◌, ℕ, zero, suc, ◌+◌, ◌*◌, ◌^◌, ◌<◌, Bool, cond, false, refl, arith}
+use Rattle.std.{proofs.lemmas.Bool.Decides.nat_tests, proofs.lemmas.Grind.pow_more}
+use Rattle.std.{proofs.lemmas.Nat.Bits.{bit_at_lowest, bit_at-suc}, specs.Int.bit_at}
 use Rattle.sixel_base.specs.Picture.{is_set}
 use Rattle.sixel_encoder.specs.Text.{mask}
 

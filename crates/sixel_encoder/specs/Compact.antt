@@ -2,21 +2,16 @@
 -- that no pixel has are not defined, apart from the background of an opaque drawing. A run may
 -- cover pixels that a later segment of the band draws over. The rows of a band share passes, and no
 -- band follows the last that is used. Where the plain text is shorter, that is the text.
-use Rattle.std.specs.Prelude.{◌≡◌, ℕ, zero, suc, ◌+◌, ◌-◌, ◌*◌, ◌==◌, nat_le, nat_lt, Bool, ◌&&◌}
-use Rattle.std.specs.Prelude.{if◌then◌else◌, List, [], ◌∷◌, ◌++◌, length, map, replicate, codes}
-use Rattle.std.specs.Prelude.{false, not, Option, Some, None, is_some, slice_index}
-use Rattle.std.specs.List.{range_with_len}
-use Rattle.std.specs.Int.Bits.{bit_or, bit_and}
-use Rattle.sixel_base.specs.Payload.{Image}
-use Rattle.sixel_base.specs.Picture.{joined}
-use Rattle.sixel_encoder.specs.declared.segments.Segment.{Segment}
-use Rattle.sixel_encoder.specs.Encoding.{IsDrawing}
-use Rattle.sixel_encoder.specs.Marks.{Mark, Pick, Draw, Back, Next, marks_payload}
+use Rattle.std.specs.{Int.Bits.{bit_or, bit_and}, List.range_with_len, Prelude.{◌≡◌, ℕ, zero, suc}}
+use Rattle.std.specs.Prelude.{◌+◌, ◌-◌, ◌*◌, ◌==◌, nat_le, nat_lt, Bool, ◌&&◌, if◌then◌else◌, List}
+use Rattle.std.specs.Prelude.{[], ◌∷◌, ◌++◌, length, map, replicate, codes, false, not, Option}
+use Rattle.std.specs.Prelude.{Some, None, is_some, slice_index}
+use Rattle.sixel_base.specs.{Payload.Image, Picture.joined}
+use Rattle.sixel_encoder.specs.{declared.segments.Segment.Segment, Encoding.IsDrawing, Marks.Mark}
+use Rattle.sixel_encoder.specs.Marks.{Pick, Draw, Back, Next, marks_payload}
 use Rattle.sixel_encoder.specs.RegisterOrder.{number_of, numbered_definitions}
-use Rattle.sixel_encoder.specs.Segments.{drawn_segments}
-use Rattle.sixel_encoder.specs.Text.{Drawing, entry_at, mask, sixel_of, bands, parameters_text}
-use Rattle.sixel_encoder.specs.Text.{text_of}
-use Rattle.sixel_encoder.specs.Trip.{is_used, bands_up_to}
+use Rattle.sixel_encoder.specs.{Segments.drawn_segments, Text.{Drawing, entry_at, mask, sixel_of}}
+use Rattle.sixel_encoder.specs.{Text.{bands, parameters_text, text_of}, Trip.{is_used, bands_up_to}}
 
 -- ---- the row of a segment
 

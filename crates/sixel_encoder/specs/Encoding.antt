@@ -1,21 +1,18 @@
 -- What the text of an image is: the text of its drawing in the palette of the colors that it shows.
 -- A pixel is shown if its alpha is at least 128; the color and the alpha of any other pixel are
 -- part of nothing here. And which images are not encoded.
-use Rattle.std.specs.Prelude.{◌≡◌, ℕ, ◌/◌, ◌<◌, ◌+◌, ◌*◌, nat_le, if◌then◌else◌, List, length, map}
-use Rattle.std.specs.Prelude.{slice_index, slice_index_or, Option, Some, None}
-use Rattle.std.specs.List.{range_with_len}
-use Rattle.std.specs.Option.{option_or}
+use Rattle.std.specs.{List.range_with_len, Option.option_or, Prelude.{◌≡◌, ℕ, ◌/◌, ◌<◌, ◌+◌, ◌*◌}}
+use Rattle.std.specs.Prelude.{nat_le, if◌then◌else◌, List, length, map, slice_index, slice_index_or}
+use Rattle.std.specs.Prelude.{Option, Some, None}
+use Rattle.sixel_base.specs.{Payload.Image, Size.{encode_fault, buffer_fault}}
 use Rattle.sixel_base.specs.declared.error.SixelError.{SixelError}
 use Rattle.sixel_base.specs.declared.settings.BackgroundMode.{BackgroundMode}
 use Rattle.sixel_base.specs.declared.settings.BackgroundMode.TheVariants.{Transparent}
 use Rattle.sixel_base.specs.declared.settings.PixelAspectRatio.{PixelAspectRatio}
 use Rattle.sixel_base.specs.declared.settings.PixelAspectRatio.TheVariants.{Square}
 use Rattle.sixel_palette.specs.Palette.{color_at, IsOpaque, IsPalette, IsNearest}
-use Rattle.sixel_base.specs.Payload.{Image}
-use Rattle.sixel_base.specs.Size.{encode_fault, buffer_fault}
-use Rattle.sixel_encoder.specs.declared.source.Source.{Source}
-use Rattle.sixel_encoder.specs.RunTokens.{Spells, IsShortest, row_tokens}
-use Rattle.sixel_encoder.specs.Text.{Drawing, row_of, text_of}
+use Rattle.sixel_encoder.specs.{RunTokens.{Spells, IsShortest, row_tokens}, Text.{Drawing, row_of}}
+use Rattle.sixel_encoder.specs.{Text.text_of, declared.source.Source.Source}
 
 -- an image of square pixels on a transparent background
 abbrev pub square_value : List ℕ → ℕ → ℕ → Image

@@ -1,11 +1,9 @@
 -- The text of a drawing in either form, and the text of an image in its own palette.
 use Rattle.std.specs.Prelude.{◌≡◌, ℕ, List}
 use Rattle.sixel_base.specs.Payload.{Image}
-use Rattle.sixel_encoder.specs.declared.form.TextForm.{TextForm}
-use Rattle.sixel_encoder.specs.declared.form.TextForm.TheVariants.{Plain, Compact}
-use Rattle.sixel_encoder.specs.Compact.{compact_text}
-use Rattle.sixel_encoder.specs.Encoding.{IsDrawing}
-use Rattle.sixel_encoder.specs.Text.{Drawing, text_of}
+use Rattle.sixel_encoder.specs.declared.{form.TextForm.TextForm, form.TextForm.TheVariants.Plain}
+use Rattle.sixel_encoder.specs.declared.form.TextForm.TheVariants.{Compact}
+use Rattle.sixel_encoder.specs.{Compact.compact_text, Encoding.IsDrawing, Text.{Drawing, text_of}}
 
 -- the text of a drawing in this form
 abbrev pub form_text : TextForm → Drawing → List ℕ

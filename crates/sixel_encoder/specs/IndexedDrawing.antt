@@ -1,24 +1,17 @@
 -- The drawing of an image in a given palette: each opaque pixel has an entry by its palette index.
 -- What any text of a drawing has to be, and what is wrong with the arguments of such a call.
-use Rattle.std.specs.Prelude.{◌≡◌, ℕ, ◌+◌, ◌*◌, ◌≤◌, ◌==◌, ◌&&◌, nat_le, Bool, if◌then◌else◌, List}
-use Rattle.std.specs.Prelude.{length, map, slice_index, Option, Some, None}
-use Rattle.std.specs.List.{range_with_len, list_any}
-use Rattle.std.specs.Option.{option_or}
+use Rattle.std.specs.{List.{range_with_len, list_any}, Option.option_or, Prelude.{◌≡◌, ℕ, ◌+◌, ◌*◌}}
+use Rattle.std.specs.Prelude.{◌≤◌, ◌==◌, ◌&&◌, nat_le, Bool, if◌then◌else◌, List, length, map}
+use Rattle.std.specs.Prelude.{slice_index, Option, Some, None}
 use Rattle.sixel_base.specs.CallFault.{CallFault, Exactly, IndexRange, color_count_fault}
-use Rattle.sixel_base.specs.CallFault.{size_call_fault}
-use Rattle.sixel_base.specs.Limits.{Limit}
+use Rattle.sixel_base.specs.{CallFault.size_call_fault, Limits.Limit, Payload.Image, Size.banded}
 use Rattle.sixel_base.specs.declared.error.SixelError.TheVariants.{BufferSizeMismatch}
 use Rattle.sixel_base.specs.declared.state.DecoderState.{DecoderState}
-use Rattle.sixel_base.specs.Payload.{Image}
-use Rattle.sixel_base.specs.Size.{banded}
 use Rattle.sixel_palette.specs.declared.mapping.Mapping.{Mapping}
 use Rattle.sixel_encoder.specs.declared.form.TextForm.{TextForm}
-use Rattle.sixel_palette.specs.Dithering.{AreDithered}
-use Rattle.sixel_palette.specs.Palette.{entry_of}
-use Rattle.sixel_encoder.specs.Encoding.{AreShortest, image_fault}
-use Rattle.sixel_encoder.specs.Form.{form_text}
-use Rattle.sixel_encoder.specs.Text.{Drawing, text_of}
-use Rattle.sixel_encoder.specs.Trip.{CanRead, IsOneString, IsReadAs, trip}
+use Rattle.sixel_palette.specs.{Dithering.AreDithered, Palette.entry_of}
+use Rattle.sixel_encoder.specs.{Encoding.{AreShortest, image_fault}, Form.form_text, Text.Drawing}
+use Rattle.sixel_encoder.specs.{Text.text_of, Trip.{CanRead, IsOneString, IsReadAs, trip}}
 
 -- ---- drawings
 

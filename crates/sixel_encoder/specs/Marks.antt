@@ -6,10 +6,8 @@ use Rattle.std.specs.Prelude.{◌≡◌, ℕ, ◌+◌, ◌-◌, ◌*◌, ◌<◌
 use Rattle.std.specs.Prelude.{if◌then◌else◌, List, [], ◌∷◌, ◌++◌, length, flat_map, slice_index}
 use Rattle.std.specs.Prelude.{slice_index_or, Option, Some, None, is_some, All, codes, decimal}
 use Rattle.sixel_base.specs.Picture.{is_struck}
-use Rattle.sixel_encoder.specs.RunTokens.{written, row_tokens}
-use Rattle.sixel_encoder.specs.Text.{Drawing, entry_at, bands, color_definition, parameters_text}
-use Rattle.sixel_encoder.specs.Text.{raster_text}
-use Rattle.sixel_encoder.specs.Trip.{is_used}
+use Rattle.sixel_encoder.specs.{RunTokens.{written, row_tokens}, Text.{Drawing, entry_at, bands}}
+use Rattle.sixel_encoder.specs.{Text.{color_definition, parameters_text, raster_text}, Trip.is_used}
 
 -- a color introducer of one register, a row of sixels by their bits, a graphics carriage return,
 -- a graphics new line

@@ -3,19 +3,15 @@ use Rattle.std.specs.Prelude.{◌≡◌, ℕ, ◌+◌, ◌-◌, ◌/◌, ◌<◌
 use Rattle.std.specs.Prelude.{min, slice_index_or, Some, None}
 use Rattle.sixel_base.specs.Payload.{Image}
 use Rattle.sixel_base.specs.declared.settings.BackgroundMode.TheVariants.{Opaque}
-use Rattle.sixel_palette.specs.Dithering.{AreDithered, refined_mapping}
-use Rattle.sixel_palette.specs.Palette.{IsOpaque, color_at}
-use Rattle.sixel_palette.specs.Refined.{IsRefined, opaque_pixels}
+use Rattle.sixel_palette.specs.{Dithering.{AreDithered, refined_mapping}, Palette.IsOpaque}
+use Rattle.sixel_palette.specs.{Palette.color_at, Refined.{IsRefined, opaque_pixels}}
 use Rattle.sixel_palette.specs.Spread.{spread_amount, spread_entries}
-use Rattle.sixel_palette.specs.declared.dither.Dither.TheVariants.{Off}
-use Rattle.sixel_palette.specs.declared.palette.refined.RefinedPalette.{RefinedPalette}
-use Rattle.sixel_palette.specs.declared.mapping.Mapping.{Mapping}
+use Rattle.sixel_palette.specs.declared.{dither.Dither.TheVariants.Off, mapping.Mapping.Mapping}
 use Rattle.sixel_palette.specs.declared.mapping.Tolerance.TheVariants.{Squared}
-use Rattle.sixel_encoder.specs.declared.form.TextForm.{TextForm}
-use Rattle.sixel_encoder.specs.declared.refined.Background.{Background}
+use Rattle.sixel_palette.specs.declared.palette.refined.RefinedPalette.{RefinedPalette}
+use Rattle.sixel_encoder.specs.declared.{form.TextForm.TextForm, refined.Background.Background}
 use Rattle.sixel_encoder.specs.IndexedDrawing.{IsPaletteText, IsTextOf, indexed_drawing}
-use Rattle.sixel_encoder.specs.Text.{Drawing}
-use Rattle.sixel_encoder.specs.Trip.{trip_pixel}
+use Rattle.sixel_encoder.specs.{Text.Drawing, Trip.trip_pixel}
 
 -- a pixel that has an entry is read back in the very color of the entry
 abbrev pub ShowsEntries : Drawing → Type 0

@@ -3,8 +3,7 @@
 -- pass goes on with each segment that begins right of the pen, are rules of this library.
 use Rattle.std.specs.Prelude.{ℕ, zero, suc, ◌+◌, ◌*◌, ◌/◌, ◌%◌, ◌==◌, nat_le, nat_lt, ◌&&◌}
 use Rattle.std.specs.Prelude.{if◌then◌else◌, List, [], ◌∷◌, ◌++◌, length, Option, Some, None}
-use Rattle.sixel_encoder.specs.declared.segments.Segment.{Segment}
-use Rattle.sixel_encoder.specs.Text.{Drawing, entry_at}
+use Rattle.sixel_encoder.specs.{Text.{Drawing, entry_at}, declared.segments.Segment.Segment}
 
 -- How many blank columns cut a row. An image of few colors is not cut.
 abbrev pub gap_of : Drawing → ℕ

@@ -1,14 +1,12 @@
 -- The SIXEL text of a drawing: an image whose pixels are entries of a palette or nothing. By DEC's
 -- device control string of sixel data: raster attributes, color introducers in percent of red,
 -- green and blue, then bands of six rows, one row of sixels per entry in use.
-use Rattle.std.specs.Prelude.{ℕ, zero, suc, ◌+◌, ◌*◌, ◌/◌, ◌^◌, ◌==◌, Bool, false, not}
-use Rattle.std.specs.Prelude.{if◌then◌else◌, List, [], ◌∷◌, ◌++◌, length, map, slice_index}
-use Rattle.std.specs.Prelude.{slice_index_or, Option, Some, None, codes, decimal}
-use Rattle.std.specs.List.{range_with_len, list_any}
+use Rattle.std.specs.{List.{range_with_len, list_any}, Prelude.{ℕ, zero, suc, ◌+◌, ◌*◌, ◌/◌, ◌^◌}}
+use Rattle.std.specs.Prelude.{◌==◌, Bool, false, not, if◌then◌else◌, List, [], ◌∷◌, ◌++◌, length}
+use Rattle.std.specs.Prelude.{map, slice_index, slice_index_or, Option, Some, None, codes, decimal}
 use Rattle.sixel_base.specs.declared.settings.BackgroundMode.{BackgroundMode}
 use Rattle.sixel_base.specs.declared.settings.PixelAspectRatio.{PixelAspectRatio}
-use Rattle.sixel_base.specs.Settings.{p1_of, p2_of, pad_of}
-use Rattle.sixel_base.specs.Picture.{joined}
+use Rattle.sixel_base.specs.{Picture.joined, Settings.{p1_of, p2_of, pad_of}}
 use Rattle.sixel_palette.specs.Refined.{percentage}
 use Rattle.sixel_encoder.specs.RunTokens.{written, row_tokens}
 

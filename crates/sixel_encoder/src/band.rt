@@ -2,13 +2,12 @@
 
 ghost use Rattle.std.specs.Prelude.{◌≡◌, ◌≢◌, ℕ, ◌+◌, ◌*◌, ◌^◌, ◌<◌, ◌≤◌, ◌++◌, IfOk, OnOk};
 ghost use Rattle.std.specs.Prelude.{string_bytes, true, false, length, slice_index};
-ghost use Rattle.sixel_base.specs.Limits.{side_limit};
-ghost use Rattle.sixel_base.specs.Picture.{joined};
+ghost use Rattle.sixel_base.specs.{Limits.side_limit, Picture.joined};
 ghost use Rattle.sixel_encoder.specs.Text.{sixel_of, row_text, band_text};
-ghost use Rattle.sixel_encoder.specs.inside.Indexed.{IsIndexed, drawing_of, entry_of};
 ghost use Rattle.sixel_encoder.specs.inside.Grid.{cell, pixel_bit, grid_row, grid_text, AreRows};
 ghost use Rattle.sixel_encoder.specs.inside.Grid.{AreBelow, AreMarks, AreClear, IsPart};
 ghost use Rattle.sixel_encoder.specs.inside.Grid.{AreEmptyRows, IsSameShape, HasColumns, between};
+ghost use Rattle.sixel_encoder.specs.inside.Indexed.{IsIndexed, drawing_of, entry_of};
 
 use crate::decimal::push_number;
 use crate::entries::others_from;

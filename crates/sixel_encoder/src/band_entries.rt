@@ -2,8 +2,7 @@
 
 ghost use Rattle.std.specs.Prelude.{◌≡◌, ◌≢◌, ℕ, ◌+◌, ◌-◌, ◌*◌, ◌^◌, ◌<◌, ◌≤◌, ◌==◌, IfOk, length};
 ghost use Rattle.std.specs.Prelude.{slice_index, true};
-ghost use Rattle.sixel_encoder.specs.Compact.{transparent_sixel};
-ghost use Rattle.sixel_encoder.specs.Text.{entry_at, mask, sixel_of};
+ghost use Rattle.sixel_encoder.specs.{Compact.transparent_sixel, Text.{entry_at, mask, sixel_of}};
 ghost use Rattle.sixel_encoder.specs.inside.Compact.{AreLanes, AreSpare, lane_of};
 ghost use Rattle.sixel_encoder.specs.inside.Indexed.{IsIndexed, drawing_of};
 

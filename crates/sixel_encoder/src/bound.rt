@@ -1,10 +1,8 @@
 //! A lower bound of the bytes of the plain output, found without writing it.
 
 ghost use Rattle.std.specs.Prelude.{◌≡◌, ◌≢◌, ℕ, ◌+◌, ◌^◌, ◌<◌, ◌≤◌, length, slice_index};
-ghost use Rattle.sixel_encoder.specs.Text.{Drawing, band_text};
-ghost use Rattle.sixel_encoder.specs.inside.Bound.{IsBound, IsChange};
-ghost use Rattle.sixel_encoder.specs.inside.Compact.{AreLanes};
-ghost use Rattle.sixel_encoder.specs.inside.Indexed.{drawing_of};
+ghost use Rattle.sixel_encoder.specs.{Text.{Drawing, band_text}, inside.Bound.{IsBound, IsChange}};
+ghost use Rattle.sixel_encoder.specs.{inside.Compact.AreLanes, inside.Indexed.drawing_of};
 
 use crate::band_entries::{BandEntries, TRANSPARENT};
 

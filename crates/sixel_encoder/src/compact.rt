@@ -1,14 +1,12 @@
 //! The compact SIXEL output of an image whose colors are chosen.
 
-ghost use Rattle.std.specs.Prelude.{◌≡◌, ◌*◌, ◌<◌, ◌≤◌, ◌++◌, ◌∷◌, IfOk, None, OnOk, codes};
-ghost use Rattle.std.specs.Prelude.{length, string_bytes};
+ghost use Rattle.std.specs.Prelude.{◌≡◌, ◌*◌, ◌<◌, ◌≤◌, ◌++◌, ◌∷◌, IfOk, None, OnOk, codes, length};
+ghost use Rattle.std.specs.Prelude.{string_bytes};
 ghost use Rattle.sixel_encoder.specs.Compact.{band_register, compact_marks, segment_marks};
 ghost use Rattle.sixel_encoder.specs.Compact.{compact_text, drawn_after, marked_text, band_marks};
-ghost use Rattle.sixel_encoder.specs.Marks.{marks_text};
-ghost use Rattle.sixel_encoder.specs.Text.{text_of};
-ghost use Rattle.sixel_encoder.specs.inside.Compact.{AreLanes, AreNumbersOf};
-ghost use Rattle.sixel_encoder.specs.inside.Compact.{IsSegment, IsWriter, drawn_so_far};
-ghost use Rattle.sixel_encoder.specs.inside.Indexed.{IsIndexed, drawing_of};
+ghost use Rattle.sixel_encoder.specs.{Marks.marks_text, Text.text_of};
+ghost use Rattle.sixel_encoder.specs.inside.Compact.{AreLanes, AreNumbersOf, IsSegment, IsWriter};
+ghost use Rattle.sixel_encoder.specs.inside.{Compact.drawn_so_far, Indexed.{IsIndexed, drawing_of}};
 
 use crate::band_entries::BandEntries;
 use crate::bound::least_bytes;

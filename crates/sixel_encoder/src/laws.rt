@@ -3,31 +3,24 @@
 
 ghost use Rattle.std.specs.Prelude.{◌≡◌, ℕ, ◌≤◌, ◌<◌, ◌*◌, Bool, List, ◌∷◌, ◌++◌, length, codes};
 ghost use Rattle.std.specs.Prelude.{Some, None, All, false};
+ghost use Rattle.sixel_base.specs.Bytes.{before_terminator, front, first_terminator, count};
+ghost use Rattle.sixel_base.specs.{Color.byte_of, Dcs.{Reading, stage}, Decoder.new_decoder};
+ghost use Rattle.sixel_base.specs.{Decoder.origin_of, Limits.Limit, OneShot.AreFoundRegisters};
+ghost use Rattle.sixel_base.specs.{OneShot.{Payload, found}, Payload.{Image, payload_fault}};
+ghost use Rattle.sixel_base.specs.{Payload.payload_image, Size.banded};
 ghost use Rattle.sixel_base.specs.declared.settings.BackgroundMode.TheVariants.{Opaque};
 ghost use Rattle.sixel_base.specs.declared.settings.BackgroundMode.TheVariants.{Transparent};
-ghost use Rattle.sixel_base.specs.Bytes.{before_terminator, front, first_terminator, count};
-ghost use Rattle.sixel_base.specs.Color.{byte_of};
-ghost use Rattle.sixel_base.specs.Decoder.{new_decoder, origin_of};
 ghost use Rattle.sixel_base.specs.declared.state.DecoderState.{DecoderState};
-ghost use Rattle.sixel_base.specs.Size.{banded};
-ghost use Rattle.sixel_base.specs.Payload.{Image, payload_fault, payload_image};
-ghost use Rattle.sixel_palette.specs.Palette.{HasSize, IsShown};
-ghost use Rattle.sixel_palette.specs.Refined.{IsRegisterColor, percentage};
-ghost use Rattle.sixel_encoder.specs.Text.{Drawing, parameters_text, text_of};
-ghost use Rattle.sixel_encoder.specs.Encoding.{image_fault, IsDrawing, IsText, shown_image};
-ghost use Rattle.sixel_base.specs.Dcs.{Reading, stage};
-ghost use Rattle.sixel_base.specs.Limits.{Limit};
-ghost use Rattle.sixel_base.specs.OneShot.{AreFoundRegisters, Payload, found};
-ghost use Rattle.sixel_encoder.specs.Compact.{compact_text};
-ghost use Rattle.sixel_encoder.specs.Form.{form_text};
-ghost use Rattle.sixel_palette.specs.declared.mapping.Mapping.{Mapping};
-ghost use Rattle.sixel_encoder.specs.declared.form.TextForm.{TextForm};
-ghost use Rattle.sixel_encoder.specs.Marks.{IsDrawnText};
-ghost use Rattle.sixel_encoder.specs.IndexedDrawing.{indexed_drawing};
+ghost use Rattle.sixel_palette.specs.{Palette.{HasSize, IsShown}, Refined.IsRegisterColor};
+ghost use Rattle.sixel_palette.specs.{Refined.percentage, declared.mapping.Mapping.Mapping};
+ghost use Rattle.sixel_encoder.specs.{Compact.compact_text, Encoding.{image_fault, IsDrawing}};
+ghost use Rattle.sixel_encoder.specs.{Encoding.{IsText, shown_image}, Form.form_text};
+ghost use Rattle.sixel_encoder.specs.{IndexedDrawing.indexed_drawing, Marks.IsDrawnText};
 ghost use Rattle.sixel_encoder.specs.RefinedText.{IsRefinedText, ShowsPixels, no_mapping};
-ghost use Rattle.sixel_encoder.specs.Trip.{IsWritable, payload_text, drawing_settings, rounded};
-ghost use Rattle.sixel_encoder.specs.Trip.{HasBackground};
+ghost use Rattle.sixel_encoder.specs.{Text.{Drawing, parameters_text, text_of}, Trip.IsWritable};
+ghost use Rattle.sixel_encoder.specs.Trip.{payload_text, drawing_settings, rounded, HasBackground};
 ghost use Rattle.sixel_encoder.specs.Trip.{trip, CanRead, CanShow, IsTrip, IsReadAs, IsOneString};
+ghost use Rattle.sixel_encoder.specs.declared.form.TextForm.{TextForm};
 
 /// States that an output is its parameters, a payload and the string terminator.
 ///

@@ -8,9 +8,8 @@
 
 ghost use Rattle.std.specs.Prelude.{◌≡◌, ℕ, ◌<◌, All, IfErr, IfOk, MatchOption, string_bytes};
 ghost use Rattle.sixel_base.specs.Payload.{Image};
-ghost use Rattle.sixel_encoder.specs.Text.{Drawing};
 ghost use Rattle.sixel_encoder.specs.Encoding.{image_fault, IsDrawing, IsText, shown_image};
-ghost use Rattle.sixel_encoder.specs.Encoding.{square_value};
+ghost use Rattle.sixel_encoder.specs.{Encoding.square_value, Text.Drawing};
 
 mod band;
 mod band_entries;

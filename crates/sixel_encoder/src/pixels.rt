@@ -1,8 +1,7 @@
 //! The palette entries of an image's pixels.
 
 ghost use Rattle.std.specs.Prelude.{◌≡◌, ℕ, ◌*◌, ◌<◌, length, slice_index_or, Some, None};
-ghost use Rattle.sixel_encoder.specs.Text.{bands, is_entry};
-ghost use Rattle.sixel_encoder.specs.Trip.{is_used, bands_up_to};
+ghost use Rattle.sixel_encoder.specs.{Text.{bands, is_entry}, Trip.{is_used, bands_up_to}};
 ghost use Rattle.sixel_encoder.specs.inside.Indexed.{IsIndexed, drawing_of, entry_of};
 
 use crate::text::IndexedImage;

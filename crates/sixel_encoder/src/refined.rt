@@ -2,8 +2,7 @@
 
 ghost use Rattle.std.specs.Prelude.{◌≡◌, ◌*◌, ◌<◌, All, IfOk, OnOk, map, string_bytes};
 ghost use Rattle.sixel_base.specs.CallFault.{FailsBy};
-ghost use Rattle.sixel_encoder.specs.Encoding.{source_value};
-ghost use Rattle.sixel_encoder.specs.IndexedDrawing.{palette_fault};
+ghost use Rattle.sixel_encoder.specs.{Encoding.source_value, IndexedDrawing.palette_fault};
 ghost use Rattle.sixel_encoder.specs.RefinedText.{IsBackgroundText, IsRefinedText, next_index};
 
 use crate::form::TextForm;

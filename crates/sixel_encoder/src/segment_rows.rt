@@ -2,8 +2,7 @@
 
 ghost use Rattle.std.specs.Prelude.{◌≡◌, ◌-◌, ◌≤◌, IfOk, OnOk, length};
 ghost use Rattle.sixel_encoder.specs.Compact.{blocked_after, segment_row, transparent_row, union};
-ghost use Rattle.sixel_encoder.specs.inside.Compact.{AreLanes, IsSegment};
-ghost use Rattle.sixel_encoder.specs.inside.Indexed.{drawing_of};
+ghost use Rattle.sixel_encoder.specs.inside.{Compact.{AreLanes, IsSegment}, Indexed.drawing_of};
 
 use crate::band_entries::BandEntries;
 use crate::segments::Segment;

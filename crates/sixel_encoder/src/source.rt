@@ -3,8 +3,7 @@
 ghost use Rattle.std.specs.Prelude.{◌≡◌, ℕ, ◌+◌, ◌*◌, ◌<◌, ◌≤◌, All, IfErr, IfOk, MatchOption};
 ghost use Rattle.std.specs.Prelude.{None, OnOk, length, slice_index, string_bytes};
 ghost use Rattle.sixel_base.specs.Size.{verdict};
-ghost use Rattle.sixel_encoder.specs.Encoding.{image_fault, source_value};
-ghost use Rattle.sixel_encoder.specs.Form.{IsFormText};
+ghost use Rattle.sixel_encoder.specs.{Encoding.{image_fault, source_value}, Form.IsFormText};
 ghost use Rattle.sixel_encoder.specs.IndexedDrawing.{IsTextOf, indexed_drawing};
 
 use crate::compact::encode_compact;

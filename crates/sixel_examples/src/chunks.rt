@@ -1,10 +1,8 @@
 //! Callers of the payload session, proved from its contracts alone.
 
 ghost use Rattle.std.specs.Prelude.{◌≡◌, ◌++◌, Ok, Err, None, OnErr, OnOk};
-ghost use Rattle.sixel_base.specs.Decoder.{origin_of};
-ghost use Rattle.sixel_base.specs.Payload.{payload_fault, payload_wants};
-ghost use Rattle.sixel_base.specs.Fault.{Faults};
-ghost use Rattle.sixel_base.specs.Payload.{payload_image, payload_registers};
+ghost use Rattle.sixel_base.specs.{Decoder.origin_of, Fault.Faults, Payload.payload_fault};
+ghost use Rattle.sixel_base.specs.Payload.{payload_wants, payload_image, payload_registers};
 ghost use Rattle.icy_sixel.specs.ImageView.{image_value};
 
 use icy_sixel::{DcsSettings, Result, SixelDecoder, SixelError, SixelImage};

@@ -3,13 +3,10 @@
 //! It is proved from the receiver's contracts alone.
 
 ghost use Rattle.std.specs.Prelude.{◌≡◌, ◌<◌, [], None, OnErr, OnOk, IfOk, IfErr};
-ghost use Rattle.sixel_base.specs.Decoder.{origin_of};
-ghost use Rattle.sixel_base.specs.Fault.{Faults};
-ghost use Rattle.sixel_base.specs.Payload.{payload_fault, payload_wants};
-ghost use Rattle.sixel_base.specs.Payload.{payload_image, payload_registers};
-ghost use Rattle.icy_sixel.specs.ImageView.{image_value};
-ghost use Rattle.icy_sixel.specs.Receiver.{start_of};
+ghost use Rattle.sixel_base.specs.{Decoder.origin_of, Fault.Faults, Payload.payload_fault};
+ghost use Rattle.sixel_base.specs.Payload.{payload_wants, payload_image, payload_registers};
 ghost use Rattle.sixel_base.specs.OneShot.{found, found_fault, IsFoundImage, AreFoundRegisters};
+ghost use Rattle.icy_sixel.specs.{ImageView.image_value, Receiver.start_of};
 
 use icy_sixel::{DcsSettings, Result, SixelImage, SixelReceiver};
 use std::alloc::Global;

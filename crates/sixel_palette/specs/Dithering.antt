@@ -5,27 +5,23 @@
 -- and L. Steinberg, "An adaptive algorithm for spatial greyscale", Proceedings of the Society for
 -- Information Display 17 (1976), 75-77, in serpentine order and in whole sixteenths. The pattern of
 -- ordered dithering is that of Ø. Kolås, "a dither" (2013).
-use Rattle.std.specs.Prelude.{◌≡◌, ℕ, zero, suc, ◌+◌, ◌-◌, ◌*◌, ◌/◌, ◌%◌, ◌<◌, ◌≤◌, ◌==◌, nat_le}
-use Rattle.std.specs.Prelude.{nat_lt, min, max, if◌then◌else◌, List, [], ◌∷◌, ◌++◌, length}
-use Rattle.std.specs.Prelude.{slice_index, slice_index_or, Option, Some, None}
-use Rattle.std.specs.Option.{option_or}
+use Rattle.std.specs.{Option.option_or, Prelude.{◌≡◌, ℕ, zero, suc, ◌+◌, ◌-◌, ◌*◌, ◌/◌, ◌%◌, ◌<◌}}
+use Rattle.std.specs.Prelude.{◌≤◌, ◌==◌, nat_le, nat_lt, min, max, if◌then◌else◌, List, [], ◌∷◌}
+use Rattle.std.specs.Prelude.{◌++◌, length, slice_index, slice_index_or, Option, Some, None}
 use Rattle.sixel_base.specs.CallFault.{CallFault, color_count_fault, size_call_fault}
 use Rattle.sixel_base.specs.Picture.{joined}
 use Rattle.sixel_base.specs.declared.error.SixelError.{SixelError}
 use Rattle.sixel_base.specs.declared.error.SixelError.TheVariants.{InvalidDimensions}
 use Rattle.sixel_base.specs.declared.error.SixelError.TheVariants.{BufferSizeMismatch}
-use Rattle.sixel_palette.specs.Palette.{AreIndices, IsNearest, IsOpaque, color_at, entry_distance}
-use Rattle.sixel_palette.specs.Palette.{entry_of, nearest}
+use Rattle.sixel_palette.specs.{Gray.{are_gray, measured_pixels, source_pixels}, Palette.AreIndices}
+use Rattle.sixel_palette.specs.Palette.{IsNearest, IsOpaque, color_at, entry_distance, entry_of}
+use Rattle.sixel_palette.specs.{Palette.nearest, Refined.{opaque_pixels, sum_to, summed_error}}
 use Rattle.sixel_palette.specs.Undithered.{AreChosen, Undithered}
-use Rattle.sixel_palette.specs.Refined.{opaque_pixels, sum_to, summed_error}
-use Rattle.sixel_palette.specs.Gray.{are_gray, measured_pixels, source_pixels}
-use Rattle.sixel_palette.specs.declared.dither.Amplitude.{Amplitude}
-use Rattle.sixel_palette.specs.declared.dither.Amplitude.TheVariants.{Auto as AutoAmplitude, Levels}
-use Rattle.sixel_palette.specs.declared.dither.Dither.{Dither}
+use Rattle.sixel_palette.specs.declared.{dither.Amplitude.Amplitude, dither.Dither.Dither}
 use Rattle.sixel_palette.specs.declared.dither.Dither.TheVariants.{Off, Diffusion, Ordered}
-use Rattle.sixel_palette.specs.declared.mapping.Mapping.{Mapping}
-use Rattle.sixel_palette.specs.declared.mapping.Tolerance.{Tolerance}
+use Rattle.sixel_palette.specs.declared.{mapping.Mapping.Mapping, mapping.Tolerance.Tolerance}
 use Rattle.sixel_palette.specs.declared.mapping.Tolerance.TheVariants.{Auto, Squared}
+use Rattle.sixel_palette.specs.declared.dither.Amplitude.TheVariants.{Auto as AutoAmplitude, Levels}
 
 -- ---- errors of a call
 

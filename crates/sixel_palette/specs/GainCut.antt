@@ -2,13 +2,11 @@
 -- by dynamic programming and principal analysis", 1992). The gain is in sixteenths and rounded
 -- down.
 -- Ties are this library's.
-use Rattle.std.specs.Prelude.{ℕ, ◌+◌, ◌-◌, ◌*◌, ◌/◌, ◌%◌, ◌==◌, ◌&&◌, ◌||◌, zero, suc, Bool, true}
-use Rattle.std.specs.Prelude.{nat_le, nat_lt, if◌then◌else◌, List, [], ◌∷◌, ◌++◌, length, map}
-use Rattle.std.specs.Prelude.{slice_index, slice_index_or, slice_set}
-use Rattle.std.specs.Int.{abs_diff}
+use Rattle.std.specs.{Int.abs_diff, Prelude.{ℕ, ◌+◌, ◌-◌, ◌*◌, ◌/◌, ◌%◌, ◌==◌, ◌&&◌, ◌||◌, zero}}
+use Rattle.std.specs.Prelude.{suc, Bool, true, nat_le, nat_lt, if◌then◌else◌, List, [], ◌∷◌, ◌++◌}
+use Rattle.std.specs.Prelude.{length, map, slice_index, slice_index_or, slice_set}
 use Rattle.sixel_base.specs.Color.{rgb}
-use Rattle.sixel_palette.specs.declared.palette.gain_cut.Channel.{Channel}
-use Rattle.sixel_palette.specs.declared.palette.gain_cut.Cut.{Cut}
+use Rattle.sixel_palette.specs.declared.{palette.gain_cut.Channel.Channel, palette.gain_cut.Cut.Cut}
 use Rattle.sixel_palette.specs.ColorSums.{Pixels, sums_of, mean_or}
 
 -- the greatest number of colors of which each is a bin of its own

@@ -4,8 +4,7 @@ use Rattle.std.specs.Prelude.{ℕ, zero, suc, ◌+◌, ◌*◌, ◌/◌, ◌==�
 use Rattle.std.specs.Prelude.{◌∷◌, length, if◌then◌else◌, slice_index, slice_index_or}
 use Rattle.sixel_base.specs.Picture.{joined}
 use Rattle.sixel_palette.specs.Palette.{color_at}
-use Rattle.sixel_palette.specs.declared.dither.Dither.{Dither}
-use Rattle.sixel_palette.specs.declared.dither.Dither.TheVariants.{Off}
+use Rattle.sixel_palette.specs.declared.{dither.Dither.Dither, dither.Dither.TheVariants.Off}
 
 -- the channels of a color are equal
 abbrev pub is_gray : List ℕ → Bool

@@ -1,9 +1,8 @@
 -- Error diffusion in a palette of grays: what its errors are, and what bounds them.
-use Rattle.std.specs.Prelude.{◌≡◌, ℕ, true, List, [], length, slice_index, slice_index_or}
-use Rattle.std.specs.Int.{abs_diff}
-use Rattle.sixel_palette.specs.Palette.{color_at}
-use Rattle.sixel_palette.specs.Dithering.{Mapped, errors_of, target_of_visit}
-use Rattle.sixel_palette.specs.Gray.{are_gray, is_gray}
+use Rattle.std.specs.{Int.abs_diff, Prelude.{◌≡◌, ℕ, true, List, [], length, slice_index}}
+use Rattle.std.specs.Prelude.{slice_index_or}
+use Rattle.sixel_palette.specs.{Dithering.{Mapped, errors_of, target_of_visit}, Gray.are_gray}
+use Rattle.sixel_palette.specs.{Gray.is_gray, Palette.color_at}
 
 -- grays that are mapped to a palette of grays
 pub record AreGrays (m : Mapped) : Type 0 where

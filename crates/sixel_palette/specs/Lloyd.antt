@@ -1,11 +1,9 @@
 -- Lloyd's algorithm (S. P. Lloyd, "Least squares quantization in PCM", 1982): each entry moves to
 -- the mean of the pixels that have it. All pixels of a bin have the entry nearest to their mean.
 use Rattle.std.specs.Prelude.{ℕ, ◌/◌, ◌==◌, ◌&&◌, suc, Bool, nat_le, if◌then◌else◌, List, [], ◌∷◌}
-use Rattle.std.specs.Prelude.{length, map, slice_index, slice_index_or}
-use Rattle.std.specs.List.{range_with_len}
+use Rattle.std.specs.{Prelude.{length, map, slice_index, slice_index_or}, List.range_with_len}
+use Rattle.sixel_palette.specs.{ColorSums.{Pixels, sums_of, mean_or}, GainCut.corner}
 use Rattle.sixel_palette.specs.Palette.{distance, nearest}
-use Rattle.sixel_palette.specs.ColorSums.{Pixels, sums_of, mean_or}
-use Rattle.sixel_palette.specs.GainCut.{corner}
 
 -- two corners are the same
 abbrev pub is_corner : List ℕ → List ℕ → Bool

@@ -1,10 +1,9 @@
 -- The colors of an image's opaque pixels, their distances, the palette of an image and its
 -- witnesses. The palette is a farthest-first traversal (Gonzalez), a 2-approximation of the
 -- k-center problem. The order of ties is this library's.
-use Rattle.std.specs.Prelude.{◌≡◌, ◌⊎◌, ℕ, ◌+◌, ◌*◌, ◌/◌, ◌<◌, ◌≤◌, min, max, List, [], ◌∷◌, ◌++◌}
-use Rattle.std.specs.Prelude.{length, take, All, AllPairs, Contains, slice_index, slice_index_or}
-use Rattle.std.specs.Prelude.{nat_le, if◌then◌else◌, Option, Some, None}
-use Rattle.std.specs.Int.{abs_diff}
+use Rattle.std.specs.{Int.abs_diff, Prelude.{◌≡◌, ◌⊎◌, ℕ, ◌+◌, ◌*◌, ◌/◌, ◌<◌, ◌≤◌, min, max, List}}
+use Rattle.std.specs.Prelude.{[], ◌∷◌, ◌++◌, length, take, All, AllPairs, Contains, slice_index}
+use Rattle.std.specs.Prelude.{slice_index_or, nat_le, if◌then◌else◌, Option, Some, None}
 
 -- a color is a list of three channels: red, green, blue. This is its rank in the order by red,
 -- then green, then blue, for channels that are bytes

@@ -6,11 +6,9 @@ use Rattle.std.specs.Prelude.{length, take, zero, suc, nat_lt, if◌then◌else�
 use Rattle.std.specs.Prelude.{slice_index_or, All}
 use Rattle.sixel_base.specs.Color.{rgb}
 use Rattle.sixel_palette.specs.declared.palette.refined.RefinedPalette.{RefinedPalette}
-use Rattle.sixel_palette.specs.Palette.{nearest, color_at, IsShown, AreMembers}
-use Rattle.sixel_palette.specs.Palette.{AreIndices, IsFarthest}
-use Rattle.sixel_palette.specs.ColorSums.{Pixels}
-use Rattle.sixel_palette.specs.GainCut.{Box, bin_step, box_colors, boxes_after, is_final}
-use Rattle.sixel_palette.specs.Lloyd.{improved_entries}
+use Rattle.sixel_palette.specs.{ColorSums.Pixels, GainCut.{Box, bin_step, box_colors, boxes_after}}
+use Rattle.sixel_palette.specs.{GainCut.is_final, Lloyd.improved_entries, Palette.nearest}
+use Rattle.sixel_palette.specs.Palette.{color_at, IsShown, AreMembers, AreIndices, IsFarthest}
 use Rattle.sixel_palette.specs.PaletteBound.{IsLeastApart, NoListIsBetter}
 
 -- a register shows the color: it is that of three percentages

@@ -3,12 +3,9 @@
 -- means loses contrast.
 use Rattle.std.specs.Prelude.{ℕ, ◌+◌, ◌-◌, ◌*◌, ◌/◌, ◌==◌, ◌||◌, min, nat_le, nat_lt, Bool}
 use Rattle.std.specs.Prelude.{if◌then◌else◌, List, [], ◌∷◌, map, slice_index}
-use Rattle.sixel_palette.specs.ColorSums.{share}
-use Rattle.sixel_palette.specs.Lloyd.{mean_bytes}
-use Rattle.sixel_palette.specs.Palette.{nearest}
+use Rattle.sixel_palette.specs.{ColorSums.share, Lloyd.mean_bytes, Palette.nearest}
 use Rattle.sixel_palette.specs.Refined.{register_color}
-use Rattle.sixel_palette.specs.declared.dither.Dither.{Dither}
-use Rattle.sixel_palette.specs.declared.dither.Dither.TheVariants.{Diffusion}
+use Rattle.sixel_palette.specs.declared.{dither.Dither.Dither, dither.Dither.TheVariants.Diffusion}
 
 -- by how many 32nds entries are spread for this dithering and this number of colors at most
 abbrev pub spread_amount : Dither → ℕ → ℕ

@@ -1,27 +1,21 @@
 //! Palette indices of an image's pixels in a given palette.
 
-ghost use Rattle.std.specs.Prelude.{◌≡◌, ◌⊎◌, ℕ, ◌+◌, ◌*◌, ◌/◌, ◌<◌, ◌≤◌, All, Contains, IfOk};
-ghost use Rattle.std.specs.Prelude.{List, OnOk, length, slice_index, true};
-ghost use Rattle.std.specs.Int.{abs_diff};
-ghost use Rattle.sixel_base.specs.CallFault.{FailsBy};
-ghost use Rattle.sixel_base.specs.Limits.{area_limit};
-ghost use Rattle.sixel_base.specs.Size.{verdict};
-ghost use Rattle.sixel_palette.specs.Palette.{AreIndices, IsOpaque, color_at};
-ghost use Rattle.sixel_palette.specs.Refined.{IsRefined, IsRegisterColor, opaque_pixels};
-ghost use Rattle.sixel_palette.specs.Refined.{summed_error};
-ghost use Rattle.sixel_palette.specs.Spread.{spread_amount, spread_entries};
+ghost use Rattle.std.specs.{Int.abs_diff, Prelude.{◌≡◌, ◌⊎◌, ℕ, ◌+◌, ◌*◌, ◌/◌, ◌<◌, ◌≤◌, All}};
+ghost use Rattle.std.specs.Prelude.{Contains, IfOk, List, OnOk, length, slice_index, true};
+ghost use Rattle.sixel_base.specs.{CallFault.FailsBy, Limits.area_limit, Size.verdict};
 ghost use Rattle.sixel_palette.specs.Dithering.{AreDithered, HasTarget, HaveTargets, Mapped};
 ghost use Rattle.sixel_palette.specs.Dithering.{before_share, below_share, errors_of, index_error};
 ghost use Rattle.sixel_palette.specs.Dithering.{indices_fault, mapped_of, next_share, no_error};
 ghost use Rattle.sixel_palette.specs.Dithering.{passed_on, refined_mapping, rest_share};
 ghost use Rattle.sixel_palette.specs.Dithering.{rounded_sixteenths, rows_fault, serpentine};
 ghost use Rattle.sixel_palette.specs.Dithering.{target_of_visit, tolerance_of, visit_error};
-ghost use Rattle.sixel_palette.specs.Dithering.{whole_rows};
-ghost use Rattle.sixel_palette.specs.Gray.{is_gray, maps_grays, source_pixels};
-ghost use Rattle.sixel_palette.specs.GrayDiffusion.{AreGrays, level_gap};
-ghost use Rattle.sixel_palette.specs.inside.Mapped.{IsMappable, IsWhole};
+ghost use Rattle.sixel_palette.specs.{Dithering.whole_rows, Gray.{is_gray, maps_grays}};
+ghost use Rattle.sixel_palette.specs.{Gray.source_pixels, GrayDiffusion.{AreGrays, level_gap}};
+ghost use Rattle.sixel_palette.specs.{Palette.{AreIndices, IsOpaque, color_at}, Refined.IsRefined};
+ghost use Rattle.sixel_palette.specs.Refined.{IsRegisterColor, opaque_pixels, summed_error};
+ghost use Rattle.sixel_palette.specs.Spread.{spread_amount, spread_entries};
+ghost use Rattle.sixel_palette.specs.inside.{Error.HasNearest, Mapped.{IsMappable, IsWhole}};
 ghost use Rattle.sixel_palette.specs.declared.palette.refined.RefinedPalette.{RefinedPalette};
-ghost use Rattle.sixel_palette.specs.inside.Error.{HasNearest};
 
 mod diffusion;
 mod gray;

@@ -1,19 +1,17 @@
 -- What contracts see of a receiver, by its parts: the record of the session inside, in the words of
 -- both forms, and the error that is stored. This library's own.
-use Rattle.std.specs.Prelude.{◌≡◌, ◌≢◌, Bool, true, Option, Some, None, is_some}
-use Rattle.std.specs.Option.{option_map}
+use Rattle.std.specs.{Option.option_map, Prelude.{◌≡◌, ◌≢◌, Bool, true, Option, Some, None}}
+use Rattle.std.specs.Prelude.{is_some}
 use Rattle.sixel_base.specs.Fault.{Fault, Faults, Malformed, MissingCommand, TooLarge, BadHeader}
 use Rattle.sixel_base.specs.Fault.{StreamFailed, DcsStreamFailed, Incomplete, NoIntroducer}
 use Rattle.sixel_base.specs.Fault.{Overflow}
-use Rattle.sixel_decoder.specs.FinishedImages.{IsStored}
-use Rattle.sixel_decoder.specs.Reception.{Reception, of_payload, of_sequence}
-use Rattle.sixel_decoder.specs.declared.received.FailedRead.{FailedRead}
-use Rattle.icy_sixel.specs.Receiver.{Receiver, no_image}
-use Rattle.icy_sixel.specs.declared.receiver.FailedFeed.{FailedFeed}
+use Rattle.sixel_decoder.specs.{FinishedImages.IsStored, Reception.{Reception, of_payload}}
+use Rattle.sixel_decoder.specs.{Reception.of_sequence, declared.received.FailedRead.FailedRead}
+use Rattle.icy_sixel.specs.{Receiver.{Receiver, no_image}, declared.receiver.FailedFeed.FailedFeed}
 use Rattle.icy_sixel.specs.declared.receiver.Open.{Open}
-use Rattle.icy_sixel.specs.declared.receiver.Open.TheVariants as opened
 use Rattle.icy_sixel.specs.declared.receiver.SixelReceiver.TheInside.{Inside}
 use Rattle.icy_sixel.specs.declared.receiver.failure.Failure.{Failure}
+use Rattle.icy_sixel.specs.declared.receiver.Open.TheVariants as opened
 use Rattle.icy_sixel.specs.declared.receiver.failure.Failure.TheVariants as failures
 
 abbrev pub reception_of : Open → Reception

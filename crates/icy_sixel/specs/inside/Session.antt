@@ -1,14 +1,11 @@
 -- What the session of a step was fed, and what the bytes of the step mean by the form of the image.
 -- Invariants of this library's own: what a step comes to is in Script.
-use Rattle.std.specs.Prelude.{ℕ, ◌≡◌, ◌++◌, ◌⊎◌, true, nat_lt, List, [], Option, Some}
-use Rattle.std.specs.Option.{option_or}
-use Rattle.sixel_base.specs.Fault.{Fault, StreamFailed}
+use Rattle.std.specs.{Option.option_or, Prelude.{ℕ, ◌≡◌, ◌++◌, ◌⊎◌, true, nat_lt, List, [], Option}}
+use Rattle.std.specs.Prelude.{Some}
+use Rattle.sixel_base.specs.{Dcs.{dcs_fault, end_fault}, Fault.{Fault, StreamFailed}, Limits.Limit}
 use Rattle.sixel_base.specs.Payload.{payload_fault}
-use Rattle.sixel_base.specs.Dcs.{dcs_fault, end_fault}
-use Rattle.sixel_base.specs.Limits.{Limit}
-use Rattle.icy_sixel.specs.Receiver.{Form, Nothing, OfPayload, OfString, is_over}
+use Rattle.icy_sixel.specs.{Receiver.{Form, Nothing, OfPayload, OfString, is_over}, Script.Meaning}
 use Rattle.icy_sixel.specs.Receiver as images
-use Rattle.icy_sixel.specs.Script.{Meaning}
 
 -- all bytes were fed, or those up to the end of the image
 pub record IsWhole (form : Form) (fed bytes : List ℕ) : Type 0 where

@@ -3,14 +3,10 @@
 //! The contracts of its calls are the records of `DcsCalls` in `sixel_decoder`.
 
 ghost use Rattle.std.specs.Prelude.{◌≡◌, ◌*◌, ◌≤◌, true, false, OnErr, IfOk, length, vec_capacity};
-ghost use Rattle.sixel_base.specs.Dcs.{dcs_in_payload};
-ghost use Rattle.sixel_base.specs.Decoder.{IsSetAs};
-ghost use Rattle.sixel_decoder.specs.DcsCalls.{IsFed};
-ghost use Rattle.sixel_decoder.specs.FinishedImages.{IsFinished};
-ghost use Rattle.sixel_decoder.specs.Memory.{most_capacity};
-ghost use Rattle.sixel_decoder.specs.Progress.{IsDrawnHeight, IsPaintCount, IsSizeSoFar};
-ghost use Rattle.sixel_decoder.specs.Progress.{IsWriteCount};
-ghost use Rattle.sixel_decoder.specs.Reception.{of_sequence};
+ghost use Rattle.sixel_base.specs.{Dcs.dcs_in_payload, Decoder.IsSetAs};
+ghost use Rattle.sixel_decoder.specs.{DcsCalls.IsFed, FinishedImages.IsFinished};
+ghost use Rattle.sixel_decoder.specs.{Memory.most_capacity, Progress.{IsDrawnHeight, IsPaintCount}};
+ghost use Rattle.sixel_decoder.specs.{Progress.{IsSizeSoFar, IsWriteCount}, Reception.of_sequence};
 ghost use Rattle.icy_sixel.specs.ImageView.{image_value};
 
 use crate::decoder::{SixelDcsFeedResult, SixelDecoder};

@@ -1,12 +1,10 @@
 //! Images that are decoded in one call, with what is reported of them beside their pixels.
 
 ghost use Rattle.std.specs.Prelude.{◌≡◌, ◌≤◌, length, vec_capacity, OnOk, OnErr, IfOk};
-ghost use Rattle.sixel_base.specs.Decoder.{IsSetAs, origin_of};
-ghost use Rattle.sixel_base.specs.OneShot.{found, Payload, AreFoundRegisters};
-ghost use Rattle.sixel_base.specs.Payload.{payload_registers};
+ghost use Rattle.sixel_base.specs.{Decoder.{IsSetAs, origin_of}, OneShot.{found, Payload}};
+ghost use Rattle.sixel_base.specs.{OneShot.AreFoundRegisters, Payload.payload_registers};
 ghost use Rattle.icy_sixel.specs.ReceivedImages.{left_value, received_report};
-ghost use Rattle.sixel_decoder.specs.Memory.{most_capacity};
-ghost use Rattle.sixel_decoder.specs.OneShotCalls.{IsDecoded};
+ghost use Rattle.sixel_decoder.specs.{Memory.most_capacity, OneShotCalls.IsDecoded};
 ghost use Rattle.sixel_decoder.specs.Report.{found_report};
 
 use crate::decoder::SixelDecoder;

@@ -3,14 +3,10 @@
 //! The contracts of its calls are the records of `PayloadCalls` in `sixel_decoder`.
 
 ghost use Rattle.std.specs.Prelude.{◌≡◌, ◌<◌, ◌+◌, ◌*◌, ◌≤◌, OnErr, IfOk, length, vec_capacity};
-ghost use Rattle.sixel_base.specs.Decoder.{IsSetAs};
-ghost use Rattle.sixel_base.specs.Payload.{payload_area};
-ghost use Rattle.sixel_decoder.specs.FinishedImages.{IsFinished};
-ghost use Rattle.sixel_decoder.specs.Memory.{most_capacity};
-ghost use Rattle.sixel_decoder.specs.PayloadCalls.{IsFed};
-ghost use Rattle.sixel_decoder.specs.Progress.{IsDrawnHeight, IsPaintCount, IsSizeSoFar};
-ghost use Rattle.sixel_decoder.specs.Progress.{IsWriteCount};
-ghost use Rattle.sixel_decoder.specs.Reception.{of_payload};
+ghost use Rattle.sixel_base.specs.{Decoder.IsSetAs, Payload.payload_area};
+ghost use Rattle.sixel_decoder.specs.{FinishedImages.IsFinished, Memory.most_capacity};
+ghost use Rattle.sixel_decoder.specs.{PayloadCalls.IsFed, Progress.{IsDrawnHeight, IsPaintCount}};
+ghost use Rattle.sixel_decoder.specs.{Progress.{IsSizeSoFar, IsWriteCount}, Reception.of_payload};
 ghost use Rattle.icy_sixel.specs.ImageView.{image_value};
 
 use crate::decoder::{DcsSettings, SixelDecoder, SixelFeedResult, SixelFeedStatus};

@@ -1,9 +1,8 @@
 //! The work and the progress of an open image.
 
 ghost use Rattle.std.specs.Prelude.{◌≡◌, true, false};
-ghost use Rattle.icy_sixel.specs.Receiver.{in_payload, is_over};
-ghost use Rattle.icy_sixel.specs.ReceiverCalls.{IsBandPaintCount, IsBandWriteCount};
-ghost use Rattle.icy_sixel.specs.ReceiverCalls.{IsDrawnHeight, IsSizeSoFar};
+ghost use Rattle.icy_sixel.specs.{Receiver.{in_payload, is_over}, ReceiverCalls.IsBandPaintCount};
+ghost use Rattle.icy_sixel.specs.ReceiverCalls.{IsBandWriteCount, IsDrawnHeight, IsSizeSoFar};
 
 use crate::receiver::{Open, SixelReceiver};
 

@@ -3,21 +3,17 @@
 //! In SIXEL the drawing position never goes up. Once a graphics new line is read, no byte that
 //! follows changes a row above it. So a host can read and draw an image band by band.
 
-ghost use Rattle.std.specs.Prelude.{◌≡◌, ◌≤◌, ◌<◌, ◌+◌, ◌*◌, ◌++◌, nat_le, nat_lt, ℕ, List};
-ghost use Rattle.std.specs.Prelude.{length, take, if◌then◌else◌, IfSome, None, OnOk, Some};
-ghost use Rattle.sixel_base.specs.CallFault.{IsVerdict};
-ghost use Rattle.sixel_base.specs.Limits.{Limit};
-ghost use Rattle.sixel_base.specs.OneShot.{IsFoundImage};
-ghost use Rattle.sixel_base.specs.Payload.{Image};
-ghost use Rattle.sixel_base.specs.Picture.{picture};
+ghost use Rattle.std.specs.Prelude.{◌≡◌, ◌≤◌, ◌<◌, ◌+◌, ◌*◌, ◌++◌, nat_le, nat_lt, ℕ, List, length};
+ghost use Rattle.std.specs.Prelude.{take, if◌then◌else◌, IfSome, None, OnOk, Some};
+ghost use Rattle.sixel_base.specs.{CallFault.IsVerdict, Limits.Limit, OneShot.IsFoundImage};
+ghost use Rattle.sixel_base.specs.{Payload.Image, Picture.picture};
 ghost use Rattle.sixel_base.specs.declared.state.DecoderState.{DecoderState};
 ghost use Rattle.sixel_canvas.specs.Layout.{AreRowsIn};
 ghost use Rattle.sixel_decoder.specs.Reception.{HasNoPayload, IsPayloadOf};
 ghost use Rattle.icy_sixel.specs.Bands.{IsBandFed, band_of, received_band};
 ghost use Rattle.icy_sixel.specs.ReceivedRows.{AreRowsCopied, AreRowsReleased, buffer_len};
 ghost use Rattle.icy_sixel.specs.ReceivedRows.{final_rows, layout_fault, pixel_so_far, rows_so_far};
-ghost use Rattle.icy_sixel.specs.ReceivedRows.{usize_max, with_released};
-ghost use Rattle.icy_sixel.specs.Receiver.{Form, found};
+ghost use Rattle.icy_sixel.specs.{ReceivedRows.{usize_max, with_released}, Receiver.{Form, found}};
 ghost use Rattle.icy_sixel.specs.inside.Receiving.{reception_of};
 
 use crate::receiver::{FailedFeed, Open, Received, SixelReceiver};

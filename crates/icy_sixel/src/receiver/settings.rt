@@ -1,7 +1,6 @@
 //! What the host of a receiver sets: decoder, lenience, transparency and first register.
 
-ghost use Rattle.std.specs.Prelude.{◌≡◌};
-ghost use Rattle.std.specs.Borrow.{sem};
+ghost use Rattle.std.specs.{Borrow.sem, Prelude.{◌≡◌}};
 ghost use Rattle.icy_sixel.specs.Lending.{LendsDecoder};
 
 use crate::decoder::SixelDecoder;

@@ -4,8 +4,7 @@ ghost use Rattle.std.specs.Prelude.{◌≡◌, ◌++◌, [], true, false, nat_lt
 ghost use Rattle.std.specs.Prelude.{OnOk, IfOk, IfErr, MatchResult, List, ℕ};
 ghost use Rattle.sixel_base.specs.Fault.{Faults};
 ghost use Rattle.icy_sixel.specs.Receiver.{begun, count, fault, growths, is_open, status};
-ghost use Rattle.icy_sixel.specs.Script.{IsSessionOutcome};
-ghost use Rattle.icy_sixel.specs.inside.Session.{IsWhole, meaning};
+ghost use Rattle.icy_sixel.specs.{Script.IsSessionOutcome, inside.Session.{IsWhole, meaning}};
 
 use crate::decoder::SixelDecoder;
 use crate::receiver::{Received, SixelReceiver};

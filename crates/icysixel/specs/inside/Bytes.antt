@@ -1,10 +1,7 @@
 -- The ownership of a block with bytes in it: that of a vector, which is nothing without capacity.
-use Rattle.std.specs.Prelude.{ℕ, List}
+use Rattle.std.specs.{Allocator.block_with_items, Global.Global, Prelude.{ℕ, List}}
 use base.Fml.{Fml}
-use denote.Builtin.{u8}
-use denote.RawPtr.{Ptr}
-use Rattle.std.specs.Global.{Global}
-use Rattle.std.specs.Allocator.{block_with_items}
+use denote.{Builtin.u8, RawPtr.Ptr}
 use Rattle.std.specs.Vec.Ownership.{has_block, owns_if}
 use Rattle.std_heap.specs.contracts.GlobalAllocator.TheImpl.{ghosts}
 

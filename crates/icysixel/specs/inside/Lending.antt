@@ -1,9 +1,8 @@
 -- What a handle and its pointer are when the borrow of the state that they lent ends.
-use Rattle.std.specs.Prelude.{◌≡◌, Option, Some, None, is_some, nat_lt}
-use Rattle.std.specs.Borrow.{Lends, MutBor, Fml}
+use Rattle.std.specs.{Borrow.{Lends, MutBor, Fml}, Prelude.{◌≡◌, Option, Some, None, is_some}}
+use Rattle.std.specs.Prelude.{nat_lt}
+use Rattle.icysixel.specs.declared.{handle.Handle.Handle, state.State.State}
 use Rattle.icysixel.specs.declared.state_pointer.StatePointer.{StatePointer}
-use Rattle.icysixel.specs.declared.handle.Handle.{Handle}
-use Rattle.icysixel.specs.declared.state.State.{State}
 use Rattle.icysixel.specs.contracts.state_pointer.StatePointer as pointer
 use Rattle.icysixel.specs.contracts.handle.Handle as handle
 use Rattle.icysixel.specs.contracts.state.State as state

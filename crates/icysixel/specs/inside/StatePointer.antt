@@ -1,11 +1,8 @@
 -- What a pointer owns: the same as a box of the state that it leads to, or nothing.
-use Rattle.std.specs.Prelude.{Option, Some, None}
-use Rattle.std.specs.Coded.{coded_option}
-use base.Fml.{Fml, ftrue}
-use base.Stored.{Coded}
+use Rattle.std.specs.{Coded.coded_option, Global.Global, Prelude.{Option, Some, None}}
+use base.{Fml.{Fml, ftrue}, Stored.Coded}
 use denote.RawPtr.{Ptr}
 use Rattle.std.specs.Box.Ownership.{box_owns}
-use Rattle.std.specs.Global.{Global}
 use Rattle.std_heap.specs.contracts.GlobalAllocator.TheImpl.{ghosts}
 use Rattle.icysixel.specs.contracts.state.State.{the_row}
 

@@ -1,8 +1,7 @@
 //! A vector with its pointer, length and capacity, for the module above.
 
-ghost use Rattle.std.specs.Prelude.{◌≡◌};
-ghost use Rattle.std.specs.Vec.{vec_capacity, vec_len, vec_ptr};
-ghost use Rattle.std.specs.Mem.{manually_drop_value};
+ghost use Rattle.std.specs.{Mem.manually_drop_value, Prelude.{◌≡◌}, Vec.{vec_capacity, vec_len}};
+ghost use Rattle.std.specs.Vec.{vec_ptr};
 
 use std::alloc::Global;
 use std::mem::ManuallyDrop;

@@ -1,7 +1,6 @@
 //! A box as its pointer and its allocator, for the module above.
 
-ghost use Rattle.std.specs.Prelude.{◌≡◌};
-ghost use Rattle.std.specs.Box.Ownership.{box_owns};
+ghost use Rattle.std.specs.{Box.Ownership.box_owns, Prelude.{◌≡◌}};
 
 use std::alloc::Allocator;
 use std::marker::Model;

@@ -1,9 +1,8 @@
 -- Which fields make up a header.
-use Rattle.std.specs.Prelude.{ℕ, ◌<◌, ◌≤◌, ◌&&◌, nat_lt, if◌then◌else◌, List, Option, Some}
-use Rattle.std.specs.Prelude.{Result, Ok, Err}
-use Rattle.sixel.specs.declared.netpbm.error.NetpbmError.{NetpbmError}
+use Rattle.std.specs.Prelude.{ℕ, ◌<◌, ◌≤◌, ◌&&◌, nat_lt, if◌then◌else◌, List, Option, Some, Result}
+use Rattle.std.specs.Prelude.{Ok, Err}
+use Rattle.sixel.specs.declared.{netpbm.error.NetpbmError.NetpbmError, netpbm.header.Header.Header}
 use Rattle.sixel.specs.declared.netpbm.error.NetpbmError.TheVariants.{Header as Malformed}
-use Rattle.sixel.specs.declared.netpbm.header.Header.{Header}
 
 -- a header and the bytes after it, or why there is none
 abbrev pub Read : Type 0

@@ -1,10 +1,8 @@
 -- What the header of an image says, by netpbm's pages pam(5), ppm(5) and pgm(5).
-use Rattle.std.specs.Prelude.{ℕ, nat_eq, if◌then◌else◌, List, codes, drop, Some, Err}
-use Rattle.std.specs.List.{starts_with}
-use Rattle.sixel.specs.declared.netpbm.error.NetpbmError.TheVariants.{Magic}
-use Rattle.sixel.specs.netpbm.Fields.{Read, checked, with_rest}
-use Rattle.sixel.specs.netpbm.Pam.{pam_header}
-use Rattle.sixel.specs.Number.{number_of}
+use Rattle.std.specs.{List.starts_with, Prelude.{ℕ, nat_eq, if◌then◌else◌, List, codes, drop, Some}}
+use Rattle.std.specs.Prelude.{Err}
+use Rattle.sixel.specs.{Number.number_of, declared.netpbm.error.NetpbmError.TheVariants.Magic}
+use Rattle.sixel.specs.{netpbm.Fields.{Read, checked, with_rest}, netpbm.Pam.pam_header}
 use Rattle.sixel.specs.netpbm.Words.{after_gap, after_word, word_of}
 
 -- The header of a PPM or a PGM file after its magic number. Its numbers follow gaps. One byte, a

@@ -4,9 +4,7 @@ use Rattle.sixel_base.specs.Payload.{Image}
 use Rattle.sixel_encoder.specs.Encoding.{square_value}
 use Rattle.sixel.specs.declared.netpbm.error.NetpbmError.{NetpbmError}
 use Rattle.sixel.specs.declared.netpbm.error.NetpbmError.TheVariants.{Incomplete}
-use Rattle.sixel.specs.netpbm.Fields.{Read}
-use Rattle.sixel.specs.netpbm.Header.{header_of}
-use Rattle.sixel.specs.netpbm.Raster.{pixels_of, raster_len}
+use Rattle.sixel.specs.netpbm.{Fields.Read, Header.header_of, Raster.{pixels_of, raster_len}}
 
 -- the image with this header, whose pixels begin these bytes: square pixels on a transparent
 -- background

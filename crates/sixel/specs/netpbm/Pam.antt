@@ -1,19 +1,15 @@
 -- The header of a PAM file, by netpbm's page pam(5). Lines of a name and a value follow the magic
 -- number in any order, each name once, up to the line `ENDHDR`. Empty lines and lines that begin
 -- with `#` are comments. A known tuple type has its number of samples.
-use Rattle.std.specs.Prelude.{ℕ, ◌||◌, ◌==◌, nat_lt, nat_eq, not, if◌then◌else◌, List, []}
-use Rattle.std.specs.Prelude.{◌∷◌, ◌++◌, codes, length, Option, None, Some, option_and_then, Bool}
-use Rattle.std.specs.Prelude.{option_map, Result, Ok, Err, false}
-use Rattle.std.specs.List.{starts_with}
-use Rattle.std.specs.Str.{bytes_eq}
-use Rattle.sixel.specs.declared.netpbm.error.NetpbmError.{NetpbmError}
+use Rattle.std.specs.Prelude.{ℕ, ◌||◌, ◌==◌, nat_lt, nat_eq, not, if◌then◌else◌, List, [], ◌∷◌}
+use Rattle.std.specs.Prelude.{◌++◌, codes, length, Option, None, Some, option_and_then, Bool}
+use Rattle.std.specs.{Prelude.{option_map, Result, Ok, Err, false}, List.starts_with, Str.bytes_eq}
+use Rattle.sixel.specs.{Number.number_of, declared.netpbm.error.NetpbmError.NetpbmError}
+use Rattle.sixel.specs.{declared.netpbm.header.Header.Header, declared.netpbm.pam.Fields.Fields}
+use Rattle.sixel.specs.{netpbm.Fields.{Read, checked, with_rest}, netpbm.Words.after_blanks}
+use Rattle.sixel.specs.netpbm.Words.{after_word, word_of}
 use Rattle.sixel.specs.declared.netpbm.error.NetpbmError.TheVariants.{TupleType as WrongType}
 use Rattle.sixel.specs.declared.netpbm.error.NetpbmError.TheVariants.{Header as Malformed}
-use Rattle.sixel.specs.declared.netpbm.header.Header.{Header}
-use Rattle.sixel.specs.declared.netpbm.pam.Fields.{Fields}
-use Rattle.sixel.specs.netpbm.Fields.{Read, checked, with_rest}
-use Rattle.sixel.specs.Number.{number_of}
-use Rattle.sixel.specs.netpbm.Words.{after_blanks, after_word, word_of}
 
 abbrev pub no_fields : Fields
 no_fields = record {

@@ -1,9 +1,8 @@
 //! The images of the files that `draw` names.
 
 ghost use Rattle.std.specs.Prelude.{◌≡◌, ℕ, IfOk, IfSome, List, Option};
-ghost use Rattle.sixel.specs.Files.{AreDrawn, AreFileOutputs};
+ghost use Rattle.sixel.specs.{Files.{AreDrawn, AreFileOutputs}, Words.{stated_of, words_of}};
 ghost use Rattle.sixel.specs.WorkOutput.{IsPictureOutput, Writes};
-ghost use Rattle.sixel.specs.Words.{stated_of, words_of};
 ghost use Rattle.sixel.specs.declared.picture.PictureWord.TheVariants.{Draw};
 
 use crate::draw::options::Drawing;

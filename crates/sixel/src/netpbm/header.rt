@@ -1,8 +1,7 @@
 //! The header of an image: its sizes, and how its samples are stored.
 
 ghost use Rattle.std.specs.Prelude.{◌≡◌, ◌<◌, ◌≤◌, IfOk, MatchResult, Ok, Err, Some};
-ghost use Rattle.sixel.specs.netpbm.Fields.{IsHeader, checked};
-ghost use Rattle.sixel.specs.netpbm.Header.{header_of, pnm_header};
+ghost use Rattle.sixel.specs.netpbm.{Fields.{IsHeader, checked}, Header.{header_of, pnm_header}};
 
 use crate::netpbm::error::NetpbmError;
 use crate::netpbm::pam::read_pam;

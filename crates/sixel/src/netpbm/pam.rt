@@ -2,9 +2,8 @@
 
 ghost use Rattle.std.specs.Prelude.{◌≡◌, [], IfOk, MatchResult, MatchOption, Ok, Err, None, Some};
 ghost use Rattle.sixel.specs.netpbm.Fields.{IsHeader};
-ghost use Rattle.sixel.specs.netpbm.Pam.{first, is_end, pam_header, read_lines};
-ghost use Rattle.sixel.specs.netpbm.Pam.{tuple_depth, header_of_fields, no_fields, with_field};
-ghost use Rattle.sixel.specs.netpbm.Pam.{with_line};
+ghost use Rattle.sixel.specs.netpbm.Pam.{first, is_end, pam_header, read_lines, tuple_depth};
+ghost use Rattle.sixel.specs.netpbm.Pam.{header_of_fields, no_fields, with_field, with_line};
 
 use crate::netpbm::error::NetpbmError;
 use crate::netpbm::header::{Header, check};

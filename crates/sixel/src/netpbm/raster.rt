@@ -1,9 +1,8 @@
 //! The pixels of an image.
 
 ghost use Rattle.std.specs.Prelude.{◌≡◌, ◌≤◌, ◌<◌, ◌*◌, ◌^◌, length, MatchOption, IfOk};
-ghost use Rattle.sixel.specs.netpbm.Fields.{IsHeader};
-ghost use Rattle.sixel.specs.netpbm.Raster.{level, pixel_at, pixel_len, pixels_of, raster_len};
-ghost use Rattle.sixel.specs.netpbm.Raster.{rgba};
+ghost use Rattle.sixel.specs.netpbm.{Fields.IsHeader, Raster.{level, pixel_at, pixel_len}};
+ghost use Rattle.sixel.specs.netpbm.Raster.{pixels_of, raster_len, rgba};
 
 use crate::netpbm::header::Header;
 use std::alloc::{AllocError, Global};

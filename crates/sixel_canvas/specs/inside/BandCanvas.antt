@@ -1,14 +1,13 @@
 -- What a canvas of one band shows: the final rows above the band, of which the first were released
 -- and the others are stored, the six rows of the band, and background elsewhere. That no row above
 -- the band changes any more is DEC's manual's: a graphics new line goes down, and nothing goes up.
-use Rattle.std.specs.Prelude.{◌≡◌, ℕ, ◌+◌, ◌-◌, ◌*◌, ◌<◌, ◌≤◌, List, nat_lt, if◌then◌else◌}
-use Rattle.std.specs.Prelude.{length, max}
+use Rattle.std.specs.Prelude.{◌≡◌, ℕ, ◌+◌, ◌-◌, ◌*◌, ◌<◌, ◌≤◌, List, nat_lt, if◌then◌else◌, length}
+use Rattle.std.specs.Prelude.{max}
 use Rattle.sixel_canvas.specs.Drawn.{Run, band_edge, drawn_columns, least_moved, lowest_top}
 use Rattle.sixel_canvas.specs.Drawn.{right_edge, rows_above, runs_cost, runs_paint}
-use Rattle.sixel_canvas.specs.Paints.{counted}
-use Rattle.sixel_canvas.specs.inside.TaggedBand.{TaggedState, capacity, tagged_cell}
+use Rattle.sixel_canvas.specs.{Paints.counted, inside.ReleasedRows.released_pixel}
 use Rattle.sixel_canvas.specs.inside.RowsState.{RowsState, final, stored_area}
-use Rattle.sixel_canvas.specs.inside.ReleasedRows.{released_pixel}
+use Rattle.sixel_canvas.specs.inside.TaggedBand.{TaggedState, capacity, tagged_cell}
 
 -- the bytes of the released rows, how many these are, the final rows that are stored, the band, its
 -- first row, how many columns of it are drawn on without an allocation, and how wide the picture is

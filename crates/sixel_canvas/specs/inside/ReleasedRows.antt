@@ -2,8 +2,7 @@
 -- bytes any more. Proofs still name them, because the picture has them. This library's own.
 use Rattle.std.specs.Prelude.{ℕ, ◌*◌, List, [], length, take, drop, slice_index_or, nat_lt}
 use Rattle.std.specs.Prelude.{if◌then◌else◌}
-use Rattle.sixel_canvas.specs.Layout.{pixel_at}
-use Rattle.sixel_canvas.specs.inside.RowsState.{RowsState}
+use Rattle.sixel_canvas.specs.{Layout.pixel_at, inside.RowsState.RowsState}
 
 -- the bytes of a row, and none where there is no such row
 abbrev pub row_bytes : RowsState → ℕ → List ℕ

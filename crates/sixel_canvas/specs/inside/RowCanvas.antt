@@ -2,14 +2,12 @@
 -- were copied or filled to grow its rows, their capacity, and pixels that were painted. The rules
 -- are this library's own: a row has pixels only up to the last column that was drawn on, and a band
 -- without a set pixel has no rows.
-use Rattle.std.specs.Prelude.{◌≡◌, ℕ, ◌+◌, ◌-◌, ◌*◌, ◌/◌, ◌%◌, ◌^◌, ◌<◌, ◌≤◌, max}
-use Rattle.std.specs.Prelude.{if◌then◌else◌, List, [], ◌∷◌, All, length, slice_index_or, sum_by}
-use Rattle.sixel_base.specs.Limits.{side_limit}
-use Rattle.sixel_base.specs.Picture.{is_struck, total}
-use Rattle.sixel_canvas.specs.Drawn.{Run, Work, runs_least}
-use Rattle.sixel_canvas.specs.Paints.{counted, ends_and_tags}
-use Rattle.sixel_canvas.specs.inside.RowBand.{IsRowBand, least, line_in}
-use Rattle.sixel_canvas.specs.inside.TaggedRow.{TaggedRowState, tagged_pixel}
+use Rattle.std.specs.Prelude.{◌≡◌, ℕ, ◌+◌, ◌-◌, ◌*◌, ◌/◌, ◌%◌, ◌^◌, ◌<◌, ◌≤◌, max, if◌then◌else◌}
+use Rattle.std.specs.Prelude.{List, [], ◌∷◌, All, length, slice_index_or, sum_by}
+use Rattle.sixel_base.specs.{Limits.side_limit, Picture.{is_struck, total}}
+use Rattle.sixel_canvas.specs.{Drawn.{Run, Work, runs_least}, Paints.{counted, ends_and_tags}}
+use Rattle.sixel_canvas.specs.inside.{RowBand.{IsRowBand, least, line_in}, TaggedRow.TaggedRowState}
+use Rattle.sixel_canvas.specs.inside.TaggedRow.{tagged_pixel}
 
 -- the background, the rows of each band from the top, how many bands are above the one that is
 -- drawn on, and what runs have painted, at most, beside what they painted past all that was drawn

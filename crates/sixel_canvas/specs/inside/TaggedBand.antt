@@ -2,8 +2,7 @@
 -- of a row, over what is stored there. The rule is this library's own: a wide run over columns that
 -- were drawn on tags the tiles that it covers whole.
 use Rattle.std.specs.Prelude.{◌≡◌, ℕ, ◌+◌, ◌-◌, ◌*◌, ◌/◌, ◌≤◌, List, min}
-use Rattle.sixel_canvas.specs.inside.Band.{BandState, IsBand, cell}
-use Rattle.sixel_canvas.specs.inside.Tags.{no_tag, under}
+use Rattle.sixel_canvas.specs.inside.{Band.{BandState, IsBand, cell}, Tags.{no_tag, under}}
 
 -- the pixels, a tag for each tile of columns, and how many columns and tags were painted
 pub record TaggedState : Type 0 where

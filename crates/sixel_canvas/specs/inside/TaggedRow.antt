@@ -2,8 +2,7 @@
 -- over what is stored there. The rule is this library's own: a wide run over columns that were
 -- drawn on tags the tiles that it covers whole.
 use Rattle.std.specs.Prelude.{◌≡◌, ℕ, ◌*◌, ◌/◌, ◌≤◌, List, length, slice_index_or}
-use Rattle.sixel_canvas.specs.Row.{RowState, IsThrifty, empty_row}
-use Rattle.sixel_canvas.specs.inside.Tags.{no_tag, under}
+use Rattle.sixel_canvas.specs.{Row.{RowState, IsThrifty, empty_row}, inside.Tags.{no_tag, under}}
 
 -- the pixels, a tag for each tile of columns, and how many pixels wide runs have painted past all
 -- that was drawn on

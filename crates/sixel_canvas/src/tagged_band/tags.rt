@@ -1,11 +1,10 @@
 //! The tags of a band: how tiles get them, and how they are painted.
-ghost use Rattle.std.specs.Prelude.{◌≡◌, ℕ, ◌+◌, ◌-◌, ◌*◌, ◌/◌, ◌≤◌, ◌<◌};
-ghost use Rattle.std.specs.Prelude.{max, min, true, false, nat_le, nat_lt, ◌&&◌, if◌then◌else◌};
+ghost use Rattle.std.specs.Prelude.{◌≡◌, ℕ, ◌+◌, ◌-◌, ◌*◌, ◌/◌, ◌≤◌, ◌<◌, max, min, true, false};
+ghost use Rattle.std.specs.Prelude.{nat_le, nat_lt, ◌&&◌, if◌then◌else◌};
 ghost use Rattle.sixel_base.specs.Picture.{covers};
-ghost use Rattle.sixel_canvas.specs.inside.Band.{cell, IsBand};
+ghost use Rattle.sixel_canvas.specs.inside.{Band.{cell, IsBand}, TaggedBand.HasSameRoom};
+ghost use Rattle.sixel_canvas.specs.inside.{TaggedBand.tagged_cell, Tags.{is_tag, no_tag, under}};
 ghost use Rattle.sixel_canvas.specs.Paints.{counted};
-ghost use Rattle.sixel_canvas.specs.inside.TaggedBand.{HasSameRoom, tagged_cell};
-ghost use Rattle.sixel_canvas.specs.inside.Tags.{is_tag, no_tag, under};
 
 use crate::band::Band;
 use crate::tag::{NO_TAG, TILE, is_visible};

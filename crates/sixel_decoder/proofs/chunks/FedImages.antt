@@ -1,32 +1,26 @@
 -- What a feed of an image does beside its count and its status, by the form of the image: once the
 -- end has come it takes no byte, and its error is that of all bytes.
-use Rattle.std.proofs.lemmas.Bool.Decides.{nat_tests}
-use Rattle.std.proofs.Common.{◌≡◌, ℕ, ◌+◌, ◌≤◌, true, false, List, ◌++◌, ap, sym, ◌∙◌, arith}
-use Rattle.std.proofs.Common.{refl, append-nil, Option, Some, None, Result, Ok, Err, length}
-use Rattle.std.specs.Prelude.{nat_lt, is_some, MatchResult}
+use Rattle.std.proofs.Common.{◌≡◌, ℕ, ◌+◌, ◌≤◌, true, false, List, ◌++◌, ap, sym, ◌∙◌, arith, refl}
+use Rattle.std.proofs.Common.{append-nil, Option, Some, None, Result, Ok, Err, length}
+use Rattle.std.{proofs.lemmas.Bool.Decides.nat_tests, specs.Prelude.{nat_lt, is_some, MatchResult}}
+use Rattle.sixel_base.{specs.Bytes.first_terminator, specs.Dcs.{dcs_fault, dcs_growths}}
+use Rattle.sixel_base.{specs.Fault.Faults, specs.Limits.Limit, specs.Payload.payload_fault}
+use Rattle.sixel_base.{specs.Payload.payload_wants, specs.Settings.Settings, specs.Status.status_of}
 use Rattle.sixel_base.specs.declared.error.SixelError.{SixelError}
-use Rattle.sixel_base.specs.Bytes.{first_terminator}
-use Rattle.sixel_base.specs.Dcs.{dcs_fault, dcs_growths}
-use Rattle.sixel_base.specs.Fault.{Faults}
-use Rattle.sixel_base.specs.Lenient.{fault as reported}
-use Rattle.sixel_base.specs.Limits.{Limit}
-use Rattle.sixel_base.specs.Payload.{payload_fault, payload_wants}
-use Rattle.sixel_base.specs.Payload as payloads
-use Rattle.sixel_base.specs.Settings.{Settings}
-use Rattle.sixel_base.specs.Status.{status_of}
-use Rattle.sixel_decoder.specs.FedImages.{IsFed, count, fault, growths, is_over, status}
-use Rattle.sixel_decoder.specs.FinishedImages.{IsAgain}
-use Rattle.sixel_decoder.specs.Reception.{Form, Nothing, OfPayload, OfString, Reception}
-use Rattle.sixel_decoder.specs.declared.received.Received.{Received}
-use Rattle.sixel_decoder.specs.declared.received.Status.TheVariants as statuses
 use Rattle.sixel_decoder.proofs.chunks.Joined.{first_terminator-ended}
-use Rattle.sixel_decoder.proofs.dcs_sequences.Ends.{count-most}
-use Rattle.sixel_decoder.proofs.images.Finality.{count_ended, settled_ended, status_ended}
-use Rattle.sixel_decoder.proofs.images.Finality.{dcs_count_ended, dcs_fault_ended}
-use Rattle.sixel_decoder.proofs.images.Finality.{dcs_growths_ended}
 use Rattle.sixel_decoder.proofs.chunks.PayloadFaults.{payload_refused}
 use Rattle.sixel_decoder.proofs.chunks.Sessions.{MatchBool-from_each, dcs_count-most, frame_refused}
 use Rattle.sixel_decoder.proofs.chunks.Sessions.{never_refused, same_string, string_refused}
+use Rattle.sixel_decoder.{proofs.dcs_sequences.Ends.count-most, proofs.images.Finality.count_ended}
+use Rattle.sixel_decoder.proofs.images.Finality.{settled_ended, status_ended, dcs_count_ended}
+use Rattle.sixel_decoder.proofs.images.Finality.{dcs_fault_ended, dcs_growths_ended}
+use Rattle.sixel_decoder.specs.FedImages.{IsFed, count, fault, growths, is_over, status}
+use Rattle.sixel_decoder.{specs.FinishedImages.IsAgain, specs.Reception.{Form, Nothing, OfPayload}}
+use Rattle.sixel_decoder.specs.Reception.{OfString, Reception}
+use Rattle.sixel_decoder.specs.declared.received.Received.{Received}
+use Rattle.sixel_base.specs.Lenient.{fault as reported}
+use Rattle.sixel_base.specs.Payload as payloads
+use Rattle.sixel_decoder.specs.declared.received.Status.TheVariants as statuses
 
 -- ---- after the end
 

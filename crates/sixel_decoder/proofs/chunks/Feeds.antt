@@ -4,31 +4,24 @@ use Rattle.std.proofs.Common.{ap, refl, subst, Option, Some}
 use Rattle.std.specs.Prelude.{is_some}
 use Rattle.std.proofs.lemmas.Bool.Decides.{nat_tests}
 use Rattle.sixel_base.specs.declared.state.DecoderState.{DecoderState}
-use Rattle.sixel_base.specs.declared.status.SixelFeedResult.{SixelFeedResult}
-use Rattle.sixel_base.specs.declared.status.SixelFeedStatus.TheVariants as payload_status
 use Rattle.sixel_base.specs.declared.status.SixelDcsFeedStatus.{SixelDcsFeedStatus}
 use Rattle.sixel_base.specs.declared.status.SixelDcsFeedStatus.TheVariants.{NeedMoreData}
-use Rattle.sixel_base.specs.Bytes.{count, first_terminator, front}
-use Rattle.sixel_base.specs.History.{History, history_of, read}
-use Rattle.sixel_base.specs.Payload.{fed_fault}
-use Rattle.sixel_base.specs.Status.{status_of}
-use Rattle.sixel_base.specs.Stroke.{Origin}
+use Rattle.sixel_base.specs.declared.status.SixelFeedResult.{SixelFeedResult}
+use Rattle.sixel_base.specs.{Bytes.{count, first_terminator, front}, History.{History, history_of}}
+use Rattle.sixel_base.specs.{History.read, Payload.fed_fault, Status.status_of, Stroke.Origin}
 use Rattle.sixel_canvas.specs.declared.drawing.Canvas.{Ghosts}
-use Rattle.sixel_decoder.specs.FedImages.{of_payload_fed}
-use Rattle.sixel_decoder.specs.PayloadCalls as payloads
-use Rattle.sixel_decoder.specs.Reception.{OfPayload, of_payload}
+use Rattle.sixel_decoder.specs.{FedImages.of_payload_fed, Reception.{OfPayload, of_payload}}
 use Rattle.sixel_decoder.specs.Session.{Session, decoder_of}
-use Rattle.sixel_decoder.specs.declared.received.Status.TheVariants.{Payload}
-use Rattle.sixel_decoder.specs.declared.dcs_parser.DcsState.TheVariants as states
 use Rattle.sixel_decoder.specs.declared.payload_parser.PayloadParser.{PayloadParser}
-use Rattle.sixel_decoder.specs.inside.DcsParser.{Follows, IsInPayload}
-use Rattle.sixel_decoder.specs.inside.PayloadParser.{Feeds, Stands}
-use Rattle.sixel_decoder.specs.inside.PayloadReader.{GoesOn, HasRead}
+use Rattle.sixel_decoder.specs.declared.received.Status.TheVariants.{Payload}
+use Rattle.sixel_decoder.specs.inside.{DcsParser.{Follows, IsInPayload}, PayloadParser.Feeds}
+use Rattle.sixel_decoder.specs.inside.{PayloadParser.Stands, PayloadReader.{GoesOn, HasRead}}
 use Rattle.sixel_decoder.specs.inside.Runs.{IsPrintable}
-use Rattle.sixel_decoder.proofs.chunks.Joined.{open_goes_on}
-use Rattle.sixel_decoder.proofs.dcs_sequences.Chunks.{payload_follows}
-use Rattle.sixel_decoder.proofs.dcs_sequences.Ends.{goes_open, waiting_by}
-use Rattle.sixel_decoder.proofs.chunks.FedImages.{image_fed}
+use Rattle.sixel_decoder.proofs.chunks.{FedImages.image_fed, Joined.open_goes_on}
+use Rattle.sixel_decoder.proofs.dcs_sequences.{Chunks.payload_follows, Ends.{goes_open, waiting_by}}
+use Rattle.sixel_base.specs.declared.status.SixelFeedStatus.TheVariants as payload_status
+use Rattle.sixel_decoder.specs.PayloadCalls as payloads
+use Rattle.sixel_decoder.specs.declared.dcs_parser.DcsState.TheVariants as states
 
 -- ---- a payload
 

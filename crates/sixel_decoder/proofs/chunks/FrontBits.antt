@@ -1,15 +1,12 @@
 -- The bits of the sixels at the front of bytes, one after another.
 use Rattle.std.proofs.Common.{◌≡◌, ℕ, zero, suc, ◌+◌, ◌<◌, ◌≤◌, ◌-◌, Bool, false, cond, List, []}
 use Rattle.std.proofs.Common.{◌∷◌, length, get_or, replicate, take, refl, ◌∙◌, ⊎_elim, arith}
-use Rattle.std.specs.Prelude.{nat_lt, if◌then◌else◌}
-use Rattle.std.proofs.lemmas.Bool.{cases_lt, le-ltb}
-use Rattle.std.proofs.lemmas.List.{get_or_past, get_or-replicate}
-use Rattle.std.proofs.lemmas.Simd.{get_or-chunk, get_or-sel_l, get_or-zip2, length-chunk}
-use Rattle.std.proofs.lemmas.Simd.{length-sel_l, length-zip2}
+use Rattle.std.{proofs.lemmas.Bool.{cases_lt, le-ltb}, proofs.lemmas.Bool.Decides.nat_tests}
+use Rattle.std.{proofs.lemmas.List.{get_or_past, get_or-replicate}, proofs.lemmas.Simd.get_or-chunk}
+use Rattle.std.proofs.lemmas.Simd.{get_or-sel_l, get_or-zip2, length-chunk, length-sel_l}
+use Rattle.std.{proofs.lemmas.Simd.length-zip2, specs.Prelude.{nat_lt, if◌then◌else◌}}
 use lib.Lanes.{chunk, sel_l, top, zip2}
-use Rattle.sixel_decoder.specs.inside.Runs.{IsSixelByte, bits_of}
-use Rattle.sixel_decoder.proofs.chunks.Lanes.{lowered}
-use Rattle.std.proofs.lemmas.Bool.Decides.{nat_tests}
+use Rattle.sixel_decoder.{proofs.chunks.Lanes.lowered, specs.inside.Runs.{IsSixelByte, bits_of}}
 
 -- the bits of bytes at the front, by the bits of each
 pub bits_front : (len : ℕ) (bits bytes : List ℕ) → len ≤ length bits → len ≤ length bytes

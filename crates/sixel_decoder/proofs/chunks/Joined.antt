@@ -1,28 +1,23 @@
 -- What the bytes before a chunk and the chunk are together.
 use Rattle.std.proofs.Common.{◌≡◌, ℕ, ◌+◌, Bool, true, false, cond, List, [], ◌∷◌, ◌++◌, refl, ap}
 use Rattle.std.proofs.Common.{sym, ◌∙◌, subst, arith, Option, Some, None, Result, Ok, Err, length}
-use Rattle.std.proofs.Common.{length-append}
-use Rattle.std.specs.Prelude.{is_some}
-use Rattle.std.proofs.lemmas.List.Sums.{fold-append}
-use Rattle.sixel_base.specs.declared.error.SixelError.{SixelError}
-use Rattle.sixel_base.specs.Bytes.{front, carrying, before_terminator}
-use Rattle.sixel_base.specs.Bytes.{count, first_terminator, is_terminated}
+use Rattle.std.{proofs.Common.length-append, proofs.lemmas.Bool.Decides.nat_tests}
+use Rattle.std.{proofs.lemmas.List.Sums.fold-append, specs.Prelude.is_some}
+use Rattle.sixel_base.{proofs.ToleratedTokens.effective-fault, specs.Bytes.{front, carrying}}
+use Rattle.sixel_base.specs.Bytes.{before_terminator, count, first_terminator, is_terminated}
 use Rattle.sixel_base.specs.History.{Sixel, Repeat, Raster, Color, Return, Newline, Skip, History}
-use Rattle.sixel_base.specs.History.{goes_on, history_of}
-use Rattle.sixel_base.specs.Stroke.{Origin}
-use Rattle.sixel_base.proofs.ToleratedTokens.{effective-fault}
-use Rattle.sixel_base.specs.Payload.{closed, settled}
+use Rattle.sixel_base.{specs.History.{goes_on, history_of}, specs.Payload.{closed, settled}}
+use Rattle.sixel_base.{specs.Status.status_of, specs.Stroke.Origin}
+use Rattle.sixel_base.specs.declared.error.SixelError.{SixelError}
 use Rattle.sixel_base.specs.declared.status.SixelFeedResult.{SixelFeedResult}
 use Rattle.sixel_canvas.specs.declared.drawing.Canvas.{Ghosts}
-use Rattle.sixel_decoder.specs.declared.payload_parser.PayloadParser.{PayloadParser}
 use Rattle.sixel_decoder.specs.declared.payload_parser.OpenCommand.{OpenCommand}
 use Rattle.sixel_decoder.specs.declared.payload_parser.OpenCommand.TheVariants.{Ground, InRepeat}
 use Rattle.sixel_decoder.specs.declared.payload_parser.OpenCommand.TheVariants.{InRaster, InColor}
-use Rattle.sixel_decoder.specs.inside.Lenient.{HasDrawn}
-use Rattle.sixel_base.specs.Status.{status_of}
-use Rattle.sixel_decoder.specs.inside.PayloadParser.{StandsIn, StandsAfter, Feeds, after}
+use Rattle.sixel_decoder.specs.declared.payload_parser.PayloadParser.{PayloadParser}
+use Rattle.sixel_decoder.{specs.inside.Lenient.HasDrawn, specs.inside.PayloadParser.StandsIn}
+use Rattle.sixel_decoder.specs.inside.PayloadParser.{StandsAfter, Feeds, after}
 use Rattle.sixel_decoder.specs.inside.PayloadReader.{HasRead, GoesOn}
-use Rattle.std.proofs.lemmas.Bool.Decides.{nat_tests}
 
 -- ---- where no terminator has come yet
 

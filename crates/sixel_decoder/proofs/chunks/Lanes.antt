@@ -1,16 +1,12 @@
 -- From the mask of eight bytes to how many of the first ones are sixels.
 use Rattle.std.proofs.Common.{◌≡◌, ◌≢◌, ℕ, ◌+◌, ◌-◌, ◌%◌, ◌<◌, ◌≤◌, Bool, false, not, cond, List}
 use Rattle.std.proofs.Common.{map, length, get_or, replicate, w8, ap, sym, ◌∙◌, ⊎_elim, arith}
-use Rattle.std.specs.Prelude.{min, nat_lt}
-use Rattle.std.specs.List.{prefix_len}
-use Rattle.std.proofs.lemmas.Bool.{cases_lt}
-use Rattle.std.proofs.lemmas.Bool.Decides.{nat_tests}
-use Rattle.std.proofs.lemmas.List.{length-map}
+use Rattle.std.specs.{List.prefix_len, Prelude.{min, nat_lt}}
+use Rattle.std.proofs.lemmas.{Bool.cases_lt, Bool.Decides.nat_tests, List.length-map}
 use Rattle.std.proofs.lemmas.Simd.{length-chunk, map-map, mask_l-mod, none_from_empty_mask}
-use Rattle.std.proofs.lemmas.Simd.{run_in_chunk_fails, tops_compared}
-use Rattle.std.proofs.lemmas.Simd.{trailing_mask_l, zip2_splat, zip2_splat_left}
-use lib.Count.{count_trailing_zeros}
-use lib.Lanes.{chunk, zip2, mask_l, top}
+use Rattle.std.proofs.lemmas.Simd.{run_in_chunk_fails, tops_compared, trailing_mask_l, zip2_splat}
+use Rattle.std.proofs.lemmas.Simd.{zip2_splat_left}
+use lib.{Count.count_trailing_zeros, Lanes.{chunk, zip2, mask_l, top}}
 use Rattle.sixel_decoder.specs.inside.Runs.{IsSixelByte}
 
 -- a byte less 63, which goes round below

@@ -1,20 +1,15 @@
 -- How a parser stands once it has opened a command with the digits after it.
 use Rattle.std.proofs.Common.{◌≡◌, ℕ, suc, ◌+◌, ◌<◌, ◌≤◌, ◌⊎◌, false, List, [], ◌∷◌, length, get_or}
 use Rattle.std.proofs.Common.{take, drop, get_or-take, length-take, refl, arith}
-use Rattle.std.specs.Prelude.{IsTrue, fold}
-use Rattle.std.specs.List.{list_all}
-use Rattle.std.proofs.lemmas.Bool.Decides.{nat_tests}
-use Rattle.std.proofs.lemmas.Grind.{common_steps}
-use Rattle.sixel_base.specs.Bytes.{is_digit, is_parameter}
-use Rattle.sixel_base.specs.History.{Repeat, Color, History, goes_on, read}
-use Rattle.sixel_base.specs.Stroke.{Origin}
+use Rattle.std.{proofs.lemmas.Bool.Decides.nat_tests, proofs.lemmas.Grind.common_steps}
+use Rattle.std.{specs.List.list_all, specs.Prelude.{IsTrue, fold}}
+use Rattle.sixel_base.{proofs.Histories.fold-spelling, specs.Bytes.{is_digit, is_parameter}}
+use Rattle.sixel_base.{specs.History.{Repeat, Color, History, goes_on, read}, specs.Stroke.Origin}
 use Rattle.sixel_base.specs.inside.Parameters.{IsDigit, Keeps}
-use Rattle.sixel_base.proofs.Histories.{fold-spelling}
 use Rattle.sixel_canvas.specs.declared.drawing.Canvas.{Ghosts}
-use Rattle.sixel_decoder.specs.declared.payload_parser.PayloadParser.{PayloadParser}
 use Rattle.sixel_decoder.specs.declared.payload_parser.OpenCommand.TheVariants.{InRepeat, InColor}
-use Rattle.sixel_decoder.specs.inside.PayloadParser.{Stands}
-use Rattle.sixel_decoder.specs.inside.Lenient.{HasDrawn}
+use Rattle.sixel_decoder.specs.declared.payload_parser.PayloadParser.{PayloadParser}
+use Rattle.sixel_decoder.{specs.inside.Lenient.HasDrawn, specs.inside.PayloadParser.Stands}
 
 abbrev pub AreDigits : List ℕ → Type 0
 AreDigits bytes = (k : ℕ) → k < length bytes → IsDigit (get_or bytes k 0)

@@ -1,21 +1,15 @@
 -- How a parser goes on from one history to the next.
-use Rattle.std.proofs.Common.{◌≡◌, ℕ, Bool, true, false, List, [], ◌∷◌, ◌++◌, arith, Option}
-use Rattle.std.proofs.Common.{Some}
-use Rattle.std.specs.Prelude.{IsTrue, nat_lt}
+use Rattle.std.proofs.Common.{◌≡◌, ℕ, Bool, true, false, List, [], ◌∷◌, ◌++◌, arith, Option, Some}
+use Rattle.std.{proofs.lemmas.Bool.Decides.nat_tests, specs.Prelude.{IsTrue, nat_lt}}
+use Rattle.sixel_base.{proofs.Histories.read_ends, specs.Fault.{Fault, Faults}, specs.History.Token}
+use Rattle.sixel_base.{specs.History.{History, goes_on, read}, specs.Lenient.fault}
+use Rattle.sixel_base.{specs.Limits.Limit, specs.Payload.{closed, growths}, specs.Stroke.Origin}
 use Rattle.sixel_base.specs.declared.error.SixelError.{SixelError}
-use Rattle.sixel_canvas.specs.declared.drawing.Canvas.{Ghosts}
-use Rattle.sixel_decoder.specs.declared.payload_parser.PayloadParser.{PayloadParser}
-use Rattle.sixel_decoder.specs.declared.payload_parser.OpenCommand.{OpenCommand}
-use Rattle.sixel_base.specs.Fault.{Fault, Faults}
 use Rattle.sixel_base.specs.inside.Parameters.{Parameters, Keeps}
-use Rattle.sixel_base.specs.History.{Token, History, goes_on, read}
-use Rattle.sixel_base.specs.Limits.{Limit}
-use Rattle.sixel_base.specs.Lenient.{fault}
-use Rattle.sixel_base.specs.Stroke.{Origin}
-use Rattle.sixel_base.specs.Payload.{closed, growths}
+use Rattle.sixel_canvas.specs.declared.drawing.Canvas.{Ghosts}
+use Rattle.sixel_decoder.specs.declared.payload_parser.OpenCommand.{OpenCommand}
+use Rattle.sixel_decoder.specs.declared.payload_parser.PayloadParser.{PayloadParser}
 use Rattle.sixel_decoder.specs.inside.PayloadParser.{StandsIn}
-use Rattle.sixel_base.proofs.Histories.{read_ends}
-use Rattle.std.proofs.lemmas.Bool.Decides.{nat_tests}
 
 -- what may be answered goes on along a weaker leave and a fault that stays
 pub Faults-along : (e : SixelError) (may may' : Bool) (found found' : Option Fault)

@@ -1,21 +1,14 @@
 -- What is rejected while a payload is fed is rejected at its end.
-use Rattle.std.proofs.Common.{Bool, List, ℕ, Result, arith}
+use Rattle.std.proofs.{Common.{Bool, List, ℕ, Result, arith}, lemmas.Bool.Decides.nat_tests}
 use Rattle.std.specs.Prelude.{IsTrue, nat_lt, ◌||◌}
-use Rattle.sixel_base.specs.declared.error.SixelError.{SixelError}
-use Rattle.sixel_base.specs.Bytes.{front}
-use Rattle.sixel_base.specs.Fault.{Faults}
-use Rattle.sixel_base.specs.History.{history_of}
-use Rattle.sixel_base.specs.IgnoredCommands.{payload_ignored}
-use Rattle.sixel_base.specs.Lenient.{fault, effective}
-use Rattle.sixel_base.specs.Limits.{Limit}
-use Rattle.sixel_base.specs.Payload.{growths, settled, payload_fault, payload_wants}
-use Rattle.sixel_base.specs.Stroke.{Origin}
+use Rattle.sixel_base.specs.{Bytes.front, Fault.Faults, History.history_of}
+use Rattle.sixel_base.specs.{IgnoredCommands.payload_ignored, Lenient.{fault, effective}}
+use Rattle.sixel_base.specs.{Limits.Limit, Payload.{growths, settled, payload_fault, payload_wants}}
+use Rattle.sixel_base.specs.{Stroke.Origin, declared.error.SixelError.SixelError}
 use Rattle.sixel_base.proofs.ToleratedTokens.{effective-fault}
-use Rattle.sixel_decoder.specs.inside.PayloadParser.{Decodes}
-use Rattle.sixel_decoder.specs.inside.Painter.{Ends}
 use Rattle.sixel_decoder.specs.declared.decoded_payload.DecodedPayload.{DecodedPayload}
+use Rattle.sixel_decoder.specs.{inside.Painter.Ends, inside.PayloadParser.Decodes}
 use Rattle.sixel_decoder.proofs.chunks.ParserSteps.{Faults-along}
-use Rattle.std.proofs.lemmas.Bool.Decides.{nat_tests}
 
 pub or_right : (a b : Bool) → IsTrue b → IsTrue (a || b)
 or_right a b is = grind (arith, nat_tests)

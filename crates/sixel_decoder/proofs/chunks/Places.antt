@@ -1,31 +1,22 @@
 -- How far a parser has come in a chunk.
-use Rattle.std.proofs.Common.{◌≡◌, ℕ, zero, suc, ◌+◌, ◌<◌, ◌≤◌, true, false, List, []}
-use Rattle.std.proofs.Common.{◌∷◌, ◌++◌, refl, ap, arith, Some, None}
-use Rattle.std.proofs.Common.{length, take, drop, drop-cons, get_or, get_or-drop, add-one}
+use Rattle.std.proofs.Common.{◌≡◌, ℕ, zero, suc, ◌+◌, ◌<◌, ◌≤◌, true, false, List, [], ◌∷◌, ◌++◌}
+use Rattle.std.proofs.Common.{refl, ap, arith, Some, None, length, take, drop, drop-cons, get_or}
+use Rattle.std.proofs.{Common.{get_or-drop, add-one}, lemmas.Bool.Decides.nat_tests}
+use Rattle.std.proofs.{lemmas.List.{drop-drop, drop_all}, lemmas.List.Sums.fold-append}
 use Rattle.std.specs.Prelude.{nat_lt, fold}
-use Rattle.std.proofs.lemmas.Bool.Decides.{nat_tests}
-use Rattle.std.proofs.lemmas.List.{drop-drop, drop_all}
-use Rattle.std.proofs.lemmas.List.Sums.{fold-append}
-use Rattle.sixel_base.specs.declared.error.SixelError.{SixelError}
-use Rattle.sixel_base.specs.Fault.{Faults}
-use Rattle.sixel_base.specs.Bytes.{is_terminator, is_ignored}
-use Rattle.sixel_base.specs.Bytes.{front, count, first_terminator, is_terminated}
-use Rattle.sixel_base.specs.History.{History, read}
-use Rattle.sixel_base.specs.Lenient.{fault}
-use Rattle.sixel_base.specs.Limits.{Limit}
-use Rattle.sixel_base.specs.Stroke.{Origin}
-use Rattle.sixel_base.specs.Payload.{closed, growths}
-use Rattle.sixel_canvas.specs.declared.drawing.Canvas.{Ghosts}
-use Rattle.sixel_decoder.specs.declared.payload_parser.PayloadParser.{PayloadParser}
-use Rattle.sixel_decoder.specs.declared.payload_parser.OpenCommand.TheVariants.{Ground}
-use Rattle.sixel_base.specs.Status.{status_of}
+use Rattle.sixel_base.specs.Bytes.{is_terminator, is_ignored, front, count, first_terminator}
+use Rattle.sixel_base.specs.{Bytes.is_terminated, Fault.Faults, History.{History, read}}
+use Rattle.sixel_base.specs.{Lenient.fault, Limits.Limit, Payload.{closed, growths}}
+use Rattle.sixel_base.specs.{Status.status_of, Stroke.Origin, declared.error.SixelError.SixelError}
 use Rattle.sixel_base.specs.declared.status.SixelFeedStatus.TheVariants.{NeedMoreData, Terminated}
-use Rattle.sixel_decoder.specs.inside.PayloadParser.{Reaches, Stands, StandsAfter, after}
-use Rattle.sixel_decoder.specs.inside.PayloadParser.{settled_after}
-use Rattle.sixel_decoder.specs.inside.Lenient.{HasDrawn}
+use Rattle.sixel_canvas.specs.declared.drawing.Canvas.{Ghosts}
+use Rattle.sixel_decoder.specs.declared.payload_parser.OpenCommand.TheVariants.{Ground}
+use Rattle.sixel_decoder.specs.declared.payload_parser.PayloadParser.{PayloadParser}
+use Rattle.sixel_decoder.specs.{inside.Lenient.HasDrawn, inside.PayloadParser.{Reaches, Stands}}
+use Rattle.sixel_decoder.specs.inside.PayloadParser.{StandsAfter, after, settled_after}
 use Rattle.sixel_decoder.specs.inside.Runs.{IsPrintable}
-use Rattle.sixel_decoder.proofs.chunks.ParserSteps.{Faults-along}
-use Rattle.sixel_decoder.proofs.chunks.Reads.{whole_fault, fold_fault, growths-read, growths-fold}
+use Rattle.sixel_decoder.proofs.{chunks.ParserSteps.Faults-along, chunks.Reads.whole_fault}
+use Rattle.sixel_decoder.proofs.chunks.Reads.{fold_fault, growths-read, growths-fold}
 
 -- ---- how far a parser has come
 

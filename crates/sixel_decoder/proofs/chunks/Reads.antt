@@ -1,14 +1,10 @@
 -- How much of a chunk a parser has read, and what stays true of the chunk's whole history.
 use Rattle.std.proofs.Common.{◌≡◌, ℕ, ◌≤◌, true, List, [], ◌∷◌, arith, Some}
-use Rattle.std.specs.Prelude.{fold}
-use Rattle.sixel_base.specs.Fault.{Fault}
-use Rattle.sixel_base.specs.History.{History, longer, goes_on, read}
-use Rattle.sixel_base.specs.Lenient.{fault}
-use Rattle.sixel_base.specs.Limits.{Limit}
-use Rattle.sixel_base.proofs.ToleratedTokens.{fault-along}
-use Rattle.sixel_base.specs.Payload.{first_fault, closed, growths}
+use Rattle.std.{proofs.lemmas.Bool.Decides.nat_tests, specs.Prelude.fold}
+use Rattle.sixel_base.{proofs.ToleratedTokens.fault-along, specs.Fault.Fault, specs.History.History}
+use Rattle.sixel_base.{specs.History.{longer, goes_on, read}, specs.Lenient.fault}
+use Rattle.sixel_base.{specs.Limits.Limit, specs.Payload.{first_fault, closed, growths}}
 use Rattle.sixel_decoder.proofs.chunks.ParserSteps.{fault_stays}
-use Rattle.std.proofs.lemmas.Bool.Decides.{nat_tests}
 
 -- ---- what is rejected stays rejected
 

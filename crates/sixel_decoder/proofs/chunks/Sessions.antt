@@ -3,44 +3,37 @@
 use Rattle.std.proofs.Common.{◌≡◌, ℕ, ◌+◌, ◌≤◌, Bool, true, false, List, [], ◌∷◌, ◌++◌, refl, ap}
 use Rattle.std.proofs.Common.{sym, ◌∙◌, arith, Option, Some, None, length, length-append, subst}
 use Rattle.std.specs.Prelude.{◌==◌, nat_lt, is_none, is_some, MatchBool}
-use Rattle.std.proofs.lemmas.List.{length-drop}
-use Rattle.std.proofs.lemmas.Bool.{false≢true}
-use Rattle.std.proofs.lemmas.Bool.Decides.{nat_tests}
+use Rattle.std.proofs.lemmas.{Bool.false≢true, Bool.Decides.nat_tests, List.length-drop}
 use Rattle.sixel_base.specs.declared.error.SixelError.{SixelError}
 use Rattle.sixel_base.specs.declared.error.SixelError.TheVariants.{InvalidDimensions}
 use Rattle.sixel_base.specs.declared.error.SixelError.TheVariants.{BufferSizeMismatch, InvalidData}
 use Rattle.sixel_base.specs.declared.error.SixelError.TheVariants.{NoSixelData, IntegerOverflow}
 use Rattle.sixel_base.specs.declared.error.SixelError.TheVariants.{OutOfMemory}
-use Rattle.sixel_base.specs.Fault.{Faults}
-use Rattle.sixel_base.specs.Bytes.{front, count, first_terminator}
-use Rattle.sixel_base.specs.History.{history_of}
-use Rattle.sixel_base.specs.Payload.{fed_fault, settled, growths}
-use Rattle.sixel_base.specs.Stroke.{Origin}
 use Rattle.sixel_base.specs.declared.state.DecoderState.{DecoderState}
 use Rattle.sixel_base.specs.declared.status.SixelDcsFeedStatus.{SixelDcsFeedStatus}
 use Rattle.sixel_base.specs.declared.status.SixelDcsFeedStatus.TheVariants.{NeedMoreData, Complete}
 use Rattle.sixel_base.specs.declared.status.SixelDcsFeedStatus.TheVariants.{Cancelled, Interrupted}
+use Rattle.sixel_base.specs.{Bytes.{front, count, first_terminator}, Dcs.{Stage, Heading, Failing}}
+use Rattle.sixel_base.specs.Dcs.{Reading, stage, stage_count, stage_fault, after_terminator}
+use Rattle.sixel_base.specs.Dcs.{end_count, payload_count, payload_status, dcs_status, dcs_count}
+use Rattle.sixel_base.specs.{Dcs.{dcs_fault, dcs_growths, has_ended, IsSameString}, Fault.Faults}
+use Rattle.sixel_base.specs.{History.history_of, Limits.Limit, Payload.{fed_fault, settled}}
+use Rattle.sixel_base.specs.{Payload.growths, Stroke.Origin}
 use Rattle.sixel_canvas.specs.declared.drawing.Canvas.{Ghosts}
-use Rattle.sixel_decoder.specs.declared.payload_parser.PayloadParser.{PayloadParser}
 use Rattle.sixel_decoder.specs.declared.dcs_parser.DcsState.{DcsState}
-use Rattle.sixel_decoder.specs.declared.dcs_parser.DcsState.TheVariants as states
-use Rattle.sixel_base.specs.Dcs.{Stage, Heading, Failing, Reading, stage}
-use Rattle.sixel_base.specs.Dcs.{stage_count, stage_fault, after_terminator, end_count}
-use Rattle.sixel_base.specs.Dcs.{payload_count, payload_status, dcs_status, dcs_count, dcs_fault}
-use Rattle.sixel_base.specs.Dcs.{dcs_growths, has_ended, IsSameString}
-use Rattle.sixel_base.specs.Limits.{Limit}
+use Rattle.sixel_decoder.specs.declared.payload_parser.PayloadParser.{PayloadParser}
 use Rattle.sixel_base.proofs.ToleratedTokens.{effective-fault}
-use Rattle.sixel_decoder.specs.inside.PayloadParser.{StandsAfter}
 use Rattle.sixel_decoder.specs.inside.DcsParser.{HasFollowed, is_failed}
-use Rattle.sixel_decoder.specs.inside.PayloadReader.{HasRead}
+use Rattle.sixel_decoder.specs.inside.{PayloadParser.StandsAfter, PayloadReader.HasRead}
 use Rattle.sixel_decoder.proofs.chunks.Joined.{shown_after, before_terminator-whole}
-use Rattle.sixel_decoder.proofs.dcs_sequences.Chunks.{heading, reading_fits}
-use Rattle.sixel_decoder.proofs.images.Finality.{status_ended, fed_fault_stays}
-use Rattle.sixel_decoder.proofs.images.Finality.{growths_stay, dcs_count_ended, dcs_fault_ended}
-use Rattle.sixel_decoder.proofs.images.Finality.{dcs_fault_stays, dcs_growths_stay}
-use Rattle.sixel_decoder.proofs.dcs_sequences.Terminators.{drop-count, escape_waits, failing_stays}
 use Rattle.sixel_decoder.proofs.chunks.ParserSteps.{Faults-along}
-use Rattle.sixel_decoder.proofs.dcs_sequences.Ends.{count-fits, count_open, count_at, status_at}
+use Rattle.sixel_decoder.proofs.dcs_sequences.{Chunks.{heading, reading_fits}, Ends.count-fits}
+use Rattle.sixel_decoder.proofs.dcs_sequences.Ends.{count_open, count_at, status_at}
+use Rattle.sixel_decoder.proofs.dcs_sequences.Terminators.{drop-count, escape_waits, failing_stays}
+use Rattle.sixel_decoder.proofs.images.Finality.{status_ended, fed_fault_stays, growths_stay}
+use Rattle.sixel_decoder.proofs.images.Finality.{dcs_count_ended, dcs_fault_ended, dcs_fault_stays}
+use Rattle.sixel_decoder.proofs.images.Finality.{dcs_growths_stay}
+use Rattle.sixel_decoder.specs.declared.dcs_parser.DcsState.TheVariants as states
 
 -- nothing is rejected without a fault or a failed allocation
 pub never_refused : (e : SixelError) (may : Bool) → may ≡ false → Faults e may None → ⊥

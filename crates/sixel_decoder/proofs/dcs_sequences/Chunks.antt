@@ -1,35 +1,27 @@
 -- How a DCS sequence goes on in its payload, or up to where the payload begins.
-use Rattle.std.proofs.Common.{◌≡◌, ℕ, ◌+◌, ◌-◌, ◌≤◌, Bool, true, false, cond, List, [], ◌∷◌}
-use Rattle.std.proofs.Common.{◌++◌, refl, ap, sym, ◌∙◌, subst, arith, Option, None, Ok, length}
-use Rattle.std.proofs.Common.{take, drop, append_assoc, length-append}
-use Rattle.std.specs.Prelude.{nat_lt, ◌==◌, IsTrue}
-use Rattle.std.proofs.lemmas.Bool.Decides.{nat_tests}
+use Rattle.std.proofs.Common.{◌≡◌, ℕ, ◌+◌, ◌-◌, ◌≤◌, Bool, true, false, cond, List, [], ◌∷◌, ◌++◌}
+use Rattle.std.proofs.Common.{refl, ap, sym, ◌∙◌, subst, arith, Option, None, Ok, length, take}
+use Rattle.std.proofs.{Common.{drop, append_assoc, length-append}, lemmas.Bool.Decides.nat_tests}
 use Rattle.std.proofs.lemmas.List.{take-append-drop, length-take-le, take_all}
-use Rattle.sixel_base.specs.declared.error.SixelError.{SixelError}
-use Rattle.sixel_base.specs.Fault.{Faults, Malformed, BadHeader}
-use Rattle.sixel_base.specs.Bytes.{is_terminator}
-use Rattle.sixel_base.specs.Settings.{Settings}
-use Rattle.sixel_base.specs.Stroke.{Origin}
+use Rattle.std.specs.Prelude.{nat_lt, ◌==◌, IsTrue}
+use Rattle.sixel_base.specs.{Bytes.is_terminator, Dcs.{Introduced, Waiting, Absent, Entered}}
+use Rattle.sixel_base.specs.Dcs.{introduced, Stage, Heading, Reading, stage_after, stage_by, stage}
+use Rattle.sixel_base.specs.Dcs.{stage_status, stage_count, stage_fault, stage_growths}
+use Rattle.sixel_base.specs.Dcs.{payload_count, dcs_count, dcs_fault, dcs_growths, ended_with}
+use Rattle.sixel_base.specs.{Decoder.origin_of, Fault.{Faults, Malformed, BadHeader}, Header.Begun}
+use Rattle.sixel_base.specs.{Header.{Faulty, headed_by, header_rest}, Limits.Limit}
+use Rattle.sixel_base.specs.{Payload.{fed_fault, settled, growths}, Settings.Settings}
+use Rattle.sixel_base.specs.{Stroke.Origin, declared.error.SixelError.SixelError}
 use Rattle.sixel_base.specs.declared.state.DecoderState.{DecoderState}
-use Rattle.sixel_base.specs.Decoder.{origin_of}
-use Rattle.sixel_base.specs.Payload.{fed_fault, settled, growths}
 use Rattle.sixel_base.specs.declared.status.SixelDcsFeedStatus.{SixelDcsFeedStatus}
 use Rattle.sixel_base.specs.declared.status.SixelDcsFeedStatus.TheVariants.{NeedMoreData}
-use Rattle.sixel_decoder.specs.declared.dcs_parser.DcsState.{DcsState}
-use Rattle.sixel_decoder.specs.declared.dcs_parser.DcsState.TheVariants as states
-use Rattle.sixel_base.specs.Header.{Begun, Faulty, headed_by, header_rest}
-use Rattle.sixel_decoder.specs.Session.{Session}
-use Rattle.sixel_base.specs.Dcs.{Introduced, Waiting, Absent, Entered, introduced, Stage, Heading}
-use Rattle.sixel_base.specs.Dcs.{Reading, stage_after, stage_by, stage, stage_status, stage_count}
-use Rattle.sixel_base.specs.Dcs.{stage_fault, stage_growths, payload_count, dcs_count, dcs_fault}
-use Rattle.sixel_base.specs.Dcs.{dcs_growths, ended_with}
-use Rattle.sixel_base.specs.Limits.{Limit}
+use Rattle.sixel_decoder.specs.{Session.Session, declared.dcs_parser.DcsState.DcsState}
 use Rattle.sixel_decoder.specs.inside.DcsParser.{IsInPayload, HasFollowed, is_head, is_failed}
 use Rattle.sixel_decoder.specs.inside.DcsParser.{IsStageFault, GoesTo, Follows}
-use Rattle.sixel_decoder.proofs.chunks.ParserSteps.{Faults-along}
 use Rattle.sixel_decoder.proofs.chunks.Joined.{before_terminator-whole}
+use Rattle.sixel_decoder.proofs.{chunks.ParserSteps.Faults-along, dcs_sequences.Ends.count_open}
 use Rattle.sixel_decoder.proofs.dcs_sequences.Terminators.{stage_reading}
-use Rattle.sixel_decoder.proofs.dcs_sequences.Ends.{count_open}
+use Rattle.sixel_decoder.specs.declared.dcs_parser.DcsState.TheVariants as states
 
 -- ---- in a payload
 

@@ -1,22 +1,20 @@
 -- Which bytes of a payload's chunk belong to the DCS sequence after its terminator.
-use Rattle.std.proofs.Common.{◌≡◌, ℕ, ◌+◌, ◌≤◌, true, List, [], ◌∷◌, ◌++◌, refl}
-use Rattle.std.proofs.Common.{ap, sym, ◌∙◌, arith, Option, Some, None, length, drop}
-use Rattle.std.specs.Prelude.{◌==◌}
-use Rattle.std.proofs.lemmas.Bool.Decides.{nat_tests}
-use Rattle.sixel_base.specs.Bytes.{count, first_terminator}
-use Rattle.sixel_base.specs.declared.status.SixelFeedStatus.TheVariants as fed
+use Rattle.std.proofs.Common.{◌≡◌, ℕ, ◌+◌, ◌≤◌, true, List, [], ◌∷◌, ◌++◌, refl, ap, sym, ◌∙◌}
+use Rattle.std.proofs.Common.{arith, Option, Some, None, length, drop}
+use Rattle.std.{proofs.lemmas.Bool.Decides.nat_tests, specs.Prelude.{◌==◌}}
+use Rattle.sixel_base.{specs.Bytes.{count, first_terminator}, specs.Dcs.after_terminator}
+use Rattle.sixel_base.specs.Dcs.{end_status, end_count, escape_status, escape_count, payload_status}
+use Rattle.sixel_base.{specs.Dcs.{payload_count, ended_with, ended_by}, specs.Status.status_of}
 use Rattle.sixel_base.specs.declared.status.SixelDcsFeedStatus.{SixelDcsFeedStatus}
 use Rattle.sixel_base.specs.declared.status.SixelDcsFeedStatus.TheVariants.{NeedMoreData, Complete}
 use Rattle.sixel_base.specs.declared.status.SixelDcsFeedStatus.TheVariants.{Cancelled, Interrupted}
-use Rattle.sixel_base.specs.Status.{status_of}
-use Rattle.sixel_base.specs.Dcs.{after_terminator, end_status, end_count, escape_status}
-use Rattle.sixel_base.specs.Dcs.{escape_count, payload_status, payload_count, ended_with, ended_by}
-use Rattle.sixel_decoder.specs.inside.DcsParser.{GoesTo}
 use Rattle.sixel_decoder.proofs.chunks.Joined.{count-append, first_terminator-append}
 use Rattle.sixel_decoder.proofs.chunks.Joined.{first_terminator-ended, before_terminator-ended}
 use Rattle.sixel_decoder.proofs.dcs_sequences.Terminators.{after_terminator-none}
-use Rattle.sixel_decoder.proofs.dcs_sequences.Terminators.{after_terminator-some}
-use Rattle.sixel_decoder.proofs.dcs_sequences.Terminators.{drop-count, escape_waits, end_stays}
+use Rattle.sixel_decoder.proofs.dcs_sequences.Terminators.{after_terminator-some, drop-count}
+use Rattle.sixel_decoder.proofs.dcs_sequences.Terminators.{escape_waits, end_stays}
+use Rattle.sixel_decoder.specs.inside.DcsParser.{GoesTo}
+use Rattle.sixel_base.specs.declared.status.SixelFeedStatus.TheVariants as fed
 
 -- a payload has at most all bytes
 pub count-fits : (bytes : List ℕ) → count bytes ≤ length bytes

@@ -1,28 +1,22 @@
 -- What finishing a DCS sequence in its payload returns.
-use Rattle.std.proofs.lemmas.Bool.Decides.{nat_tests}
 use Rattle.std.proofs.Common.{arith, ◌≡◌, ℕ, Bool, true, false, List, ◌++◌, refl, ap, sym, ◌∙◌}
 use Rattle.std.proofs.Common.{Option, Some, None, Result, Ok, Err}
-use Rattle.std.specs.Prelude.{◌&&◌, ◌||◌, if◌then◌else◌}
+use Rattle.std.{proofs.lemmas.Bool.Decides.nat_tests, specs.Prelude.{◌&&◌, ◌||◌, if◌then◌else◌}}
+use Rattle.sixel_base.{specs.Bytes.first_terminator, specs.Dcs.{Stage, stage_in_payload}}
+use Rattle.sixel_base.specs.Dcs.{payload_status_by, dcs_status, ended_by, has_ended, can_finish}
+use Rattle.sixel_base.{specs.Dcs.has_come, specs.Limits.Limit, specs.OneShot.{Payload, IsDecodedAs}}
+use Rattle.sixel_base.{specs.Payload.{Image, fed_fault, payload_fault}, specs.Settings.Settings}
 use Rattle.sixel_base.specs.declared.error.SixelError.{SixelError}
-use Rattle.sixel_base.specs.Bytes.{first_terminator}
-use Rattle.sixel_base.specs.Payload.{Image, fed_fault, payload_fault}
-use Rattle.sixel_base.specs.Settings.{Settings}
 use Rattle.sixel_base.specs.declared.state.DecoderState.{DecoderState}
 use Rattle.sixel_base.specs.declared.status.SixelDcsFeedStatus.{SixelDcsFeedStatus}
-use Rattle.sixel_base.specs.Dcs.{Stage, stage_in_payload, payload_status_by, dcs_status, ended_by}
-use Rattle.sixel_base.specs.Dcs.{has_ended, can_finish, has_come}
-use Rattle.sixel_base.specs.Limits.{Limit}
-use Rattle.sixel_base.specs.OneShot.{Payload, IsDecodedAs}
-use Rattle.sixel_base.specs.OneShot as one_shot
-use Rattle.sixel_decoder.specs.FinalRows.{found_pixel}
+use Rattle.sixel_decoder.proofs.images.Finality.{found_fault_ended, found_image_ended}
+use Rattle.sixel_decoder.{proofs.images.Finality.found_registers_ended, specs.FinalRows.found_pixel}
 use Rattle.sixel_decoder.specs.FinishedImages.{IsFinished, IsTaken, found_followed}
 use Rattle.sixel_decoder.specs.Reception.{Form, IsPayloadOf, OfPayload, OfString, Reception, found}
-use Rattle.sixel_decoder.specs.Reception.{of_payload}
-use Rattle.sixel_decoder.specs.Session.{Session, decoder_of}
+use Rattle.sixel_decoder.{specs.Reception.of_payload, specs.Session.{Session, decoder_of}}
 use Rattle.sixel_decoder.specs.declared.decoded_payload.DecodedPayload.{DecodedPayload}
 use Rattle.sixel_decoder.specs.inside.DcsParser.{IsInPayload}
-use Rattle.sixel_decoder.proofs.images.Finality.{found_fault_ended, found_image_ended}
-use Rattle.sixel_decoder.proofs.images.Finality.{found_registers_ended}
+use Rattle.sixel_base.specs.OneShot as one_shot
 
 has_come-ended : (o : Option ℕ) (rest : List ℕ)
     → has_ended (payload_status_by o rest) ≡ has_come (ended_by o rest)

@@ -1,19 +1,14 @@
 -- How far a header has been read, and what stands where it ends.
-use Rattle.std.proofs.Common.{◌≡◌, ℕ, ◌+◌, ◌<◌, ◌≤◌, true, false, List, [], ◌∷◌, ◌++◌}
-use Rattle.std.proofs.Common.{length, get_or, drop, append_assoc, arith, refl}
+use Rattle.std.proofs.Common.{◌≡◌, ℕ, ◌+◌, ◌<◌, ◌≤◌, true, false, List, [], ◌∷◌, ◌++◌, length}
+use Rattle.std.proofs.Common.{get_or, drop, append_assoc, arith, refl}
+use Rattle.std.proofs.{lemmas.Bool.Decides.nat_tests, lemmas.List.{append-nil, drop_all}}
 use Rattle.std.specs.Prelude.{IsSomeAnd}
-use Rattle.std.proofs.lemmas.Bool.Decides.{nat_tests}
-use Rattle.std.proofs.lemmas.List.{append-nil, drop_all}
-use Rattle.sixel_base.specs.declared.error.SixelError.{SixelError}
-use Rattle.sixel_base.specs.Bytes.{carrying}
-use Rattle.sixel_base.specs.Fault.{IsFault}
-use Rattle.sixel_base.specs.inside.Parameters.{Parameters, Keeps}
-use Rattle.sixel_base.specs.Header.{Open, Begun, headed, is_header}
-use Rattle.sixel_base.specs.Header.{header_rest, header_text, command_fault}
+use Rattle.sixel_base.specs.{declared.error.SixelError.SixelError, Bytes.carrying, Fault.IsFault}
+use Rattle.sixel_base.specs.{inside.Parameters.{Parameters, Keeps}, Header.{Open, Begun, headed}}
+use Rattle.sixel_base.specs.Header.{is_header, header_rest, header_text, command_fault}
 use Rattle.sixel_decoder.specs.inside.Header.{IsHeaderFault}
-use Rattle.sixel_decoder.proofs.dcs_sequences.Headers.{header_rest-open}
+use Rattle.sixel_decoder.proofs.{chunks.Places.splits_at, dcs_sequences.Headers.header_rest-open}
 use Rattle.sixel_decoder.proofs.dcs_sequences.Headers.{header_text-one, header_text-open}
-use Rattle.sixel_decoder.proofs.chunks.Places.{splits_at}
 
 -- Of a header the bytes before this index were read, which have this text; the rest of the header
 -- is ahead.

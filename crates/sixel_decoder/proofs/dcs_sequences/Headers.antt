@@ -1,19 +1,14 @@
 -- The stage of a DCS sequence after further bytes.
 use Rattle.std.proofs.Common.{◌≡◌, ℕ, true, false, cond, List, [], ◌∷◌, ◌++◌, refl, ap, sym, ◌∙◌}
-use Rattle.std.proofs.Common.{subst, arith}
+use Rattle.std.proofs.{Common.{subst, arith}, lemmas.Bool.Decides.nat_tests, lemmas.List.append-nil}
 use Rattle.std.specs.Prelude.{IsSomeAnd}
-use Rattle.std.proofs.lemmas.List.{append-nil}
-use Rattle.sixel_base.specs.declared.error.SixelError.{SixelError}
-use Rattle.sixel_base.specs.Fault.{IsFault}
-use Rattle.sixel_base.specs.inside.Parameters.{Keeps}
-use Rattle.sixel_base.specs.Bytes.{carrying}
-use Rattle.sixel_base.specs.Header.{headed_by, is_header, header_front, header_rest}
-use Rattle.sixel_base.specs.Header.{header_text, settings_of, command_fault}
-use Rattle.sixel_decoder.specs.declared.header.Header as headers
+use Rattle.sixel_base.specs.{Bytes.carrying, Dcs.{Entered, introduced, Stage, Reading, stage_after}}
+use Rattle.sixel_base.specs.{Dcs.stage, Fault.IsFault, Header.{headed_by, is_header, header_front}}
+use Rattle.sixel_base.specs.Header.{header_rest, header_text, settings_of, command_fault}
+use Rattle.sixel_base.specs.{declared.error.SixelError.SixelError, inside.Parameters.Keeps}
 use Rattle.sixel_decoder.specs.inside.DcsParser.{IsInHeader, IsStageFault}
 use Rattle.sixel_decoder.proofs.chunks.Joined.{carrying-append}
-use Rattle.sixel_base.specs.Dcs.{Entered, introduced, Stage, Reading, stage_after, stage}
-use Rattle.std.proofs.lemmas.Bool.Decides.{nat_tests}
+use Rattle.sixel_decoder.specs.declared.header.Header as headers
 
 -- ---- a header goes on
 

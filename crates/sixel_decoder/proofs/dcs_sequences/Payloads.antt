@@ -1,12 +1,11 @@
 -- The payload of a DCS sequence is that of decoding its bytes in one call.
 use Rattle.std.proofs.lemmas.Bool.Decides.{nat_tests}
 use Rattle.std.proofs.Common.{arith, ◌≡◌, ℕ, true, List, [], ◌∷◌, refl, ap, ◌∙◌, Some}
-use Rattle.sixel_base.specs.Settings.{Settings}
-use Rattle.sixel_base.specs.Header.{Headed, Open, Begun, Faulty, headed}
-use Rattle.sixel_base.specs.OneShot.{begins_with_p, without_first, after_introducer, found}
-use Rattle.sixel_base.specs.OneShot.{found_in, found_by, Payload}
 use Rattle.sixel_base.specs.Dcs.{Introduced, Waiting, Absent, Entered, introduced, escaped, Reading}
-use Rattle.sixel_base.specs.Dcs.{stage_after, stage_by, stage}
+use Rattle.sixel_base.specs.{Dcs.{stage_after, stage_by, stage}, Header.{Headed, Open, Begun}}
+use Rattle.sixel_base.specs.{Header.{Faulty, headed}, OneShot.{begins_with_p, without_first}}
+use Rattle.sixel_base.specs.OneShot.{after_introducer, found, found_in, found_by, Payload}
+use Rattle.sixel_base.specs.Settings.{Settings}
 
 escaped_introducer : (bytes rest : List ℕ) → escaped bytes ≡ Entered rest
     → (begins_with_p bytes ≡ true) × (without_first bytes ≡ rest)

@@ -1,23 +1,17 @@
 -- How a payload's end goes on as more bytes come.
-use Rattle.std.proofs.Common.{◌≡◌, ℕ, ◌+◌, ◌<◌, ◌≤◌, true, false, List, [], ◌∷◌}
-use Rattle.std.proofs.Common.{◌++◌, refl, arith, Some, None, length, drop}
-use Rattle.std.proofs.Common.{drop-cons, take, get_or, add-one, append_assoc}
-use Rattle.std.specs.Prelude.{◌==◌, ◌||◌}
-use Rattle.std.proofs.Math.Seq.{take-suc}
-use Rattle.std.proofs.lemmas.List.{take-append-drop}
-use Rattle.sixel_base.specs.declared.error.SixelError.{SixelError}
-use Rattle.sixel_decoder.specs.inside.DcsParser.{IsStageFault}
-use Rattle.sixel_base.specs.Fault.{Fault}
-use Rattle.sixel_base.specs.Bytes.{count, first_terminator}
-use Rattle.sixel_base.specs.Settings.{Settings}
+use Rattle.std.proofs.Common.{◌≡◌, ℕ, ◌+◌, ◌<◌, ◌≤◌, true, false, List, [], ◌∷◌, ◌++◌, refl, arith}
+use Rattle.std.proofs.Common.{Some, None, length, drop, drop-cons, take, get_or, add-one}
+use Rattle.std.{proofs.Common.append_assoc, specs.Prelude.{◌==◌, ◌||◌}, proofs.Math.Seq.take-suc}
+use Rattle.std.{proofs.lemmas.List.take-append-drop, proofs.lemmas.Bool.Decides.nat_tests}
+use Rattle.sixel_base.{specs.Bytes.{count, first_terminator}, specs.Dcs.{Introduced, Waiting}}
+use Rattle.sixel_base.specs.Dcs.{Absent, Entered, introduced, Failing, Reading, stage_after}
+use Rattle.sixel_base.specs.Dcs.{stage_by, stage, after_terminator, end_status, end_count}
+use Rattle.sixel_base.{specs.Fault.Fault, specs.Header.{headed, headed_by, header_rest}}
+use Rattle.sixel_base.{specs.Settings.Settings, specs.declared.error.SixelError.SixelError}
 use Rattle.sixel_base.specs.declared.status.SixelDcsFeedStatus.TheVariants.{NeedMoreData}
-use Rattle.sixel_base.specs.Header.{headed, headed_by, header_rest}
-use Rattle.sixel_base.specs.Dcs.{Introduced, Waiting, Absent, Entered, introduced}
-use Rattle.sixel_base.specs.Dcs.{Failing, Reading, stage_after, stage_by, stage}
-use Rattle.sixel_base.specs.Dcs.{after_terminator, end_status, end_count}
 use Rattle.sixel_decoder.proofs.dcs_sequences.Headers.{introduced-entered, header_rest-ended}
 use Rattle.sixel_decoder.proofs.dcs_sequences.Headers.{header_front-ended}
-use Rattle.std.proofs.lemmas.Bool.Decides.{nat_tests}
+use Rattle.sixel_decoder.specs.inside.DcsParser.{IsStageFault}
 
 pub after_terminator-none : (bytes more : List ℕ) → first_terminator bytes ≡ None
     → after_terminator (bytes ++ more) ≡ after_terminator more

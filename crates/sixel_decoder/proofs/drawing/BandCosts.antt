@@ -1,18 +1,14 @@
 -- What the runs of a history have cost a canvas of one band, against its sixels and its bands.
 use Rattle.std.proofs.Common.{◌≡◌, ℕ, ◌+◌, ◌*◌, ◌≤◌, ◌∷◌, [], None, Some, arith}
-use Rattle.std.proofs.lemmas.Nat.{mul-le}
-use Rattle.sixel_base.specs.History.{History}
-use Rattle.sixel_base.specs.Limits.{Limit}
-use Rattle.sixel_base.specs.Clip.{clipped_height, clipped_width}
-use Rattle.sixel_base.specs.Payload.{first_fault}
-use Rattle.sixel_base.specs.PaintedArea.{size}
+use Rattle.std.proofs.lemmas.{Bool.Decides.nat_tests, Nat.mul-le}
+use Rattle.sixel_base.specs.{Clip.{clipped_height, clipped_width}, History.History, Limits.Limit}
+use Rattle.sixel_base.specs.{PaintedArea.size, Payload.first_fault}
 use Rattle.sixel_canvas.specs.inside.BandCanvas.{AreMoved, BandCanvasState, IsPaid}
 use Rattle.sixel_canvas.specs.Drawn.{least_moved, lowest_top, right_edge, runs_paint}
 use Rattle.sixel_decoder.specs.Paints.{sixels, band_columns, band_room, area_of, least_band_count}
 use Rattle.sixel_decoder.specs.Paints.{least_row_writes, least_write_count, most_row_writes}
 use Rattle.sixel_decoder.specs.Paints.{most_run_paints, named_width, runs_of}
 use Rattle.sixel_decoder.proofs.drawing.RunCosts.{span-fits}
-use Rattle.std.proofs.lemmas.Bool.Decides.{nat_tests}
 
 -- the greatest right edge of all
 right_edge-history : (limit : Limit) (h : History)

@@ -1,15 +1,11 @@
 -- What of a sixel is inside a clip: its pixels, its bits and its columns.
 use Rattle.std.proofs.Common.{◌≡◌, ℕ, ◌-◌, ◌%◌, ◌^◌, ◌≤◌, Bool, false, min, arith}
-use Rattle.std.specs.Prelude.{◌&&◌, nat_lt}
-use Rattle.std.proofs.lemmas.Nat.{and_mask}
+use Rattle.std.{proofs.lemmas.Bool.Decides.nat_tests, proofs.lemmas.Nat.and_mask}
 use Rattle.std.proofs.lemmas.Nat.Bits.{bit_at_and, bit_at-lt, bit_at_ones, bit_at_ones_above}
-use Rattle.sixel_base.specs.Clip.{clipped_bits, clipped_pixel, is_pixel_inside}
-use Rattle.sixel_base.specs.History.{History}
-use Rattle.sixel_base.specs.Limits.{Limit}
-use Rattle.sixel_base.specs.Picture.{covers, is_set, picture}
-use Rattle.sixel_base.specs.Stroke.{Origin, pixel}
-use Rattle.sixel_base.proofs.PictureBytes.{joined-same}
-use Rattle.std.proofs.lemmas.Bool.Decides.{nat_tests}
+use Rattle.std.specs.Prelude.{◌&&◌, nat_lt}
+use Rattle.sixel_base.{proofs.PictureBytes.joined-same, specs.Clip.{clipped_bits, clipped_pixel}}
+use Rattle.sixel_base.{specs.Clip.is_pixel_inside, specs.History.History, specs.Limits.Limit}
+use Rattle.sixel_base.{specs.Picture.{covers, is_set, picture}, specs.Stroke.{Origin, pixel}}
 
 -- a test that fails last
 pub fails_third : (a b : Bool) → (a && b && false) ≡ false

@@ -1,13 +1,10 @@
 -- The last row with a set pixel, of a history and of sixels after it.
-use Rattle.std.proofs.Common.{◌≡◌, ℕ, zero, suc, ◌≤◌, List, [], ◌∷◌}
-use Rattle.std.proofs.Common.{length, get_or, take, refl, arith}
-use Rattle.sixel_base.specs.DrawnHeight.{drawn_height, lowered}
-use Rattle.sixel_base.specs.History.{Sixel, History}
+use Rattle.std.proofs.Common.{◌≡◌, ℕ, zero, suc, ◌≤◌, List, [], ◌∷◌, length, get_or, take, refl}
+use Rattle.std.proofs.{Common.arith, lemmas.Bool.Decides.nat_tests}
+use Rattle.sixel_base.specs.{DrawnHeight.{drawn_height, lowered}, History.{Sixel, History}}
 use Rattle.sixel_base.specs.Place.{down, height}
 use Rattle.sixel_decoder.specs.inside.Runs.{most_rows}
-use Rattle.sixel_decoder.proofs.drawing.SetRows.{lowered-again}
-use Rattle.sixel_decoder.proofs.drawing.SixelRuns.{with_sixels}
-use Rattle.std.proofs.lemmas.Bool.Decides.{nat_tests}
+use Rattle.sixel_decoder.proofs.{drawing.SetRows.lowered-again, drawing.SixelRuns.with_sixels}
 
 -- sixels of one band
 pub drawn_height-sixels : (h : History) (sixels : List ℕ) → drawn_height (with_sixels h sixels)

@@ -1,9 +1,8 @@
 -- The image of a painter is no higher than its picture.
-use Rattle.std.proofs.Common.{◌≡◌, ℕ, ◌≤◌, min, arith}
+use Rattle.std.proofs.{Common.{◌≡◌, ℕ, ◌≤◌, min, arith}, lemmas.Bool.Decides.nat_tests}
 use Rattle.std.specs.Prelude.{nat_lt, ◌&&◌, if◌then◌else◌}
 use Rattle.sixel_canvas.specs.declared.drawing.Canvas.{Ghosts}
 use Rattle.sixel_decoder.specs.declared.painter.Painter.{Painter}
-use Rattle.std.proofs.lemmas.Bool.Decides.{nat_tests}
 
 -- the height with crop
 pub low : {C : Type 0} {canvas : Ghosts C} (painter : Painter C canvas) (height : ℕ)

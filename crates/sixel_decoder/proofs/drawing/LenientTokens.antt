@@ -1,26 +1,21 @@
 -- What a painter has drawn of all tokens where commands with a fault may be ignored.
 use Rattle.std.proofs.Common.{◌≡◌, ℕ, ◌-◌, ◌<◌, ◌≤◌, Bool, true, false, List, [], ◌∷◌, refl, ◌∙◌}
 use Rattle.std.proofs.Common.{length, take, get_or, Some, None, Result, arith}
+use Rattle.std.proofs.lemmas.Bool.Decides.{nat_tests}
 use Rattle.std.specs.Prelude.{IfErr, fold, min, ◌+◌}
-use Rattle.sixel_base.specs.declared.error.SixelError.{SixelError}
-use Rattle.sixel_base.specs.Fault.{Fault, Faults, is_fault}
-use Rattle.sixel_base.specs.History.{Token, Sixel, Repeat, History, read}
-use Rattle.sixel_base.specs.Lenient.{count_limit, effective, ignored_count, tolerated, without}
-use Rattle.sixel_base.specs.Limits.{Limit}
-use Rattle.sixel_base.specs.Payload.{first_fault, settled, settled_tokens}
-use Rattle.sixel_base.specs.Stroke.{Origin}
+use Rattle.sixel_base.specs.{declared.error.SixelError.SixelError, Fault.{Fault, Faults, is_fault}}
+use Rattle.sixel_base.specs.{History.{Token, Sixel, Repeat, History, read}, Lenient.count_limit}
+use Rattle.sixel_base.specs.{Lenient.{effective, ignored_count, tolerated, without}, Limits.Limit}
+use Rattle.sixel_base.specs.{Payload.{first_fault, settled, settled_tokens}, Stroke.Origin}
 use Rattle.sixel_base.proofs.ToleratedTokens.{effective-more, effective-strict, count-more}
 use Rattle.sixel_base.proofs.ToleratedTokens.{count-without, effective-without, option_or-none}
 use Rattle.sixel_canvas.specs.declared.drawing.Canvas.{Ghosts}
-use Rattle.sixel_decoder.specs.declared.painter.Painter.{Painter}
+use Rattle.sixel_decoder.specs.{Paints.sixels, declared.painter.Painter.Painter}
 use Rattle.sixel_decoder.specs.inside.Lenient.{Tolerates, HasDrawn, tolerated_count}
-use Rattle.sixel_decoder.specs.inside.Lenient.{tolerated_result}
-use Rattle.sixel_decoder.specs.Paints.{sixels}
-use Rattle.sixel_decoder.specs.inside.Painter.{Draws, Shows}
+use Rattle.sixel_decoder.specs.{inside.Lenient.tolerated_result, inside.Painter.{Draws, Shows}}
 use Rattle.sixel_decoder.specs.inside.Runs.{IsRun, IsSixelByte, bits_of}
 use Rattle.sixel_decoder.proofs.drawing.SixelRuns.{IsRun-take, fold_one, fold_run, with_sixels}
 use Rattle.sixel_decoder.proofs.drawing.TokenFaults.{fault_found}
-use Rattle.std.proofs.lemmas.Bool.Decides.{nat_tests}
 
 -- one more token that was drawn
 pub has_drawn_more : {C : Type 0} {canvas : Ghosts C} (o : Origin) (painter : Painter C canvas)

@@ -1,29 +1,21 @@
 -- What a painter shows once sixels of one column each were drawn on its canvas: the pixels that
 -- they cover, and the runs that they are.
-use Rattle.std.proofs.Common.{◌≡◌, ℕ, suc, ◌+◌, ◌≤◌, ◌-◌, Bool, List, [], ◌∷◌, ◌++◌, length}
-use Rattle.std.proofs.Common.{get_or, take, get_or-take, subst, refl, sym, ap, ◌∙◌, arith}
+use Rattle.std.proofs.Common.{◌≡◌, ℕ, suc, ◌+◌, ◌≤◌, ◌-◌, Bool, List, [], ◌∷◌, ◌++◌, length, get_or}
+use Rattle.std.proofs.Common.{take, get_or-take, subst, refl, sym, ap, ◌∙◌, arith}
 use Rattle.std.specs.Prelude.{nat_lt, nat_le, ◌&&◌, if◌then◌else◌}
-use Rattle.std.proofs.lemmas.List.{get_or_past}
-use Rattle.sixel_base.specs.Clip.{clipped_pixel}
-use Rattle.sixel_base.specs.DrawnHeight.{lowered}
-use Rattle.sixel_base.specs.History.{Sixel, History}
-use Rattle.sixel_base.specs.Limits.{Limit}
-use Rattle.sixel_base.specs.Picture.{covers, is_struck}
-use Rattle.sixel_base.specs.Place.{span, across, down}
+use Rattle.std.proofs.lemmas.{Bool.Decides.nat_tests, List.get_or_past}
+use Rattle.sixel_base.specs.{Clip.clipped_pixel, DrawnHeight.lowered, History.{Sixel, History}}
+use Rattle.sixel_base.specs.{Limits.Limit, Picture.{covers, is_struck}, Place.{span, across, down}}
 use Rattle.sixel_base.specs.Stroke.{Origin, pixel, color}
 use Rattle.sixel_base.proofs.Sixels.{blank_set}
 use Rattle.sixel_canvas.specs.declared.drawing.Canvas.{Ghosts}
 use Rattle.sixel_decoder.specs.declared.painter.Painter.{Painter}
-use Rattle.sixel_decoder.specs.inside.Painter.{Shows}
-use Rattle.sixel_decoder.specs.inside.DrawnRows.{drawn_rows}
+use Rattle.sixel_decoder.specs.inside.{DrawnRows.drawn_rows, Painter.Shows, Runs.most_rows}
 use Rattle.sixel_decoder.specs.Paints.{named_width, runs_of}
-use Rattle.sixel_decoder.specs.inside.Runs.{most_rows}
+use Rattle.sixel_decoder.proofs.drawing.{Clips.fails_third, DrawnHeights.drawn_height-sixels}
+use Rattle.sixel_decoder.proofs.drawing.{DrawnHeights.most_rows-first, SixelRuns.with_sixels}
+use Rattle.sixel_decoder.proofs.drawing.SixelRuns.{IsInside, IsInside-sixel, IsPassed-sixels}
 use Rattle.sixel_canvas.specs.Drawn.{Run, run, covers_eight, with_sixels as with_runs}
-use Rattle.sixel_decoder.proofs.drawing.DrawnHeights.{drawn_height-sixels, most_rows-first}
-use Rattle.sixel_decoder.proofs.drawing.Clips.{fails_third}
-use Rattle.sixel_decoder.proofs.drawing.SixelRuns.{with_sixels, IsInside, IsInside-sixel}
-use Rattle.sixel_decoder.proofs.drawing.SixelRuns.{IsPassed-sixels}
-use Rattle.std.proofs.lemmas.Bool.Decides.{nat_tests}
 
 -- whether some of these sixels of one column each covers the pixel
 abbrev covers_all : ℕ → List ℕ → ℕ → ℕ → ℕ → Bool

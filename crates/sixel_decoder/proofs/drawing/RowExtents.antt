@@ -1,18 +1,12 @@
 -- How far the rows of an image are reached, and its sizes.
-use Rattle.std.proofs.Common.{◌≡◌, ℕ, suc, zero, ◌*◌, ◌≤◌, Bool, nat_lt}
-use Rattle.std.proofs.Common.{List, [], ◌∷◌, Option, None, refl, arith}
-use Rattle.std.specs.Option.{option_or}
-use Rattle.std.proofs.Math.Nat.{mul-suc}
-use Rattle.std.proofs.lemmas.Nat.{mul-le}
-use Rattle.std.proofs.lemmas.Bool.Decides.{nat_tests}
-use Rattle.sixel_base.specs.History.{History}
-use Rattle.sixel_base.specs.Fault.{Fault}
-use Rattle.sixel_base.specs.Limits.{Limit, side_limit}
-use Rattle.sixel_base.specs.Payload.{cropped_height, extent_fault, first_fault, payload_area}
-use Rattle.sixel_base.specs.Picture.{total}
-use Rattle.sixel_base.specs.Place.{height, raster_height, width}
+use Rattle.std.proofs.Common.{◌≡◌, ℕ, suc, zero, ◌*◌, ◌≤◌, Bool, nat_lt, List, [], ◌∷◌, Option}
+use Rattle.std.{proofs.Common.{None, refl, arith}, specs.Option.option_or, proofs.Math.Nat.mul-suc}
+use Rattle.std.{proofs.lemmas.Nat.mul-le, proofs.lemmas.Bool.Decides.nat_tests}
+use Rattle.sixel_base.{proofs.ToleratedTokens.effective-same, specs.Fault.Fault}
+use Rattle.sixel_base.{specs.History.History, specs.Limits.{Limit, side_limit}}
 use Rattle.sixel_base.specs.PaintedArea.{payload_painted_area, row_extent, painted_area}
-use Rattle.sixel_base.proofs.ToleratedTokens.{effective-same}
+use Rattle.sixel_base.specs.Payload.{cropped_height, extent_fault, first_fault, payload_area}
+use Rattle.sixel_base.{specs.Picture.total, specs.Place.{height, raster_height, width}}
 
 -- no sixel covers a row from the height on
 pub row_extent-past : (limit : Limit) (h : History) (row : ℕ) → height h ≤ row

@@ -1,16 +1,11 @@
 -- What the runs of a history have cost a canvas, against its sixels and how far they reach.
 use Rattle.std.proofs.Common.{◌≡◌, ℕ, ◌+◌, ◌*◌, ◌≤◌, ◌∷◌, [], None, refl, arith, ◌∙◌}
 use Rattle.std.proofs.lemmas.Bool.Decides.{nat_tests}
-use Rattle.sixel_base.specs.History.{History}
-use Rattle.sixel_base.specs.Limits.{Limit, repeat_limit}
-use Rattle.sixel_base.specs.Payload.{first_fault}
-use Rattle.sixel_base.specs.Place.{height, span}
-use Rattle.sixel_base.specs.PaintedArea.{row_extent, painted_area}
-use Rattle.sixel_canvas.specs.Drawn.{Work}
-use Rattle.sixel_canvas.specs.inside.RowCanvas.{RowCanvasState, HasCost, IsDrawnBy, row_edge}
-use Rattle.sixel_canvas.specs.inside.RowCanvas.{row_canvas_work, runs_most}
-use Rattle.sixel_canvas.proofs.RowCosts.{drawn_cost}
-use Rattle.sixel_canvas.proofs.Totals.{total-same}
+use Rattle.sixel_base.specs.{History.History, Limits.{Limit, repeat_limit}, PaintedArea.row_extent}
+use Rattle.sixel_base.specs.{PaintedArea.painted_area, Payload.first_fault, Place.{height, span}}
+use Rattle.sixel_canvas.specs.{Drawn.Work, inside.RowCanvas.{RowCanvasState, HasCost, IsDrawnBy}}
+use Rattle.sixel_canvas.specs.inside.RowCanvas.{row_edge, row_canvas_work, runs_most}
+use Rattle.sixel_canvas.proofs.{RowCosts.drawn_cost, Totals.total-same}
 use Rattle.sixel_decoder.specs.Paints.{sixels, least_count, most_sixel_paints, runs_of}
 use Rattle.sixel_decoder.proofs.drawing.RowExtents.{row_extent-past}
 

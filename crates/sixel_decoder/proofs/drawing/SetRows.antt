@@ -1,14 +1,10 @@
 -- The rows that bits set, of several sixels together.
-use Rattle.std.proofs.Common.{◌≡◌, ℕ, zero, suc, ◌/◌, ◌%◌, ◌^◌, ◌≤◌}
-use Rattle.std.proofs.Common.{List, [], ◌∷◌, max, length, refl, ap, ◌∙◌, arith}
-use Rattle.std.specs.Int.{to_le_bytes, w64}
-use Rattle.std.specs.Int.Bits.{bit_or}
-use Rattle.std.specs.Simd.Lanes.{fold_l, zip2}
-use Rattle.std.proofs.lemmas.Nat.{or_mod, or_shr}
-use Rattle.std.proofs.lemmas.Nat.Bits.{bit_at_or, bit_at-lt}
+use Rattle.std.proofs.Common.{◌≡◌, ℕ, zero, suc, ◌/◌, ◌%◌, ◌^◌, ◌≤◌, List, [], ◌∷◌, max, length}
+use Rattle.std.proofs.{Common.{refl, ap, ◌∙◌, arith}, lemmas.Bool.Decides.nat_tests}
+use Rattle.std.proofs.{lemmas.Nat.{or_mod, or_shr}, lemmas.Nat.Bits.{bit_at_or, bit_at-lt}}
+use Rattle.std.specs.{Int.{to_le_bytes, w64}, Int.Bits.bit_or, Simd.Lanes.{fold_l, zip2}}
 use Rattle.sixel_base.specs.DrawnHeight.{set_rows_within, set_rows, lowered}
 use Rattle.sixel_decoder.specs.inside.Runs.{most_rows}
-use Rattle.std.proofs.lemmas.Bool.Decides.{nat_tests}
 
 few : (bits k : ℕ) → set_rows_within bits k ≤ k
 few bits zero = omega arith

@@ -1,14 +1,9 @@
 -- The last row with a set pixel, by what a painter collects.
-use Rattle.std.proofs.Common.{◌≡◌, ◌<◌, ◌^◌, ◌∙◌, ap, arith}
-use Rattle.sixel_base.specs.DrawnHeight.{drawn_height}
-use Rattle.sixel_base.specs.History.{History}
-use Rattle.sixel_base.specs.Stroke.{Origin}
+use Rattle.std.{proofs.Common.{◌≡◌, ◌<◌, ◌^◌, ◌∙◌, ap, arith}, proofs.lemmas.Bool.Decides.nat_tests}
+use Rattle.sixel_base.{specs.DrawnHeight.drawn_height, specs.History.History, specs.Stroke.Origin}
 use Rattle.sixel_canvas.specs.declared.drawing.Canvas.{Ghosts}
-use Rattle.sixel_decoder.specs.declared.painter.Painter.{Painter}
-use Rattle.sixel_decoder.specs.inside.DrawnRows.{drawn_rows}
-use Rattle.sixel_decoder.specs.inside.Painter.{Shows}
-use Rattle.sixel_decoder.proofs.drawing.DrawnHeights.{drawn_within}
-use Rattle.std.proofs.lemmas.Bool.Decides.{nat_tests}
+use Rattle.sixel_decoder.{specs.declared.painter.Painter.Painter, specs.inside.DrawnRows.drawn_rows}
+use Rattle.sixel_decoder.{specs.inside.Painter.Shows, proofs.drawing.DrawnHeights.drawn_within}
 
 pub shown_drawn : {C : Type 0} {canvas : Ghosts C} (o : Origin) (painter : Painter C canvas)
     (h : History) → Shows o painter h

@@ -2,25 +2,18 @@
 -- change pixels and the place alone.
 use Rattle.std.proofs.Common.{◌≡◌, ℕ, suc, ◌+◌, ◌*◌, ◌<◌, ◌≤◌, ◌-◌, true, false, List, [], ◌∷◌}
 use Rattle.std.proofs.Common.{length, get_or, take, length-take, get_or-take, refl, ap, None, arith}
-use Rattle.std.specs.Prelude.{fold, nat_lt}
-use Rattle.sixel_base.specs.History.{Sixel, History, goes_on, read}
-use Rattle.sixel_base.specs.Payload.{first_fault, closed, growths}
-use Rattle.sixel_base.specs.Fault.{Faults}
-use Rattle.sixel_base.specs.Limits.{Limit}
-use Rattle.sixel_base.specs.declared.error.SixelError.{SixelError}
-use Rattle.sixel_base.specs.Place.{span, across, down, width, height}
-use Rattle.sixel_base.specs.Settings.{ratio_of}
-use Rattle.sixel_base.specs.Lenient.{fault}
-use Rattle.sixel_base.specs.Stroke.{Origin, registers, color, ratio}
-use Rattle.sixel_canvas.specs.declared.drawing.Canvas.{Ghosts}
-use Rattle.sixel_decoder.specs.Report.{raster_size}
-use Rattle.sixel_decoder.specs.inside.Lenient.{HasDrawn}
-use Rattle.sixel_decoder.specs.declared.payload_parser.PayloadParser.{PayloadParser}
-use Rattle.sixel_decoder.specs.declared.payload_parser.OpenCommand.TheVariants.{Ground}
-use Rattle.sixel_decoder.specs.inside.PayloadParser.{Stands}
-use Rattle.sixel_decoder.specs.inside.Runs.{IsSixelByte, IsRun, bits_of}
-use Rattle.sixel_canvas.specs.Drawn.{run}
 use Rattle.std.proofs.lemmas.Bool.Decides.{nat_tests}
+use Rattle.std.specs.Prelude.{fold, nat_lt}
+use Rattle.sixel_base.specs.{Fault.Faults, History.{Sixel, History, goes_on, read}, Lenient.fault}
+use Rattle.sixel_base.specs.{Limits.Limit, Payload.{first_fault, closed, growths}, Place.span}
+use Rattle.sixel_base.specs.{Place.{across, down, width, height}, Settings.ratio_of, Stroke.Origin}
+use Rattle.sixel_base.specs.{Stroke.{registers, color, ratio}, declared.error.SixelError.SixelError}
+use Rattle.sixel_canvas.specs.{Drawn.run, declared.drawing.Canvas.Ghosts}
+use Rattle.sixel_decoder.specs.Report.{raster_size}
+use Rattle.sixel_decoder.specs.declared.payload_parser.OpenCommand.TheVariants.{Ground}
+use Rattle.sixel_decoder.specs.declared.payload_parser.PayloadParser.{PayloadParser}
+use Rattle.sixel_decoder.specs.{inside.Lenient.HasDrawn, inside.PayloadParser.Stands}
+use Rattle.sixel_decoder.specs.inside.Runs.{IsSixelByte, IsRun, bits_of}
 
 -- the history after sixels with these bits
 abbrev pub with_sixels : History → List ℕ → History

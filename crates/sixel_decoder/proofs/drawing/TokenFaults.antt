@@ -1,8 +1,6 @@
 -- Which errors are faults of the tokens.
-use Rattle.std.proofs.Common.{◌≡◌, Bool, true, Option, Some, arith}
-use Rattle.sixel_base.specs.declared.error.SixelError.{SixelError}
-use Rattle.sixel_base.specs.Fault.{Fault, Faults, is_fault}
-use Rattle.std.proofs.lemmas.Bool.Decides.{nat_tests}
+use Rattle.std.proofs.{Common.{◌≡◌, Bool, true, Option, Some, arith}, lemmas.Bool.Decides.nat_tests}
+use Rattle.sixel_base.specs.{Fault.{Fault, Faults, is_fault}, declared.error.SixelError.SixelError}
 
 -- an error that is a fault was found in the tokens
 pub fault_found : (e : SixelError) (may : Bool) (found : Option Fault) (P : Type 0)

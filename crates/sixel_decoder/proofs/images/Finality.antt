@@ -1,30 +1,24 @@
 -- What has ended or is rejected stays so, whatever bytes follow.
 use Rattle.std.proofs.Common.{◌≡◌, ℕ, ◌≤◌, true, List, ◌++◌, refl, ap, arith, Option, Some, None}
-use Rattle.std.proofs.Common.{length, length-append}
-use Rattle.std.specs.Prelude.{fold}
-use Rattle.std.proofs.lemmas.List.Sums.{fold-append}
-use Rattle.sixel_base.specs.Fault.{Fault}
-use Rattle.sixel_base.specs.Bytes.{front, carrying, count, first_terminator}
-use Rattle.sixel_base.specs.History.{History, read, history_of}
-use Rattle.sixel_base.specs.Settings.{Settings}
-use Rattle.sixel_base.specs.declared.state.DecoderState.{DecoderState}
+use Rattle.std.{proofs.Common.{length, length-append}, proofs.lemmas.Bool.Decides.nat_tests}
+use Rattle.std.{proofs.lemmas.List.Sums.fold-append, specs.Prelude.fold}
+use Rattle.sixel_base.{specs.Bytes.{front, carrying, count, first_terminator}, specs.Dcs.Stage}
+use Rattle.sixel_base.specs.Dcs.{Heading, Failing, Reading, stage, after_terminator, end_status}
+use Rattle.sixel_base.specs.Dcs.{payload_status_by, stage_status, stage_fault, stage_growths}
+use Rattle.sixel_base.specs.Dcs.{dcs_status, dcs_count, dcs_fault, dcs_growths, has_ended}
+use Rattle.sixel_base.{specs.Fault.Fault, specs.History.{History, read, history_of}}
+use Rattle.sixel_base.{specs.Lenient.fault, specs.Limits.Limit, specs.OneShot.{Payload, found}}
+use Rattle.sixel_base.specs.OneShot.{found_fault, IsFoundImage, AreFoundRegisters}
 use Rattle.sixel_base.specs.Payload.{Image, closed, settled, fed_fault, growths}
+use Rattle.sixel_base.{specs.Settings.Settings, specs.declared.state.DecoderState.DecoderState}
 use Rattle.sixel_base.specs.declared.status.SixelDcsFeedStatus.TheVariants.{NeedMoreData}
-use Rattle.sixel_base.specs.Dcs.{Stage, Heading, Failing, Reading, stage, after_terminator}
-use Rattle.sixel_base.specs.Dcs.{end_status, payload_status_by, stage_status, stage_fault}
-use Rattle.sixel_base.specs.Dcs.{stage_growths, dcs_status, dcs_count, dcs_fault, dcs_growths}
-use Rattle.sixel_base.specs.Dcs.{has_ended}
-use Rattle.sixel_base.specs.Lenient.{fault}
-use Rattle.sixel_base.specs.Limits.{Limit}
-use Rattle.sixel_base.specs.OneShot.{Payload, found, found_fault, IsFoundImage, AreFoundRegisters}
-use Rattle.sixel_decoder.proofs.chunks.Reads.{whole_fault, fold_fault, growths-fold}
 use Rattle.sixel_decoder.proofs.chunks.Joined.{first_terminator-ended, before_terminator-ended}
 use Rattle.sixel_decoder.proofs.chunks.Joined.{settled_open, carrying-append}
 use Rattle.sixel_decoder.proofs.chunks.Joined.{before_terminator-whole, before_terminator-append}
+use Rattle.sixel_decoder.proofs.chunks.Reads.{whole_fault, fold_fault, growths-fold}
+use Rattle.sixel_decoder.proofs.dcs_sequences.Payloads.{found_reading}
 use Rattle.sixel_decoder.proofs.dcs_sequences.Terminators.{after_terminator-some, end_stays}
 use Rattle.sixel_decoder.proofs.dcs_sequences.Terminators.{stage_reading, failing_stays}
-use Rattle.sixel_decoder.proofs.dcs_sequences.Payloads.{found_reading}
-use Rattle.std.proofs.lemmas.Bool.Decides.{nat_tests}
 
 -- ---- a payload
 

@@ -1,9 +1,7 @@
 -- A finished image in another type, by a caller that stores an error.
 use Rattle.std.proofs.Common.{◌≡◌, ℕ, List, Ok, Option, arith}
-use Rattle.sixel_base.specs.Payload.{Image}
-use Rattle.sixel_base.specs.Fault.{Fault}
-use Rattle.sixel_decoder.specs.FinishedImages.{IsFinished}
-use Rattle.sixel_decoder.specs.Reception.{Reception}
+use Rattle.sixel_base.specs.{Fault.Fault, Payload.Image}
+use Rattle.sixel_decoder.specs.{FinishedImages.IsFinished, Reception.Reception}
 
 pub finished_as : {A B : Type 0} (image_of : A → Image) (registers_of : A → List (List ℕ))
     (image_of' : B → Image) (registers_of' : B → List (List ℕ)) (image : Reception)

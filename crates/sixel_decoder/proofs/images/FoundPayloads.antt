@@ -1,8 +1,7 @@
 -- The meaning of the result for a whole DCS sequence.
-use Rattle.std.proofs.Common.{◌≡◌, ◌+◌, ◌-◌, ◌≤◌, List, ℕ, Some, ◌∙◌, length, get_or, take}
-use Rattle.std.proofs.Common.{drop, take_all, length-drop, arith}
-use Rattle.std.proofs.lemmas.Bool.Decides.{nat_tests}
-use Rattle.std.proofs.lemmas.List.{drop-drop}
+use Rattle.std.proofs.Common.{◌≡◌, ◌+◌, ◌-◌, ◌≤◌, List, ℕ, Some, ◌∙◌, length, get_or, take, drop}
+use Rattle.std.proofs.Common.{take_all, length-drop, arith}
+use Rattle.std.proofs.lemmas.{Bool.Decides.nat_tests, List.drop-drop}
 use Rattle.sixel_base.specs.OneShot.{after_introducer}
 
 -- ---- where the first introducer is

@@ -2,34 +2,29 @@
 -- it has no fault.
 use Rattle.std.proofs.Common.{◌≡◌, ℕ, ◌+◌, ◌≤◌, true, false, List, [], ◌∷◌, ◌++◌, refl, ap, sym}
 use Rattle.std.proofs.Common.{◌∙◌, arith, Some, None, length, drop, length-append, length-drop}
-use Rattle.std.specs.Prelude.{nat_lt, Option}
 use Rattle.std.proofs.lemmas.Bool.Decides.{nat_tests}
-use Rattle.sixel_base.specs.declared.error.SixelError.{SixelError}
+use Rattle.std.specs.Prelude.{nat_lt, Option}
+use Rattle.sixel_base.specs.{Bytes.{count, first_terminator}, Dcs.{Introduced, Waiting, Absent}}
+use Rattle.sixel_base.specs.Dcs.{Entered, introduced, Stage, Heading, Failing, Reading, stage_after}
+use Rattle.sixel_base.specs.Dcs.{stage_by, stage, stage_count, stage_status, stage_fault}
+use Rattle.sixel_base.specs.Dcs.{after_terminator, ended_with, payload_count, payload_status}
+use Rattle.sixel_base.specs.Dcs.{dcs_count, dcs_status, dcs_fault, dcs_growths, escape_count}
+use Rattle.sixel_base.specs.{Dcs.escape_status, Fault.Faults, Header.{headed_by, header_rest}}
+use Rattle.sixel_base.specs.{Limits.Limit, declared.error.SixelError.SixelError}
 use Rattle.sixel_base.specs.declared.state.DecoderState.{DecoderState}
 use Rattle.sixel_base.specs.declared.status.SixelDcsFeedResult.{SixelDcsFeedResult}
 use Rattle.sixel_base.specs.declared.status.SixelDcsFeedStatus.{SixelDcsFeedStatus}
 use Rattle.sixel_base.specs.declared.status.SixelDcsFeedStatus.TheVariants.{NeedMoreData}
-use Rattle.sixel_base.specs.Bytes.{count, first_terminator}
-use Rattle.sixel_base.specs.Dcs.{Introduced, Waiting, Absent, Entered, introduced, Stage, Heading}
-use Rattle.sixel_base.specs.Dcs.{Failing, Reading, stage_after, stage_by, stage, stage_count}
-use Rattle.sixel_base.specs.Dcs.{stage_status, stage_fault, after_terminator, ended_with}
-use Rattle.sixel_base.specs.Dcs.{payload_count, payload_status, dcs_count, dcs_status, dcs_fault}
-use Rattle.sixel_base.specs.Dcs.{dcs_growths, escape_count, escape_status}
-use Rattle.sixel_base.specs.Fault.{Faults}
-use Rattle.sixel_base.specs.Header.{headed_by, header_rest}
-use Rattle.sixel_base.specs.Limits.{Limit}
 use Rattle.sixel_decoder.specs.ImageEnds.{Extends, IsEnd, inside, sequence_count, sequence_status}
-use Rattle.sixel_decoder.specs.Reception.{OfString}
-use Rattle.sixel_decoder.specs.declared.dcs_parser.DcsState.{DcsState}
-use Rattle.sixel_decoder.specs.declared.dcs_parser.DcsState.TheVariants as states
-use Rattle.sixel_decoder.specs.declared.received.Status.TheVariants.{Dcs}
-use Rattle.sixel_decoder.specs.inside.DcsParser.{GoesTo, HasFollowed, is_begun, is_failed, is_head}
+use Rattle.sixel_decoder.specs.{Reception.OfString, declared.dcs_parser.DcsState.DcsState}
+use Rattle.sixel_decoder.specs.{declared.received.Status.TheVariants.Dcs, inside.DcsParser.GoesTo}
+use Rattle.sixel_decoder.specs.inside.DcsParser.{HasFollowed, is_begun, is_failed, is_head}
 use Rattle.sixel_decoder.proofs.chunks.Joined.{count-append, first_terminator-append}
-use Rattle.sixel_decoder.proofs.chunks.Joined.{first_terminator-ended}
-use Rattle.sixel_decoder.proofs.dcs_sequences.Chunks.{heading, reading_fits}
-use Rattle.sixel_decoder.proofs.dcs_sequences.Ends.{ended_at, goes_later, some_by}
-use Rattle.sixel_decoder.proofs.images.Finality.{count_ended}
-use Rattle.sixel_decoder.proofs.chunks.Sessions.{dcs_count-most}
+use Rattle.sixel_decoder.proofs.{chunks.Joined.first_terminator-ended, dcs_sequences.Chunks.heading}
+use Rattle.sixel_decoder.proofs.{dcs_sequences.Chunks.reading_fits, dcs_sequences.Ends.ended_at}
+use Rattle.sixel_decoder.proofs.dcs_sequences.Ends.{goes_later, some_by}
+use Rattle.sixel_decoder.proofs.{images.Finality.count_ended, chunks.Sessions.dcs_count-most}
+use Rattle.sixel_decoder.specs.declared.dcs_parser.DcsState.TheVariants as states
 
 -- ---- a DCS sequence goes on
 

@@ -1,24 +1,17 @@
 -- Final rows stay: no token that follows draws above the band of the next sixel.
 use Rattle.std.proofs.Common.{◌≡◌, ℕ, ◌<◌, ◌≤◌, true, false, cond, List, [], ◌∷◌, ◌++◌, refl, arith}
-use Rattle.std.proofs.Common.{Option, Some, None}
+use Rattle.std.proofs.{Common.{Option, Some, None}, lemmas.Bool.Decides.nat_tests}
 use Rattle.std.specs.Prelude.{fold}
-use Rattle.std.proofs.lemmas.Bool.Decides.{nat_tests}
-use Rattle.sixel_base.specs.Bytes.{front, first_terminator}
-use Rattle.sixel_base.specs.Clip.{clipped_pixel}
-use Rattle.sixel_base.specs.Dcs.{Stage, Heading, Failing, Reading, stage}
-use Rattle.sixel_base.specs.Lenient.{effective, without}
-use Rattle.sixel_base.specs.Limits.{Limit}
-use Rattle.sixel_base.specs.History.{Token, History, begun, longer, goes_on, read, history_of}
-use Rattle.sixel_base.specs.Payload.{closed, settled_tokens, tokens}
-use Rattle.sixel_base.specs.Place.{down, height}
-use Rattle.sixel_base.specs.Settings.{Settings}
-use Rattle.sixel_base.specs.Stroke.{Origin, pixel}
+use Rattle.sixel_base.specs.{Bytes.{front, first_terminator}, Clip.clipped_pixel, Dcs.Stage}
+use Rattle.sixel_base.specs.{Dcs.{Heading, Failing, Reading, stage}, Lenient.{effective, without}}
+use Rattle.sixel_base.specs.{Limits.Limit, History.{Token, History, begun, longer, goes_on, read}}
+use Rattle.sixel_base.specs.{History.history_of, Payload.{closed, settled_tokens, tokens}}
+use Rattle.sixel_base.specs.{Place.{down, height}, Settings.Settings, Stroke.{Origin, pixel}}
 use Rattle.sixel_decoder.specs.FinalRows.{payload_final_rows, stage_final_rows, dcs_final_rows}
-use Rattle.sixel_decoder.proofs.chunks.Reads.{closed-longer}
-use Rattle.sixel_decoder.proofs.chunks.Joined.{settled_open}
+use Rattle.sixel_decoder.proofs.{chunks.Joined.settled_open, chunks.Reads.closed-longer}
+use Rattle.sixel_decoder.proofs.dcs_sequences.Terminators.{stage_reading}
 use Rattle.sixel_decoder.proofs.images.Finality.{history_more, of_settled, settled_ended}
 use Rattle.sixel_decoder.proofs.images.Finality.{front_ended}
-use Rattle.sixel_decoder.proofs.dcs_sequences.Terminators.{stage_reading}
 
 -- A history continues another: its band is no higher, its picture no lower, and the rows above the
 -- band of the other have the same pixels.

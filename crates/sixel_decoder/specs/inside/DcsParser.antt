@@ -2,23 +2,18 @@
 -- From the meaning of DCS sequences: each state is one place where a sequence can be.
 use Rattle.std.specs.Prelude.{◌≡◌, ◌+◌, ◌≤◌, nat_lt, Bool, true, false, List, [], ◌∷◌, ◌++◌, ℕ}
 use Rattle.std.specs.Prelude.{Option, None, Result, MatchResult, take, length}
-use Rattle.sixel_base.specs.declared.error.SixelError.{SixelError}
-use Rattle.sixel_base.specs.Fault.{IsFault, Faults}
-use Rattle.sixel_base.specs.inside.Parameters.{Keeps}
-use Rattle.sixel_base.specs.declared.state.DecoderState.{DecoderState}
-use Rattle.sixel_base.specs.Decoder.{origin_of}
-use Rattle.sixel_base.specs.Payload.{fed_fault}
-use Rattle.sixel_base.specs.declared.status.SixelDcsFeedStatus.{SixelDcsFeedStatus}
+use Rattle.sixel_base.specs.declared.{error.SixelError.SixelError, state.DecoderState.DecoderState}
 use Rattle.sixel_base.specs.declared.status.SixelDcsFeedResult.{SixelDcsFeedResult}
-use Rattle.sixel_decoder.specs.declared.dcs_parser.DcsState.{DcsState}
-use Rattle.sixel_decoder.specs.declared.dcs_parser.DcsState.TheVariants as states
-use Rattle.sixel_decoder.specs.declared.header.Header as headers
-use Rattle.sixel_base.specs.Header.{header_rest, header_text}
-use Rattle.sixel_decoder.specs.ImageEnds.{IsEnd}
-use Rattle.sixel_decoder.specs.Session.{Session}
+use Rattle.sixel_base.specs.declared.status.SixelDcsFeedStatus.{SixelDcsFeedStatus}
 use Rattle.sixel_base.specs.Dcs.{Entered, introduced, Stage, Heading, Failing, Reading, stage}
 use Rattle.sixel_base.specs.Dcs.{payload_status, payload_count, dcs_status, dcs_count, dcs_fault}
-use Rattle.sixel_base.specs.Dcs.{dcs_growths, ended_with}
+use Rattle.sixel_base.specs.{Dcs.{dcs_growths, ended_with}, Decoder.origin_of, Fault.IsFault}
+use Rattle.sixel_base.specs.{Fault.Faults, Header.{header_rest, header_text}, Payload.fed_fault}
+use Rattle.sixel_base.specs.inside.Parameters.{Keeps}
+use Rattle.sixel_decoder.specs.declared.dcs_parser.DcsState.{DcsState}
+use Rattle.sixel_decoder.specs.{ImageEnds.IsEnd, Session.Session}
+use Rattle.sixel_decoder.specs.declared.dcs_parser.DcsState.TheVariants as states
+use Rattle.sixel_decoder.specs.declared.header.Header as headers
 
 -- the header continues, and its parameters are those of its text so far
 pub record IsInHeader (header : headers.Header) (bytes : List ℕ) : Type 0 where

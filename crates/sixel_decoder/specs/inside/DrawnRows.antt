@@ -1,9 +1,6 @@
 -- The last row with a set pixel, by what a painter collects of the sixels of a band: their bits
 -- together. An invariant of this library's own: the rows are those of DrawnHeight of sixel_base.
-use Rattle.std.specs.Prelude.{ℕ}
-use Rattle.std.specs.Int.{to_le_bytes, w64}
-use Rattle.std.specs.Int.Bits.{bit_or}
-use Rattle.std.specs.Simd.Lanes.{fold_l}
+use Rattle.std.specs.{Int.{to_le_bytes, w64}, Int.Bits.bit_or, Prelude.ℕ, Simd.Lanes.fold_l}
 use Rattle.sixel_base.specs.DrawnHeight.{lowered, set_rows}
 use Rattle.sixel_decoder.specs.declared.drawn_rows.DrawnRows.{DrawnRows}
 

@@ -2,12 +2,9 @@
 -- An invariant of this library's own: what a header means is in Header of sixel_base.
 use Rattle.std.specs.Prelude.{ℕ, ◌≡◌, true, false, List, [], ◌∷◌, ◌++◌, Option, Result, MatchResult}
 use Rattle.std.specs.Prelude.{MatchOption, IsSomeAnd}
-use Rattle.sixel_base.specs.declared.error.SixelError.{SixelError}
-use Rattle.sixel_base.specs.Bytes.{carrying}
-use Rattle.sixel_base.specs.Fault.{IsFault, MissingCommand}
-use Rattle.sixel_base.specs.Header.{Headed, Open, Begun, Faulty, is_header, settings_of}
-use Rattle.sixel_base.specs.Header.{command_fault}
-use Rattle.sixel_base.specs.Settings.{Settings}
+use Rattle.sixel_base.specs.{Bytes.carrying, Fault.{IsFault, MissingCommand}, Header.{Headed, Open}}
+use Rattle.sixel_base.specs.Header.{Begun, Faulty, is_header, settings_of, command_fault}
+use Rattle.sixel_base.specs.{Settings.Settings, declared.error.SixelError.SixelError}
 use Rattle.sixel_base.specs.inside.Parameters.{Parameters, Keeps}
 
 -- The parameters are those of the text before the byte; the byte continues the header, ends it, or

@@ -2,14 +2,11 @@
 -- that were read. Which of them take effect is in Lenient of sixel_base.
 use Rattle.std.specs.Prelude.{ℕ, ◌≡◌, ◌∷◌, ◌-◌, ◌+◌, ◌&&◌, min, List, Bool, true, false}
 use Rattle.std.specs.Prelude.{if◌then◌else◌, fold, take, slice_index, Result, Ok, Err, MatchResult}
-use Rattle.sixel_base.specs.Fault.{Faults, is_fault}
-use Rattle.sixel_base.specs.History.{History, Sixel, read}
-use Rattle.sixel_base.specs.Lenient.{count_limit, effective, fault, ignored_count}
-use Rattle.sixel_base.specs.Stroke.{Origin}
+use Rattle.sixel_base.specs.{Fault.{Faults, is_fault}, History.{History, Sixel, read}}
+use Rattle.sixel_base.specs.{Lenient.{count_limit, effective, fault, ignored_count}, Stroke.Origin}
 use Rattle.sixel_base.specs.declared.error.SixelError.{SixelError}
 use Rattle.sixel_canvas.specs.declared.drawing.Canvas.{Ghosts}
-use Rattle.sixel_decoder.specs.declared.painter.Painter.{Painter}
-use Rattle.sixel_decoder.specs.inside.Painter.{Shows}
+use Rattle.sixel_decoder.specs.{declared.painter.Painter.Painter, inside.Painter.Shows}
 
 -- The painter has drawn the tokens that take effect, and the number of the others is `ignored`.
 pub record HasDrawn {C : Type 0} {canvas : Ghosts C} (origin : Origin) (painter : Painter C canvas)

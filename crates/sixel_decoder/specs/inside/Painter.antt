@@ -1,27 +1,19 @@
 -- What the parts of a painter keep, in the words of the history that was read. An invariant of this
 -- library's own: the words are those of Place and Stroke of sixel_base, where DEC's manual gives
 -- the rules.
-use Rattle.std.specs.Prelude.{ℕ, ◌≡◌, ◌+◌, ◌*◌, ◌≤◌, Bool, MatchResult, Result, None, is_none}
-use Rattle.std.specs.Prelude.{[], ◌∷◌, ◌++◌, List, max, min, ◌&&◌, if◌then◌else◌}
-use Rattle.sixel_base.specs.declared.error.SixelError.{SixelError}
+use Rattle.std.specs.Prelude.{ℕ, ◌≡◌, ◌+◌, ◌*◌, ◌≤◌, Bool, MatchResult, Result, None, is_none, []}
+use Rattle.std.specs.Prelude.{◌∷◌, ◌++◌, List, max, min, ◌&&◌, if◌then◌else◌}
 use Rattle.sixel_base.specs.Clip.{clipped_bits, clipped_pixel, is_pixel_inside}
-use Rattle.sixel_base.specs.DrawnHeight.{drawn_height, lowered, set_rows}
-use Rattle.sixel_base.specs.Fault.{Faults}
-use Rattle.sixel_base.specs.History.{History}
-use Rattle.sixel_base.specs.Limits.{side_limit}
-use Rattle.sixel_base.specs.Payload.{first_fault, image_of}
-use Rattle.sixel_base.specs.Place.{span, across, down, width, height}
-use Rattle.sixel_base.specs.Settings.{ratio_of}
-use Rattle.sixel_base.specs.Stroke.{Origin, registers, color, ratio}
-use Rattle.sixel_base.specs.Picture.{covers}
-use Rattle.sixel_canvas.specs.declared.drawing.Canvas.{Ghosts}
-use Rattle.sixel_canvas.specs.Drawn.{Run, run}
-use Rattle.sixel_decoder.specs.PictureView.{picture_report, whole_image}
-use Rattle.sixel_decoder.specs.Report.{raster_size, report_of}
+use Rattle.sixel_base.specs.{DrawnHeight.{drawn_height, lowered, set_rows}, Fault.Faults}
+use Rattle.sixel_base.specs.{History.History, Limits.side_limit, Payload.{first_fault, image_of}}
+use Rattle.sixel_base.specs.{Picture.covers, Place.{span, across, down, width, height}}
+use Rattle.sixel_base.specs.{Settings.ratio_of, Stroke.{Origin, registers, color, ratio}}
+use Rattle.sixel_base.specs.declared.error.SixelError.{SixelError}
+use Rattle.sixel_canvas.specs.{Drawn.{Run, run}, declared.drawing.Canvas.Ghosts}
+use Rattle.sixel_decoder.specs.{Paints.{named_width, runs_of}, PictureView.picture_report}
+use Rattle.sixel_decoder.specs.{PictureView.whole_image, Report.{raster_size, report_of}}
 use Rattle.sixel_decoder.specs.declared.decoded_payload.DecodedPayload.{DecodedPayload}
-use Rattle.sixel_decoder.specs.declared.painter.Painter.{Painter}
-use Rattle.sixel_decoder.specs.inside.DrawnRows.{drawn_rows}
-use Rattle.sixel_decoder.specs.Paints.{named_width, runs_of}
+use Rattle.sixel_decoder.specs.{declared.painter.Painter.Painter, inside.DrawnRows.drawn_rows}
 
 -- The painter has drawn these tokens, none of which has a fault, on its canvas.
 pub record Shows {C : Type 0} {canvas : Ghosts C} (origin : Origin) (painter : Painter C canvas)

@@ -3,27 +3,21 @@
 -- Payload of sixel_base.
 use Rattle.std.specs.Prelude.{ℕ, ◌≤◌, ◌+◌, ◌*◌, ◌≡◌, None, Bool, true, false, nat_lt, MatchResult}
 use Rattle.std.specs.Prelude.{Result, List, ◌∷◌, drop, fold, if◌then◌else◌}
-use Rattle.sixel_base.specs.Status.{status_of}
-use Rattle.sixel_base.specs.declared.status.SixelFeedResult.{SixelFeedResult}
+use Rattle.sixel_base.specs.{Status.status_of, declared.status.SixelFeedResult.SixelFeedResult}
 use Rattle.sixel_base.specs.Bytes.{front, count, first_terminator, is_terminated}
-use Rattle.sixel_base.specs.Clip.{clipped_pixel}
-use Rattle.sixel_base.specs.declared.error.SixelError.{SixelError}
-use Rattle.sixel_decoder.specs.declared.payload_parser.PayloadParser.{PayloadParser}
+use Rattle.sixel_base.specs.{Clip.clipped_pixel, declared.error.SixelError.SixelError, Fault.Faults}
+use Rattle.sixel_base.specs.{inside.Parameters.Keeps, History.{Token, Repeat, Raster, Color}}
+use Rattle.sixel_base.specs.{History.{History, goes_on, read}, Lenient.fault, Stroke.Origin}
+use Rattle.sixel_base.specs.Payload.{closed, growths, payload_fault, payload_image}
+use Rattle.sixel_base.specs.Payload.{payload_registers, payload_wants, tokens}
+use Rattle.sixel_decoder.specs.{PictureView.{picture_report, whole_image}, Report.payload_report}
+use Rattle.sixel_decoder.specs.declared.decoded_payload.DecodedPayload.{DecodedPayload}
 use Rattle.sixel_decoder.specs.declared.payload_parser.OpenCommand.{OpenCommand}
 use Rattle.sixel_decoder.specs.declared.payload_parser.OpenCommand.TheVariants.{Ground, InRepeat}
 use Rattle.sixel_decoder.specs.declared.payload_parser.OpenCommand.TheVariants.{InRaster, InColor}
-use Rattle.sixel_base.specs.Fault.{Faults}
-use Rattle.sixel_base.specs.inside.Parameters.{Keeps}
-use Rattle.sixel_base.specs.History.{Token, Repeat, Raster, Color, History, goes_on, read}
-use Rattle.sixel_base.specs.Lenient.{fault}
-use Rattle.sixel_base.specs.Stroke.{Origin}
-use Rattle.sixel_base.specs.Payload.{closed, growths, payload_fault, payload_image}
-use Rattle.sixel_base.specs.Payload.{payload_registers, payload_wants, tokens}
-use Rattle.sixel_canvas.specs.declared.drawing.Canvas.{Ghosts}
+use Rattle.sixel_decoder.specs.declared.payload_parser.PayloadParser.{PayloadParser}
 use Rattle.sixel_decoder.specs.inside.Lenient.{HasDrawn}
-use Rattle.sixel_decoder.specs.PictureView.{picture_report, whole_image}
-use Rattle.sixel_decoder.specs.Report.{payload_report}
-use Rattle.sixel_decoder.specs.declared.decoded_payload.DecodedPayload.{DecodedPayload}
+use Rattle.sixel_canvas.specs.declared.drawing.Canvas.{Ghosts}
 
 -- the newest token is a command that is open, and the parameters are those of its text so far
 pub record IsOpen {C : Type 0} {canvas : Ghosts C} (command : List ℕ → Token) (origin : Origin)

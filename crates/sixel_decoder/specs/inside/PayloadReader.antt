@@ -1,25 +1,18 @@
 -- What contracts see of a payload reader, and what its parser has read: the bytes so far, up to
 -- their first terminator. An invariant of this library's own: contracts speak of the bytes alone.
-use Rattle.std.specs.Prelude.{◌≡◌, ◌+◌, ◌++◌, nat_lt, true, false, List, ℕ, Option, Some}
-use Rattle.std.specs.Prelude.{None, Result, MatchResult, is_some, is_none}
+use Rattle.std.specs.Prelude.{◌≡◌, ◌+◌, ◌++◌, nat_lt, true, false, List, ℕ, Option, Some, None}
+use Rattle.std.specs.Prelude.{Result, MatchResult, is_some, is_none}
+use Rattle.sixel_base.specs.{Bytes.{front, count, first_terminator}, Decoder.origin_of}
+use Rattle.sixel_base.specs.{Fault.Faults, History.history_of, Payload.{fed_fault, settled}}
+use Rattle.sixel_base.specs.{Payload.{settled_tokens, growths}, Status.status_of, Stroke.Origin}
 use Rattle.sixel_base.specs.declared.error.SixelError.{SixelError}
-use Rattle.sixel_base.specs.Fault.{Faults}
-use Rattle.sixel_base.specs.Bytes.{front, count, first_terminator}
-use Rattle.sixel_base.specs.Payload.{fed_fault, settled, settled_tokens, growths}
-use Rattle.sixel_canvas.specs.declared.drawing.Canvas.{Ghosts}
-use Rattle.sixel_canvas.specs.Drawn.{Work, no_work}
-use Rattle.sixel_base.specs.History.{history_of}
-use Rattle.sixel_base.specs.Stroke.{Origin}
-use Rattle.sixel_base.specs.Decoder.{origin_of}
 use Rattle.sixel_base.specs.declared.status.SixelFeedResult.{SixelFeedResult}
-use Rattle.sixel_base.specs.Status.{status_of}
-use Rattle.sixel_decoder.specs.inside.Painter.{Shows}
-use Rattle.sixel_decoder.specs.inside.PayloadParser.{StandsAfter}
-use Rattle.sixel_decoder.specs.Session.{Session}
-use Rattle.sixel_decoder.specs.declared.painter.Painter.{Painter}
+use Rattle.sixel_canvas.specs.{Drawn.{Work, no_work}, declared.drawing.Canvas.Ghosts}
+use Rattle.sixel_decoder.specs.{Session.Session, declared.painter.Painter.Painter}
 use Rattle.sixel_decoder.specs.declared.payload_parser.PayloadParser.{PayloadParser}
 use Rattle.sixel_decoder.specs.declared.payload_reader.PayloadReader.TheInside.{Inside}
 use Rattle.sixel_decoder.specs.declared.payload_reader.PayloadState.{PayloadState}
+use Rattle.sixel_decoder.specs.{inside.Painter.Shows, inside.PayloadParser.StandsAfter}
 use Rattle.sixel_decoder.specs.declared.payload_reader.PayloadState.TheVariants as states
 
 -- the parser of a payload that was not rejected

@@ -1,8 +1,7 @@
 -- What is wrong with the sizes of a picture. From the limits of sixel_base: a side ends at a
 -- million, and the area at the limit of pixels.
 use Rattle.std.specs.Prelude.{ℕ, ◌*◌, ◌<◌, ◌≤◌, ◌⊎◌}
-use Rattle.sixel_base.specs.Limits.{Limit, side_limit}
-use Rattle.sixel_base.specs.Fault.{IsFault, Malformed, TooLarge}
+use Rattle.sixel_base.specs.{Fault.{IsFault, Malformed, TooLarge}, Limits.{Limit, side_limit}}
 use Rattle.sixel_base.specs.declared.error.SixelError.{SixelError}
 
 -- The error names what is wrong with a picture of these sizes.

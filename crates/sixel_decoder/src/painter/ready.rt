@@ -3,8 +3,7 @@
 //! They are found near the end of a chunk, and lost as rows are released.
 
 ghost use Rattle.std.specs.Prelude.{◌≡◌, ◌<◌, ◌∷◌};
-ghost use Rattle.sixel_base.specs.History.{History, Sixel};
-ghost use Rattle.sixel_base.specs.Stroke.{Origin};
+ghost use Rattle.sixel_base.specs.{History.{History, Sixel}, Stroke.Origin};
 
 use crate::painter::Painter;
 use sixel_canvas::drawing::Canvas;

@@ -1,11 +1,9 @@
 //! How sixels at the front of a chunk are drawn, or ignored if the image is lenient.
 
-ghost use Rattle.std.specs.Prelude.{◌≡◌, ◌<◌, ◌≤◌, ◌+◌, ◌∷◌, [], ℕ, length};
-ghost use Rattle.std.specs.Prelude.{IfOk, IsTrue, OnOk, slice_index};
-ghost use Rattle.sixel_base.specs.History.{History, Repeat};
-ghost use Rattle.sixel_base.specs.Stroke.{Origin};
-ghost use Rattle.sixel_decoder.specs.inside.Lenient.{HasDrawn, ToleratesFront};
-ghost use Rattle.sixel_decoder.specs.inside.Runs.{IsSixelByte};
+ghost use Rattle.std.specs.Prelude.{◌≡◌, ◌<◌, ◌≤◌, ◌+◌, ◌∷◌, [], ℕ, length, IfOk, IsTrue, OnOk};
+ghost use Rattle.std.specs.Prelude.{slice_index};
+ghost use Rattle.sixel_base.specs.{History.{History, Repeat}, Stroke.Origin};
+ghost use Rattle.sixel_decoder.specs.inside.{Lenient.{HasDrawn, ToleratesFront}, Runs.IsSixelByte};
 
 use crate::front_sixels::FrontSixels;
 use crate::painter::Painter;

@@ -1,7 +1,8 @@
 -- The rows of a band: one dot more, one line more.
-use Rattle.sixel_encoder.proofs.Names
-use Names.{◌≡◌, ℕ, ◌+◌, ◌*◌, ◌<◌, Bool, true, List, length, set, arith, nat_tests}
-use Names.{mul_comm, mul-add-lt, same_from_place, get_or-set_same, get_or-set_other, length-set}
+use Rattle.std.proofs.Common.{◌≡◌, ℕ, ◌+◌, ◌*◌, ◌<◌, Bool, true, List, length, set, arith}
+use Rattle.std.proofs.lemmas.{Bool.Decides.nat_tests, List.{get_or-set_same, get_or-set_other}}
+use Rattle.std.proofs.lemmas.{List.length-set, Nat.{mul-add-lt, same_from_place}}
+use Rattle.std.proofs.Math.Nat.{mul_comm}
 use Rattle.sixel_encoder.specs.inside.Grid.{cell, dot_at, AreRows, AreMarks}
 
 -- a sixel's place is within the rows

@@ -1,17 +1,19 @@
 -- The lanes of a column: those that have a value, as the bits of a number, those that are all
 -- equal, and those that equal the lanes of another column.
-use Rattle.sixel_encoder.proofs.Names
-use Names.{None, Some, is_some, not, ◌==◌, ◌≢◌, Bool, List, ap, arith, cond, eqb, false, inl, inr}
-use Names.{length, map, refl, replicate, suc, sym, true, w16, zero, ℕ, ◌%◌, ◌*◌, ◌+◌, ◌<◌, ◌∙◌, ◌∷◌}
-use Names.{◌≡◌, ◌≤◌, get_or, [], both_ways, cases_lt, nat_tests, get_or-map, length-map}
-use Names.{bitmask_splat, get_or-chunk, length-chunk, chunk, mask_l, top, zip2, get_or-zip2}
-use Rattle.sixel_encoder.specs.declared.band_entries.BandEntries.{BandEntries}
-use Rattle.sixel_encoder.specs.{declared.text.IndexedImage.IndexedImage, Compact.transparent_sixel}
-use Rattle.sixel_encoder.specs.Text.{entry_at, is_entry, mask, sixel_of}
-use Rattle.sixel_encoder.specs.inside.Compact.{AreLanes, lane_of}
-use Rattle.sixel_encoder.specs.inside.Indexed.{IsIndexed, drawing_of}
-use Rattle.sixel_encoder.proofs.band_rows.Masks.{hits, hits-past, mask-more, mask-none}
-use Rattle.sixel_encoder.proofs.MaskBits.{mask-low, is_set-mask, mask-small}
+use Rattle.std.proofs.Common.{None, Some, not, ◌≢◌, Bool, List, ap, arith, cond, eqb, false, inl}
+use Rattle.std.proofs.Common.{inr, length, map, refl, replicate, suc, sym, true, w16, zero, ℕ, ◌%◌}
+use Rattle.std.proofs.Common.{◌*◌, ◌+◌, ◌<◌, ◌∙◌, ◌∷◌, ◌≡◌, ◌≤◌, get_or, []}
+use Rattle.std.proofs.{lemmas.Bool.{both_ways, cases_lt}, lemmas.Bool.Decides.nat_tests}
+use Rattle.std.proofs.{lemmas.List.{get_or-map, length-map}, lemmas.Simd.bitmask_splat}
+use Rattle.std.proofs.lemmas.Simd.{get_or-chunk, length-chunk, get_or-zip2}
+use Rattle.std.specs.Prelude.{is_some, ◌==◌}
+use lib.Lanes.{chunk, mask_l, top, zip2}
+use Rattle.sixel_encoder.specs.{Compact.transparent_sixel, Text.{entry_at, is_entry, mask}}
+use Rattle.sixel_encoder.specs.{Text.sixel_of, declared.band_entries.BandEntries.BandEntries}
+use Rattle.sixel_encoder.specs.{declared.text.IndexedImage.IndexedImage, inside.Compact.AreLanes}
+use Rattle.sixel_encoder.specs.{inside.Compact.lane_of, inside.Indexed.{IsIndexed, drawing_of}}
+use Rattle.sixel_encoder.proofs.{MaskBits.{mask-low, is_set-mask, mask-small}, band_rows.Masks.hits}
+use Rattle.sixel_encoder.proofs.band_rows.Masks.{hits-past, mask-more, mask-none}
 use Rattle.sixel_base.specs.Picture.{is_set}
 
 -- ---- the mask of a list of answers

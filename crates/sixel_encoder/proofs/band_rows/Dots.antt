@@ -1,8 +1,10 @@
 -- When an entry's row has a dot, and what its text is then.
-use Rattle.sixel_encoder.proofs.Names.{◌≡◌, ℕ, ◌+◌, ◌<◌, true, false, not, List, ◌++◌, ap, sym, ◌∙◌}
-use Rattle.sixel_encoder.proofs.Names.{arith, [], ◌==◌, nat_tests, append-nil, append_assoc}
-use Rattle.sixel_encoder.proofs.Names.{list_any_at, list_any_none, fill_by_all}
-use Rattle.sixel_encoder.proofs.Names.{length-map-range_with_len, get_or-map-range_with_len}
+use Rattle.std.proofs.Common.{◌≡◌, ℕ, ◌+◌, ◌<◌, true, false, not, List, ◌++◌, ap, sym, ◌∙◌, arith}
+use Rattle.std.proofs.Common.{[], append_assoc}
+use Rattle.std.specs.Prelude.{◌==◌}
+use Rattle.std.proofs.lemmas.{Bool.Decides.nat_tests, List.append-nil, List.Folds.list_any_at}
+use Rattle.std.proofs.lemmas.{List.Folds.list_any_none, List.FromFn.fill_by_all}
+use Rattle.std.proofs.lemmas.List.FromFn.{length-map-range_with_len, get_or-map-range_with_len}
 use Rattle.sixel_base.specs.Picture.{joined}
 use Rattle.sixel_encoder.specs.Text.{Drawing, has_dot, sixel_of, row_of, entry_text}
 use Rattle.sixel_encoder.specs.inside.Grid.{cell, grid_row, grid_text}

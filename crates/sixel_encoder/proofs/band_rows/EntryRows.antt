@@ -1,11 +1,11 @@
 -- Rows of one entry: their length and bits, where a row sets no pixel, and that they set the pixels
 -- that have the entry.
-use Rattle.sixel_encoder.proofs.Names.{◌≡◌, ℕ, ◌+◌, ◌≤◌, false, List, length, arith, nat_tests}
-use Rattle.sixel_encoder.proofs.Names.{get_or_past, range_with_len, All, Some, true, ◌*◌, ◌<◌}
-use Rattle.sixel_encoder.proofs.Names.{both_ways, All-map, get_or-map-range_with_len}
-use Rattle.sixel_encoder.proofs.Names.{length-map-range_with_len, common_steps}
-use Rattle.sixel_encoder.specs.Marks.{is_lit}
-use Rattle.sixel_encoder.specs.Text.{Drawing, entry_at, has_dot, row_of, sixel_of}
+use Rattle.std.proofs.Common.{◌≡◌, ℕ, ◌+◌, ◌≤◌, false, List, length, arith, Some, true, ◌*◌, ◌<◌}
+use Rattle.std.proofs.lemmas.{Bool.both_ways, Bool.Decides.nat_tests, Grind.common_steps}
+use Rattle.std.proofs.lemmas.{List.get_or_past, List.Elements.All-map}
+use Rattle.std.proofs.lemmas.List.FromFn.{get_or-map-range_with_len, length-map-range_with_len}
+use Rattle.std.specs.{List.range_with_len, Prelude.All}
+use Rattle.sixel_encoder.specs.{Marks.is_lit, Text.{Drawing, entry_at, has_dot, row_of, sixel_of}}
 use Rattle.sixel_encoder.proofs.MaskBits.{is_set-mask, mask-small}
 
 -- past its end a row sets nothing

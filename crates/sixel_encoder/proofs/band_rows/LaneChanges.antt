@@ -1,12 +1,11 @@
 -- Lanes that differ from those of the column before: the rows of their entries change there.
-use Rattle.sixel_encoder.proofs.Names.{◌≢◌, arith, length, true, ℕ, ◌*◌, ◌+◌, ◌-◌, ◌<◌, ◌≡◌}
-use Rattle.sixel_encoder.proofs.Names.{inl, inr, cases_Bool, nat_tests}
-use Rattle.sixel_encoder.specs.declared.band_entries.BandEntries.{BandEntries}
-use Rattle.sixel_encoder.specs.Text.{entry_at, has_dot, is_entry, row_of, sixel_of}
-use Rattle.sixel_encoder.specs.{inside.Bound.IsChange, inside.Indexed.drawing_of}
-use Rattle.sixel_encoder.specs.inside.Compact.{AreLanes, lane_of}
-use Rattle.sixel_encoder.proofs.{band_rows.ColumnLanes.opaque-lane, band_rows.EntryRows.no_dot-own}
-use Rattle.sixel_encoder.proofs.{band_rows.Masks.hits-past, MaskBits.is_set-mask}
+use Rattle.std.proofs.Common.{◌≢◌, arith, length, true, ℕ, ◌*◌, ◌+◌, ◌-◌, ◌<◌, ◌≡◌, inl, inr}
+use Rattle.std.proofs.{lemmas.Bool.cases_Bool, lemmas.Bool.Decides.nat_tests}
+use Rattle.sixel_encoder.specs.{declared.band_entries.BandEntries.BandEntries, Text.entry_at}
+use Rattle.sixel_encoder.specs.{Text.{has_dot, is_entry, row_of, sixel_of}, inside.Bound.IsChange}
+use Rattle.sixel_encoder.specs.{inside.Indexed.drawing_of, inside.Compact.{AreLanes, lane_of}}
+use Rattle.sixel_encoder.proofs.{MaskBits.is_set-mask, band_rows.ColumnLanes.opaque-lane}
+use Rattle.sixel_encoder.proofs.{band_rows.EntryRows.no_dot-own, band_rows.Masks.hits-past}
 
 -- what a pixel shows of the row of its entry, if the pixel in another column has another lane
 record IsOther (entries : BandEntries) (here there lane : ℕ) : Type 0 where

@@ -1,15 +1,17 @@
 -- The dots of a line in the rows of some entries: what a pixel adds there, a step past those that
 -- add none, sixteen of one entry at once, and one part after another.
-use Rattle.sixel_encoder.proofs.Names
-use Names.{get_or-put_chunk_below, get_or-put_chunk_above, get_or-put_chunk_at, get_or-set_other, ℕ}
-use Names.{same_from_place, get_or-set_same, length-chunk, get_or-chunk, get_or-zip2, length-set}
-use Names.{nat_tests, replicate, put_chunk, cases_eq, cases_lt, nat_lt, get_or, length, arith, cond}
-use Names.{chunk, List, Bool, true, zip2, ◌≡◌, ◌≢◌, ◌+◌, ◌-◌, ◌*◌, ◌<◌, ◌≤◌, set, ◌%◌, inl, inr}
-use Rattle.sixel_encoder.specs.inside.Indexed.{entry_of}
+use Rattle.std.proofs.lemmas.{Bool.{cases_eq, cases_lt}, Bool.Decides.nat_tests}
+use Rattle.std.proofs.lemmas.List.{get_or-set_other, get_or-set_same, length-set}
+use Rattle.std.proofs.lemmas.{Nat.same_from_place, Simd.get_or-put_chunk_below}
+use Rattle.std.proofs.lemmas.Simd.{get_or-put_chunk_above, get_or-put_chunk_at, length-chunk}
+use Rattle.std.proofs.lemmas.Simd.{get_or-chunk, get_or-zip2, get_or-replicate}
+use Rattle.std.proofs.Common.{ℕ, replicate, nat_lt, get_or, length, arith, cond, List, Bool, true}
+use Rattle.std.proofs.Common.{◌≡◌, ◌≢◌, ◌+◌, ◌-◌, ◌*◌, ◌<◌, ◌≤◌, set, ◌%◌, inl, inr}
+use lib.Lanes.{put_chunk, chunk, zip2}
 use Rattle.sixel_encoder.specs.inside.Grid.{cell, dot_at, pixel_bit, between, AreMarks}
+use Rattle.sixel_encoder.specs.inside.Indexed.{entry_of}
 use Rattle.sixel_encoder.proofs.band_rows.Cells.{cell-dot}
 use Rattle.sixel_palette.proofs.mapped_images.KeptEntries.{entry_of-opaque}
-use Rattle.std.proofs.lemmas.Simd.{get_or-replicate}
 
 -- a pixel of another entry adds nothing
 pub pixel_bit-other : (pixels indices : List ℕ) (weight entry pixel : ℕ)

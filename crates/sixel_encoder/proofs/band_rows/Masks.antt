@@ -1,10 +1,11 @@
 -- The sixel of a band's column, one line more.
-use Rattle.sixel_encoder.proofs.Names
-use Names.{◌≡◌, ℕ, suc, ◌+◌, ◌*◌, ◌^◌, ◌<◌, ◌≤◌, Bool, false, cond, length, refl, ap, arith, None}
-use Names.{nat_tests, mul_comm, pow-le-pow_right, mul-add-lt, mul-le, get_or_past}
-use Names.{length-map-range_with_len, get_or-map-range_with_len, common_steps}
-use Rattle.sixel_encoder.specs.{declared.text.IndexedImage.IndexedImage, inside.Grid.pixel_bit}
+use Rattle.std.proofs.Common.{◌≡◌, ℕ, suc, ◌+◌, ◌*◌, ◌^◌, ◌<◌, ◌≤◌, Bool, false, cond, length, refl}
+use Rattle.std.proofs.{Common.{ap, arith, None}, lemmas.Bool.Decides.nat_tests, Math.Nat.mul_comm}
+use Rattle.std.proofs.{Math.Nat.pow-le-pow_right, lemmas.Nat.{mul-add-lt, mul-le}}
+use Rattle.std.proofs.{lemmas.List.get_or_past, lemmas.List.FromFn.length-map-range_with_len}
+use Rattle.std.proofs.{lemmas.List.FromFn.get_or-map-range_with_len, lemmas.Grind.common_steps}
 use Rattle.sixel_encoder.specs.Text.{entry_at, is_entry, mask, sixel_of}
+use Rattle.sixel_encoder.specs.{declared.text.IndexedImage.IndexedImage, inside.Grid.pixel_bit}
 use Rattle.sixel_encoder.specs.inside.Indexed.{entry_of, entries_of, drawing_of, IsIndexed}
 use Rattle.sixel_encoder.proofs.MaskBits.{mask-nothing}
 

@@ -1,19 +1,21 @@
 -- Writing the rows of a band, entry by entry and by parts of the palette: what is written, cleared
 -- and still to come, and that nothing comes past the last entry.
-use Rattle.sixel_encoder.proofs.Names.{◌≡◌, ℕ, ◌+◌, ◌*◌, ◌<◌, ◌≤◌, not, false, cond, List, ◌++◌}
-use Rattle.sixel_encoder.proofs.Names.{length, get_or, append_assoc, ap, sym, ◌∙◌, arith, [], ◌==◌}
-use Rattle.sixel_encoder.proofs.Names.{All-from_get_or, list_any_none, length-map-range_with_len}
-use Rattle.sixel_encoder.proofs.Names.{get_or-map-range_with_len, ◌≢◌, Bool, true, set, false≢true}
-use Rattle.sixel_encoder.proofs.Names.{get_or-set_same, get_or-set_other, length-set, nat_tests}
+use Rattle.std.proofs.Common.{◌≡◌, ℕ, ◌+◌, ◌*◌, ◌<◌, ◌≤◌, not, false, cond, List, ◌++◌, length}
+use Rattle.std.proofs.Common.{get_or, append_assoc, ap, sym, ◌∙◌, arith, [], ◌≢◌, Bool, true, set}
+use Rattle.std.specs.Prelude.{◌==◌}
+use Rattle.std.proofs.lemmas.{Bool.false≢true, Bool.Decides.nat_tests, List.get_or-set_same}
+use Rattle.std.proofs.lemmas.{List.{get_or-set_other, length-set}, List.Elements.All-from_get_or}
+use Rattle.std.proofs.lemmas.{List.Folds.list_any_none, List.FromFn.length-map-range_with_len}
+use Rattle.std.proofs.lemmas.List.FromFn.{get_or-map-range_with_len}
 use Rattle.sixel_base.specs.Picture.{joined}
 use Rattle.sixel_encoder.specs.declared.text.IndexedImage.{IndexedImage}
 use Rattle.sixel_encoder.specs.Text.{has_dot, row_text, sixel_of, row_of, entry_text}
+use Rattle.sixel_encoder.specs.inside.Grid.{cell, grid_row, grid_text, AreMarks, AreClear}
 use Rattle.sixel_encoder.specs.inside.Indexed.{IsIndexed, drawing_of}
 use Rattle.sixel_encoder.proofs.band_rows.Dots.{is_dot-zero, has_dot-some, has_dot-none}
-use Rattle.sixel_encoder.proofs.band_rows.Dots.{appended-more, appended-none}
+use Rattle.sixel_encoder.proofs.band_rows.{Dots.{appended-more, appended-none}, Masks.sixel-past}
+use Rattle.sixel_encoder.proofs.band_rows.RowParts.{grid_row-same}
 use Rattle.sixel_encoder.proofs.JoinedLists.{joined-add, joined-past}
-use Rattle.sixel_encoder.proofs.{band_rows.Masks.sixel-past, band_rows.RowParts.grid_row-same}
-use Rattle.sixel_encoder.specs.inside.Grid.{cell, grid_row, grid_text, AreMarks, AreClear}
 
 entry_text-past : (image : IndexedImage) (band entry : ℕ) → IsIndexed image
     → length image.colors.now ≤ entry → entry_text (drawing_of image) band entry ≡ []

@@ -1,9 +1,11 @@
 -- An entry's row as a part of the rows: what it has, and what a write to it leaves of the others.
-use Rattle.sixel_encoder.proofs.Names.{◌≡◌, ◌≢◌, ℕ, ◌+◌, ◌*◌, ◌<◌, ◌≤◌, List, length, get_or, take}
-use Rattle.sixel_encoder.proofs.Names.{drop, ◌∙◌, inl, inr, arith, All, put_mid, cases_lt, mul-le}
-use Rattle.sixel_encoder.proofs.Names.{places, get_or-take, get_or-drop, length-take-le}
-use Rattle.sixel_encoder.proofs.Names.{length-drop, fill_by_all, length-map-range_with_len}
-use Rattle.sixel_encoder.proofs.Names.{get_or-map-range_with_len, nat_tests}
+use Rattle.std.proofs.Common.{◌≡◌, ◌≢◌, ℕ, ◌+◌, ◌*◌, ◌<◌, ◌≤◌, List, length, get_or, take, drop}
+use Rattle.std.proofs.{Common.{◌∙◌, inl, inr, arith}, lemmas.Bool.cases_lt, lemmas.Nat.mul-le}
+use Rattle.std.proofs.lemmas.List.{places, get_or-take, get_or-drop, length-take-le, length-drop}
+use Rattle.std.proofs.lemmas.List.FromFn.{fill_by_all, length-map-range_with_len}
+use Rattle.std.proofs.{lemmas.List.FromFn.get_or-map-range_with_len, lemmas.Bool.Decides.nat_tests}
+use Rattle.std.specs.Prelude.{All}
+use borrow.Rule.Slice.PartMut.{put_mid}
 use Rattle.sixel_encoder.specs.inside.Grid.{cell, grid_row}
 
 -- a part is as long as it is cut

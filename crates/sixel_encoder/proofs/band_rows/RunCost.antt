@@ -1,8 +1,10 @@
 -- How many bytes a run of equal sixels takes, and that cutting it in two saves none.
-use Rattle.sixel_encoder.proofs.Names.{◌≡◌, ℕ, ◌+◌, ◌*◌, ◌/◌, ◌%◌, ◌^◌, ◌<◌, ◌≤◌, nat_lt, List, ◌∷◌}
-use Rattle.sixel_encoder.proofs.Names.{◌++◌, length, replicate, refl, ap, ◌∙◌, arith, length-append}
-use Rattle.sixel_encoder.proofs.Names.{zero, suc, [], if◌then◌else◌, decimal, cases_lt, nat_tests}
-use Rattle.sixel_encoder.proofs.Names.{decimal_digit, decimal_step, append-nil, flat_map-append}
+use Rattle.std.proofs.Common.{◌≡◌, ℕ, ◌+◌, ◌*◌, ◌/◌, ◌%◌, ◌^◌, ◌<◌, ◌≤◌, nat_lt, List, ◌∷◌, ◌++◌}
+use Rattle.std.proofs.Common.{length, replicate, refl, ap, ◌∙◌, arith, length-append, zero, suc, []}
+use Rattle.std.proofs.Common.{decimal}
+use Rattle.std.specs.Prelude.{if◌then◌else◌}
+use Rattle.std.proofs.lemmas.{Bool.cases_lt, Bool.Decides.nat_tests, Fmt.decimal_digit}
+use Rattle.std.proofs.lemmas.{Fmt.decimal_step, Grind.flat_map-append, List.append-nil}
 use Rattle.sixel_base.specs.Limits.{repeat_limit}
 use Rattle.sixel_encoder.specs.RunTokens.{RunToken, Many, spelling, written, cost, run_tokens}
 

@@ -1,10 +1,13 @@
 -- No list of tokens that spells a row takes fewer bytes than the row's own tokens, and what these
 -- are where equal sixels follow.
-use Rattle.sixel_encoder.proofs.Names
-use Names.{◌≡◌, ◌≢◌, ℕ, zero, suc, ◌+◌, ◌*◌, ◌<◌, ◌≤◌, List, ◌∷◌, ◌++◌, length, replicate, refl, ap}
-use Names.{sym, ◌∙◌, arith, length-append, append_assoc, ◌/◌, ◌%◌, [], flat_map, All, cases_eq}
-use Names.{nat_tests, append-nil, replicate-append-replicate, replicate_more, flat_map-append}
-use Names.{All-head, All-tail, All-append, common_steps, get_or, drop, drop-cons}
+use Rattle.std.proofs.Common.{◌≡◌, ◌≢◌, ℕ, zero, suc, ◌+◌, ◌*◌, ◌<◌, ◌≤◌, List, ◌∷◌, ◌++◌, length}
+use Rattle.std.proofs.Common.{replicate, refl, ap, sym, ◌∙◌, arith, length-append, append_assoc}
+use Rattle.std.proofs.Common.{◌/◌, ◌%◌, [], get_or, drop}
+use Rattle.std.specs.Prelude.{flat_map, All}
+use Rattle.std.proofs.lemmas.{Bool.cases_eq, Bool.Decides.nat_tests, Grind.flat_map-append}
+use Rattle.std.proofs.lemmas.{Grind.common_steps, List.{append-nil, replicate-append-replicate}}
+use Rattle.std.proofs.lemmas.{List.replicate_more, List.Elements.{All-head, All-tail, All-append}}
+use Rattle.std.proofs.Math.Seq.{drop-cons}
 use Rattle.sixel_base.specs.Limits.{repeat_limit}
 use Rattle.sixel_encoder.specs.RunTokens.{RunToken, One, Many, sixels, spelling, written, cost}
 use Rattle.sixel_encoder.specs.RunTokens.{IsRunToken, Spells, IsShortest, rest_tokens, run_tokens}

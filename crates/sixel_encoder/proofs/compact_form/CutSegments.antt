@@ -1,7 +1,7 @@
 -- The segments that a band is cut into, pixel by pixel: those of one entry are a gap apart.
-use Rattle.sixel_encoder.proofs.Names.{Some, List, arith, refl, ℕ, ◌+◌, ◌<◌, ◌∙◌, ◌∷◌, ◌≡◌, ◌≤◌, []}
-use Rattle.sixel_encoder.proofs.Names.{nat_tests}
-use Rattle.sixel_encoder.specs.{declared.segments.Segment.Segment, Segments.with_pixel}
+use Rattle.std.proofs.Common.{Some, List, arith, refl, ℕ, ◌+◌, ◌<◌, ◌∙◌, ◌∷◌, ◌≡◌, ◌≤◌, []}
+use Rattle.std.proofs.lemmas.Bool.Decides.{nat_tests}
+use Rattle.sixel_encoder.specs.{Segments.with_pixel, declared.segments.Segment.Segment}
 use Rattle.sixel_encoder.proofs.compact_form.SegmentTallies.{is_of, tally}
 
 -- ---- segments that are cut at gaps

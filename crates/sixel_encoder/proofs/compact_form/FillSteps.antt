@@ -1,14 +1,18 @@
 -- The sixels of a greedy fill, one column more of it, and the blocked pixels after a segment.
-use Rattle.sixel_encoder.proofs.Names
-use Names.{get_or-map-range_with_len, length-map-range_with_len, get_or_append_left, range_with_len}
-use Names.{same_number_lists, get_or-append-add, get_or-set_other, length-replicate, length-append}
-use Names.{get_or-set_at, All-replicate, common_steps, slice_index, bit_at-zero, length-set, bit_or}
-use Names.{All-append, bit_at_and, replicate, nat_tests, bit_at-lt, bit_at_or, take_all, cases_eq}
-use Names.{bit_and, length, bit_at, arith, false, or_lt, ◌==◌, Bool, List, cond, refl, take, true}
-use Names.{◌++◌, zero, All, set, suc, ◌+◌, ◌-◌, ◌<◌, ◌∷◌, ◌≡◌, ◌≢◌, ◌≤◌, ◌∙◌, inl, inr, ap, [], ℕ}
-use Rattle.std.proofs.lemmas.List.{get_or-replicate}
-use Rattle.sixel_encoder.specs.{declared.segments.Segment.Segment, Text.Drawing, Text.sixel_of}
-use Rattle.sixel_encoder.specs.Compact.{blocked_after, fill_after, union}
+use Rattle.std.proofs.lemmas.List.FromFn.{get_or-map-range_with_len, length-map-range_with_len}
+use Rattle.std.proofs.lemmas.List.{get_or_append_left, get_or-append-add, get_or-set_other}
+use Rattle.std.proofs.lemmas.List.{length-replicate, length-set, take_all, get_or-replicate}
+use Rattle.std.proofs.lemmas.Grind.{same_number_lists, get_or-set_at, common_steps}
+use Rattle.std.proofs.Common.{length-append, slice_index, replicate, length, arith, false, Bool}
+use Rattle.std.proofs.Common.{List, cond, refl, take, true, ◌++◌, zero, set, suc, ◌+◌, ◌-◌, ◌<◌}
+use Rattle.std.proofs.Common.{◌∷◌, ◌≡◌, ◌≢◌, ◌≤◌, ◌∙◌, inl, inr, ap, [], ℕ}
+use Rattle.std.proofs.lemmas.List.Elements.{All-replicate, All-append}
+use Rattle.std.proofs.lemmas.Nat.Bits.{bit_at-zero, bit_at_and, bit_at-lt, bit_at_or}
+use Rattle.std.proofs.{lemmas.Bool.Decides.nat_tests, lemmas.Bool.cases_eq, lemmas.Nat.or_lt}
+use Rattle.std.specs.{Int.bit_at, Int.Bits.{bit_or, bit_and}, List.range_with_len, Prelude.{◌==◌}}
+use Rattle.std.specs.Prelude.{All}
+use Rattle.sixel_encoder.specs.{Compact.{blocked_after, fill_after, union}, Text.Drawing}
+use Rattle.sixel_encoder.specs.{Text.sixel_of, declared.segments.Segment.Segment}
 
 -- each bit of a is one of b
 abbrev pub IsPart : ℕ → ℕ → Type 0

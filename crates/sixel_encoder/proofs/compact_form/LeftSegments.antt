@@ -1,15 +1,17 @@
 -- The segments of a band that are left to draw, and the pixels that may not be covered.
-use Rattle.sixel_encoder.proofs.Names
-use Names.{get_or-map-range_with_len, length-map-range_with_len, get_or-range_with_len, slice_index}
-use Names.{length-range_with_len, range_with_len, bit_at_above, bit_at-zero, nat_tests, bit_at-lt}
-use Names.{bit_at_or, cases_lt, bit_at, nat_le, nat_lt, length, arith, None, Some, ◌&&◌, ◌==◌, Bool}
-use Names.{List, zero, true, not, inl, inr, suc, ◌*◌, ◌+◌, ◌-◌, ◌<◌, ◌∙◌, ◌∷◌, ◌≡◌, ◌≤◌, ℕ}
-use Rattle.sixel_encoder.specs.{declared.segments.Segment.Segment, inside.Compact.IsSegment}
+use Rattle.std.proofs.Common.{slice_index, nat_lt, length, arith, None, Some, Bool, List, zero}
+use Rattle.std.proofs.Common.{true, not, inl, inr, suc, ◌*◌, ◌+◌, ◌-◌, ◌<◌, ◌∙◌, ◌∷◌, ◌≡◌, ◌≤◌, ℕ}
+use Rattle.std.proofs.{lemmas.Bool.cases_lt, lemmas.Bool.Decides.nat_tests}
+use Rattle.std.proofs.lemmas.List.FromFn.{get_or-map-range_with_len, length-map-range_with_len}
+use Rattle.std.proofs.lemmas.List.FromFn.{get_or-range_with_len, length-range_with_len}
+use Rattle.std.proofs.lemmas.Nat.Bits.{bit_at_above, bit_at-zero, bit_at-lt, bit_at_or}
+use Rattle.std.specs.{Int.bit_at, List.range_with_len, Prelude.{nat_le, ◌&&◌, ◌==◌}}
 use Rattle.sixel_encoder.specs.Compact.{blocked_after, blocked_sixel, segment_row, union}
 use Rattle.sixel_encoder.specs.Text.{Drawing, entry_at, sixel_of}
+use Rattle.sixel_encoder.specs.{declared.segments.Segment.Segment, inside.Compact.IsSegment}
+use Rattle.sixel_encoder.proofs.MaskBits.{bit_at-mask, mask-small}
 use Rattle.sixel_encoder.proofs.compact_form.FillSteps.{AreApart, IsFill-fill, IsPart, IsFilled}
 use Rattle.sixel_encoder.proofs.compact_form.SegmentTallies.{is_of, one, tally}
-use Rattle.sixel_encoder.proofs.MaskBits.{bit_at-mask, mask-small}
 
 -- ---- what is left
 

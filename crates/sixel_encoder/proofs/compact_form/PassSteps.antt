@@ -1,11 +1,11 @@
 -- One pixel more of a band, and one segment more of a pass.
-use Rattle.sixel_encoder.proofs.Names.{None, Option, Some, slice_index_or, ◌/◌, ◌%◌, List, ap}
-use Rattle.sixel_encoder.proofs.Names.{append_assoc, arith, length, refl, replicate, suc, zero, ℕ}
-use Rattle.sixel_encoder.proofs.Names.{◌*◌, ◌++◌, ◌+◌, ◌<◌, ◌-◌, ◌∷◌, ◌≡◌, [], nat_tests}
-use Rattle.sixel_encoder.proofs.Names.{append-nil, cases_Bool}
-use Rattle.sixel_encoder.specs.{declared.segments.Segment.Segment, Text.Drawing, Text.entry_at}
+use Rattle.std.proofs.Common.{None, Some, ◌/◌, ◌%◌, List, ap, append_assoc, arith, length, refl}
+use Rattle.std.proofs.Common.{replicate, suc, zero, ℕ, ◌*◌, ◌++◌, ◌+◌, ◌<◌, ◌-◌, ◌∷◌, ◌≡◌, []}
+use Rattle.std.specs.Prelude.{Option, slice_index_or}
+use Rattle.std.proofs.lemmas.{Bool.cases_Bool, Bool.Decides.nat_tests, List.append-nil}
+use Rattle.sixel_encoder.specs.declared.segments.Segment.{Segment}
 use Rattle.sixel_encoder.specs.Segments.{after_pass, gap_of, in_pass, passes, segments_up_to}
-use Rattle.sixel_encoder.specs.Segments.{with_pixel, with_place}
+use Rattle.sixel_encoder.specs.{Segments.{with_pixel, with_place}, Text.{Drawing, entry_at}}
 use Rattle.sixel_encoder.proofs.compact_form.SegmentSteps.{is_near, near-own}
 
 -- ---- the segments of a band

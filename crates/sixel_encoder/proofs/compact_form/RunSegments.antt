@@ -1,10 +1,11 @@
 -- The segments of a band after a run of columns whose pixels all have one entry.
-use Rattle.sixel_encoder.proofs.Names.{None, Option, Some, slice_index_or, List, ap, arith, false}
-use Rattle.sixel_encoder.proofs.Names.{length, refl, set, [], suc, sym, true, zero, ℕ, ◌++◌, ◌+◌}
-use Rattle.sixel_encoder.proofs.Names.{◌-◌, ◌*◌, ◌<◌, ◌≤◌, ◌≡◌, ◌∙◌, ◌∷◌, nat_tests, cases_Bool}
-use Rattle.sixel_encoder.specs.{declared.segments.Segment.Segment, Text.Drawing, Text.entry_at}
+use Rattle.std.proofs.Common.{None, Some, List, ap, arith, false, length, refl, set, [], suc, sym}
+use Rattle.std.proofs.Common.{true, zero, ℕ, ◌++◌, ◌+◌, ◌-◌, ◌*◌, ◌<◌, ◌≤◌, ◌≡◌, ◌∙◌, ◌∷◌}
+use Rattle.std.proofs.{lemmas.Bool.cases_Bool, lemmas.Bool.Decides.nat_tests}
+use Rattle.std.specs.Prelude.{Option, slice_index_or}
+use Rattle.sixel_encoder.specs.{Segments.{gap_of, segments_up_to, with_pixel}, Text.Drawing}
+use Rattle.sixel_encoder.specs.{Text.entry_at, declared.segments.Segment.Segment}
 use Rattle.sixel_encoder.specs.inside.Compact.{nth, with_run, AreLast}
-use Rattle.sixel_encoder.specs.Segments.{gap_of, segments_up_to, with_pixel}
 use Rattle.sixel_encoder.proofs.compact_form.PassSteps.{segment-pixel, segment-skip}
 use Rattle.sixel_encoder.proofs.compact_form.PassSteps.{segment-uniform}
 use Rattle.sixel_encoder.proofs.compact_form.SegmentSteps.{AreLast-later, AreLast-near, AreLast-new}

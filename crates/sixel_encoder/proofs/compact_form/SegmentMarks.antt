@@ -1,19 +1,21 @@
 -- The marks of a segment draw its pixels and cover none that may not be covered.
-use Rattle.sixel_encoder.proofs.Names.{bit_at, None, Option, Some, nat_le, slice_index, Bool, List}
-use Rattle.sixel_encoder.proofs.Names.{arith, cond, false, length, refl, true, ℕ, ◌*◌, ◌+◌, ◌-◌}
-use Rattle.sixel_encoder.proofs.Names.{◌<◌, ◌∙◌, ◌∷◌, ◌≡◌, ◌≤◌, [], cases_eq, nat_tests, bit_at-lt}
-use Rattle.sixel_encoder.specs.{declared.segments.Segment.Segment, Compact.segments_marks}
-use Rattle.sixel_encoder.specs.{Compact.start_column, RegisterOrder.number_of, Text.Drawing}
-use Rattle.sixel_encoder.specs.{Text.bands, Text.entry_at, Trip.is_used, inside.Compact.IsSegment}
-use Rattle.sixel_encoder.specs.Compact.{to_register, to_segment, Drawn, blocked_after, drawn_after}
-use Rattle.sixel_encoder.specs.Compact.{drawn_by, is_selected, segment_marks, segment_row}
-use Rattle.sixel_encoder.specs.Marks.{Back, Draw, Pen, Pick, is_lit}
-use Rattle.sixel_encoder.proofs.band_rows.EntryRows.{IsInBand, is_lit-past}
+use Rattle.std.proofs.Common.{None, Some, slice_index, Bool, List, arith, cond, false, length, refl}
+use Rattle.std.proofs.Common.{true, ℕ, ◌*◌, ◌+◌, ◌-◌, ◌<◌, ◌∙◌, ◌∷◌, ◌≡◌, ◌≤◌, []}
+use Rattle.std.{proofs.lemmas.Bool.cases_eq, proofs.lemmas.Bool.Decides.nat_tests}
+use Rattle.std.{proofs.lemmas.Nat.Bits.bit_at-lt, specs.Int.bit_at, specs.Prelude.{Option, nat_le}}
+use Rattle.sixel_encoder.{specs.declared.segments.Segment.Segment, specs.Compact.segments_marks}
+use Rattle.sixel_encoder.specs.Compact.{start_column, to_register, to_segment, Drawn, blocked_after}
+use Rattle.sixel_encoder.specs.Compact.{drawn_after, drawn_by, is_selected, segment_marks}
+use Rattle.sixel_encoder.{specs.Compact.segment_row, specs.RegisterOrder.number_of}
+use Rattle.sixel_encoder.{specs.Text.{Drawing, bands, entry_at}, specs.Trip.is_used}
+use Rattle.sixel_encoder.{specs.inside.Compact.IsSegment, specs.Marks.{Back, Draw, Pen, Pick}}
+use Rattle.sixel_encoder.{specs.Marks.is_lit, proofs.band_rows.EntryRows.{IsInBand, is_lit-past}}
 use Rattle.sixel_encoder.proofs.compact_form.LeftSegments.{AreLeft, AreLeft-after, IsSegmentRow}
 use Rattle.sixel_encoder.proofs.compact_form.LeftSegments.{IsSegmentRow-left, first-left, own-bit}
 use Rattle.sixel_encoder.proofs.round_trip.MarkSteps.{Leads, Leads-append, Places}
-use Rattle.sixel_encoder.proofs.compact_form.{RegisterNumbers.AreNumbers, SegmentTallies.is_of}
-use Rattle.sixel_encoder.proofs.{compact_form.FillSteps.All-fill, MaskBits.mask-small}
+use Rattle.sixel_encoder.proofs.compact_form.RegisterNumbers.{AreNumbers}
+use Rattle.sixel_encoder.proofs.compact_form.SegmentTallies.{is_of}
+use Rattle.sixel_encoder.{proofs.compact_form.FillSteps.All-fill, proofs.MaskBits.mask-small}
 
 -- ---- within a band
 

@@ -1,18 +1,20 @@
 -- The segments that a compact text draws have each pixel of the drawing once.
-use Rattle.sixel_encoder.proofs.Names
-use Names.{bit_at, None, Option, Some, slice_index, slice_index_or, ◌%◌, ◌/◌, List}
-use Names.{arith, false, inl, inr, length, not, refl, suc, true, zero, ℕ, ◌*◌, ◌+◌, ◌<◌, ◌∷◌, ◌≡◌}
-use Names.{◌≤◌, [], cases_eq, nat_tests, get_or-map-range_with_len, length-map-range_with_len}
-use Rattle.sixel_encoder.specs.{declared.segments.Segment.Segment, Compact.transparent_sixel}
-use Rattle.sixel_encoder.specs.{Segments.with_place, Text.Drawing, Text.entry_at, Trip.is_used}
-use Rattle.sixel_encoder.specs.Compact.{band_register, register_after, transparent_row}
-use Rattle.sixel_encoder.specs.Segments.{drawn_segments, gap_of, segments_up_to, with_pixel}
+use Rattle.std.specs.{Int.bit_at, Prelude.{Option, slice_index_or}}
+use Rattle.std.proofs.Common.{None, Some, slice_index, ◌%◌, ◌/◌, List, arith, false, inl, inr}
+use Rattle.std.proofs.Common.{length, not, refl, suc, true, zero, ℕ, ◌*◌, ◌+◌, ◌<◌, ◌∷◌, ◌≡◌, ◌≤◌}
+use Rattle.std.proofs.{Common.{[]}, lemmas.Bool.cases_eq, lemmas.Bool.Decides.nat_tests}
+use Rattle.std.proofs.lemmas.List.FromFn.{get_or-map-range_with_len, length-map-range_with_len}
+use Rattle.sixel_encoder.specs.Compact.{transparent_sixel, band_register, register_after}
+use Rattle.sixel_encoder.specs.{Compact.transparent_row, Segments.{with_place, drawn_segments}}
+use Rattle.sixel_encoder.specs.{Segments.{gap_of, segments_up_to, with_pixel}, Text.Drawing}
+use Rattle.sixel_encoder.specs.{Text.entry_at, Trip.is_used, declared.segments.Segment.Segment}
 use Rattle.sixel_encoder.specs.inside.Compact.{IsSegment, nth}
 use Rattle.sixel_encoder.proofs.compact_form.LeftSegments.{AreLeft, is_segment, segment-is}
 use Rattle.sixel_encoder.proofs.{MaskBits.bit_at-mask, compact_form.PassSteps.passes-none}
-use Rattle.sixel_encoder.proofs.compact_form.{SegmentSteps.some-same, SegmentTallies.tally-drawn}
+use Rattle.sixel_encoder.proofs.compact_form.SegmentSteps.{some-same}
+use Rattle.sixel_encoder.proofs.compact_form.SegmentTallies.{tally-drawn, each-tally, is_of, one}
+use Rattle.sixel_encoder.proofs.compact_form.SegmentTallies.{tally}
 use Rattle.sixel_encoder.proofs.round_trip.UsedBands.{unused-places}
-use Rattle.sixel_encoder.proofs.compact_form.SegmentTallies.{each-tally, is_of, one, tally}
 use Rattle.sixel_encoder.proofs.compact_form.CutSegments.{AreCut, AreCut-pixel, AreCut-wider}
 use Rattle.sixel_encoder.proofs.compact_form.CutSegments.{few-cut, own-pixel, tally-pixel}
 

@@ -1,9 +1,9 @@
 -- One pixel more in the segments of a band, and the last segment of each entry.
-use Rattle.sixel_encoder.proofs.Names.{None, Option, Some, nat_lt, slice_index_or, ◌&&◌, ◌==◌, Bool}
-use Rattle.sixel_encoder.proofs.Names.{List, arith, false, inl, inr, length, refl, set, true, ℕ}
-use Rattle.sixel_encoder.proofs.Names.{◌++◌, ◌+◌, ◌<◌, ◌∷◌, ◌≡◌, ◌≤◌, length-append, []}
-use Rattle.sixel_encoder.proofs.Names.{cases_eq, nat_tests, get_or-set_at, get_or-set_other}
-use Rattle.sixel_encoder.proofs.Names.{get_or_append_left, get_or_push, length-set}
+use Rattle.std.proofs.Common.{None, Some, nat_lt, Bool, List, arith, false, inl, inr, length, refl}
+use Rattle.std.proofs.Common.{set, true, ℕ, ◌++◌, ◌+◌, ◌<◌, ◌∷◌, ◌≡◌, ◌≤◌, length-append, []}
+use Rattle.std.specs.Prelude.{Option, slice_index_or, ◌&&◌, ◌==◌}
+use Rattle.std.proofs.lemmas.{Bool.cases_eq, Bool.Decides.nat_tests, Grind.get_or-set_at}
+use Rattle.std.proofs.lemmas.List.{get_or-set_other, get_or_append_left, get_or_push, length-set}
 use Rattle.sixel_encoder.specs.declared.segments.Segment.{Segment}
 use Rattle.sixel_encoder.specs.inside.Compact.{nth, AreLast}
 

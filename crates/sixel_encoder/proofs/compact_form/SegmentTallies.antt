@@ -1,10 +1,10 @@
 -- How many segments pass a test, pass by pass.
-use Rattle.sixel_encoder.proofs.Names.{Option, nat_le, nat_lt, ◌&&◌, Bool, List, arith, cond}
-use Rattle.sixel_encoder.proofs.Names.{length, not, refl, suc, true, zero, ℕ, ◌++◌, ◌+◌, ◌<◌, ◌∷◌}
-use Rattle.sixel_encoder.proofs.Names.{◌≡◌, [], nat_tests}
-use Rattle.sixel_encoder.specs.declared.segments.Segment.{Segment}
-use Rattle.sixel_encoder.specs.{inside.Compact.nth, Text.Drawing, Text.is_entry}
+use Rattle.std.specs.Prelude.{Option, nat_le, ◌&&◌}
+use Rattle.std.proofs.Common.{nat_lt, Bool, List, arith, cond, length, not, refl, suc, true, zero}
+use Rattle.std.proofs.{Common.{ℕ, ◌++◌, ◌+◌, ◌<◌, ◌∷◌, ◌≡◌, []}, lemmas.Bool.Decides.nat_tests}
 use Rattle.sixel_encoder.specs.Segments.{after_pass, band_segments, drawn_segments, in_pass, passes}
+use Rattle.sixel_encoder.specs.{Text.{Drawing, is_entry}, declared.segments.Segment.Segment}
+use Rattle.sixel_encoder.specs.inside.Compact.{nth}
 
 -- whether a pixel in this column with this entry is one of the segment's
 abbrev pub is_of : ℕ → Option ℕ → Segment → Bool

@@ -1,22 +1,23 @@
 -- The compact text of a drawing, or the plain one if that is shorter, is a text of marks that draw
 -- the drawing, band by band.
-use Rattle.sixel_encoder.proofs.Names.{None, Some, slice_index, ◌/◌, Bool, arith, cond, false}
-use Rattle.sixel_encoder.proofs.Names.{length, refl, true, ◌≤◌, List, max, suc, zero, ℕ, ◌*◌, ◌+◌}
-use Rattle.sixel_encoder.proofs.Names.{◌-◌, ◌<◌, ◌∙◌, ◌≡◌, nat_tests, bit_at}
+use Rattle.std.proofs.Common.{None, Some, slice_index, ◌/◌, Bool, arith, cond, false, length, refl}
+use Rattle.std.proofs.Common.{true, ◌≤◌, List, max, suc, zero, ℕ, ◌*◌, ◌+◌, ◌-◌, ◌<◌, ◌∙◌, ◌≡◌}
+use Rattle.std.proofs.lemmas.Bool.Decides.{nat_tests}
+use Rattle.std.specs.Int.{bit_at}
 use Rattle.sixel_encoder.specs.Compact.{compact_marks, compact_text, marked_text, Drawn}
 use Rattle.sixel_encoder.specs.Compact.{compact_band, drawn_by, nothing_of, register_after}
 use Rattle.sixel_encoder.specs.Compact.{segments_marks, to_band, transparent_row}
 use Rattle.sixel_encoder.specs.Marks.{IsDrawnText, Draws, Mark, Pen, first_pen}
 use Rattle.sixel_encoder.specs.RegisterOrder.{numbered_definitions, number_of}
-use Rattle.sixel_encoder.specs.Text.{Drawing, text_of, bands, entry_at}
+use Rattle.sixel_encoder.specs.{Segments.drawn_segments, Text.{Drawing, text_of, bands, entry_at}}
 use Rattle.sixel_encoder.specs.Trip.{IsWritable, bands_up_to, is_used}
-use Rattle.sixel_encoder.proofs.plain_text.Text.{IsDrawnText-plain}
-use Rattle.sixel_encoder.specs.{declared.segments.Segment.Segment, Segments.drawn_segments}
-use Rattle.sixel_encoder.proofs.round_trip.DrawnHeight.{bands_up_to-le, bands_up_to-passed}
-use Rattle.sixel_encoder.proofs.{band_rows.EntryRows.IsInBand, round_trip.UsedBands.used-here}
-use Rattle.sixel_encoder.proofs.round_trip.MarkSteps.{Leads, Leads-append, Leads-joined, Places}
-use Rattle.sixel_encoder.proofs.round_trip.MarkSteps.{painted-place}
 use Rattle.sixel_encoder.proofs.plain_text.Marks.{known_place, nothing_drawn}
+use Rattle.sixel_encoder.proofs.plain_text.Text.{IsDrawnText-plain}
+use Rattle.sixel_encoder.specs.declared.segments.Segment.{Segment}
+use Rattle.sixel_encoder.proofs.round_trip.DrawnHeight.{bands_up_to-le, bands_up_to-passed}
+use Rattle.sixel_encoder.proofs.round_trip.MarkSteps.{Leads, Leads-append, Leads-joined, Places}
+use Rattle.sixel_encoder.proofs.round_trip.{MarkSteps.painted-place, UsedBands.used-here}
+use Rattle.sixel_encoder.proofs.band_rows.EntryRows.{IsInBand}
 use Rattle.sixel_encoder.proofs.compact_form.RegisterNumbers.{AreNumbers-numbered}
 use Rattle.sixel_encoder.proofs.compact_form.SegmentMarks.{AreLeft-by, IsDrawn, Leads-segments}
 use Rattle.sixel_encoder.proofs.compact_form.SegmentOrder.{register_after-more, register_after-none}

@@ -4,18 +4,17 @@ use Rattle.std.proofs.Common.{Bool, List, arith, cond, false, length, refl, true
 use Rattle.sixel_base.specs.OneShot.{AreFoundRegisters, found}
 use Rattle.sixel_base.specs.declared.settings.BackgroundMode.TheVariants.{Opaque}
 use Rattle.sixel_base.specs.declared.state.DecoderState.{DecoderState}
-use Rattle.sixel_encoder.specs.{declared.form.TextForm.TextForm, Form.form_text}
-use Rattle.sixel_encoder.specs.{RegisterOrder.numbered_definitions, Text.Drawing, Text.text_of}
-use Rattle.sixel_encoder.specs.declared.form.TextForm.TheVariants.{Compact, Plain}
-use Rattle.sixel_encoder.specs.Compact.{compact_marks, marked_text}
+use Rattle.sixel_encoder.specs.{Compact.{compact_marks, marked_text}, Form.form_text}
 use Rattle.sixel_encoder.specs.Marks.{Definition, Draws, Mark, marks_payload, register_entry}
-use Rattle.sixel_encoder.specs.Trip.{HasBackground, IsWritable}
+use Rattle.sixel_encoder.specs.{RegisterOrder.numbered_definitions, Text.{Drawing, text_of}}
+use Rattle.sixel_encoder.specs.{Trip.{HasBackground, IsWritable}, declared.form.TextForm.TextForm}
+use Rattle.sixel_encoder.specs.declared.form.TextForm.TheVariants.{Compact, Plain}
 use Rattle.sixel_encoder.proofs.compact_form.RegisterNumbers.{register_entry-background}
-use Rattle.sixel_encoder.proofs.{compact_form.Text.Draws-compact, plain_text.Text.text_of-parts}
-use Rattle.sixel_encoder.proofs.plain_text.Marks.{Draws-plain, register_entry-plain, payload-plain}
+use Rattle.sixel_encoder.proofs.{compact_form.Text.Draws-compact, plain_text.Marks.Draws-plain}
+use Rattle.sixel_encoder.proofs.plain_text.Marks.{register_entry-plain, payload-plain}
 use Rattle.sixel_encoder.proofs.plain_text.Marks.{plain_definitions, plain_marks}
-use Rattle.sixel_encoder.proofs.round_trip.DcsText.{found-sequence, sequence_of}
-use Rattle.sixel_encoder.proofs.round_trip.Trip.{payload-register}
+use Rattle.sixel_encoder.proofs.{plain_text.Text.text_of-parts, round_trip.DcsText.found-sequence}
+use Rattle.sixel_encoder.proofs.{round_trip.DcsText.sequence_of, round_trip.Trip.payload-register}
 
 module _ (decoder : DecoderState) (drawing : Drawing) (after : List (List ℕ))
     (is : IsWritable drawing) (size : length decoder.registers ≡ 256)

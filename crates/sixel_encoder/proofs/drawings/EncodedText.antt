@@ -1,19 +1,21 @@
 -- What the text of an image that was encoded is: blind to what is hidden, no longer than the plain
 -- one, and read back as its trip.
-use Rattle.sixel_encoder.proofs.Names.{◌≡◌, ℕ, ◌*◌, ◌<◌, ◌≤◌, List, Result, Ok, Err, sym, ap, ◌∙◌}
-use Rattle.sixel_encoder.proofs.Names.{arith, length, All, IfErr, IfOk, None, OnOk, MatchOption}
-use Rattle.sixel_encoder.proofs.{Names.nat_tests, plain_text.Text.IsDrawnText-plain}
+use Rattle.std.proofs.Common.{◌≡◌, ℕ, ◌*◌, ◌<◌, ◌≤◌, List, Result, Ok, Err, sym, ap, ◌∙◌, arith}
+use Rattle.std.proofs.Common.{length, None}
+use Rattle.std.specs.Prelude.{All, IfErr, IfOk, OnOk, MatchOption}
+use Rattle.std.proofs.lemmas.Bool.Decides.{nat_tests}
+use Rattle.sixel_encoder.proofs.plain_text.Text.{IsDrawnText-plain}
 use Rattle.sixel_base.specs.declared.{error.SixelError.SixelError, state.DecoderState.DecoderState}
 use Rattle.sixel_base.specs.declared.error.SixelError.TheVariants.{OutOfMemory}
-use Rattle.sixel_base.specs.{Size.banded, Payload.Image, Limits.Limit}
-use Rattle.sixel_encoder.specs.{declared.form.TextForm.TextForm, Text.Drawing, Marks.IsDrawnText}
-use Rattle.sixel_encoder.specs.Encoding.{image_fault, IsDrawing, IsText}
-use Rattle.sixel_encoder.specs.Form.{IsFormText, form_text}
-use Rattle.sixel_encoder.specs.Trip.{CanRead, trip, IsReadAs, IsOneString, IsWritable}
+use Rattle.sixel_base.specs.{Limits.Limit, Payload.Image, Size.banded}
+use Rattle.sixel_encoder.specs.declared.{form.TextForm.TextForm, form.TextForm.TheVariants.Plain}
+use Rattle.sixel_encoder.specs.declared.form.TextForm.TheVariants.{Compact}
+use Rattle.sixel_encoder.specs.{Encoding.{image_fault, IsDrawing, IsText}, Form.IsFormText}
+use Rattle.sixel_encoder.specs.{Form.form_text, Marks.IsDrawnText, Text.Drawing, Trip.CanRead}
+use Rattle.sixel_encoder.specs.Trip.{trip, IsReadAs, IsOneString, IsWritable}
 use Rattle.sixel_encoder.proofs.compact_form.Text.{length-compact, IsDrawnText-compact}
 use Rattle.sixel_encoder.proofs.round_trip.DcsText.{IsOneString-drawn, IsReadAs-drawn}
 use Rattle.sixel_encoder.proofs.round_trip.TripLimits.{CanRead-drawn, IsWritable-drawn, area-drawn}
-use Rattle.sixel_encoder.specs.declared.form.TextForm.TheVariants.{Plain, Compact}
 
 -- a text of marks that draw the drawing
 pub IsDrawnText-form : (form : TextForm) (drawing : Drawing) → IsWritable drawing

@@ -1,21 +1,22 @@
 -- The drawing of an image by palette indices: an image has one, it can be written, and its text is
 -- read back.
-use Rattle.sixel_encoder.proofs.Names
-use Names.{◌≡◌, ℕ, ◌<◌, List, length, get_or, arith, None, nat_tests, length-map-range_with_len}
-use Names.{get_or-map-range_with_len, ◌+◌, ◌*◌, ◌≤◌, ap, ◌∙◌, All, slice_index, true, list_any}
-use Names.{range_with_len, get_or-range_with_len, length-range_with_len, list_any_at}
+use Rattle.std.proofs.Common.{◌≡◌, ℕ, ◌<◌, List, length, get_or, arith, None, ◌+◌, ◌*◌, ◌≤◌, ap}
+use Rattle.std.proofs.Common.{◌∙◌, slice_index, true}
+use Rattle.std.proofs.lemmas.{Bool.Decides.nat_tests, List.Folds.list_any_at}
+use Rattle.std.proofs.lemmas.List.FromFn.{length-map-range_with_len, get_or-map-range_with_len}
+use Rattle.std.proofs.lemmas.List.FromFn.{get_or-range_with_len, length-range_with_len}
+use Rattle.std.specs.{List.{list_any, range_with_len}, Prelude.All}
 use Rattle.sixel_palette.specs.Palette.{IsPalette, AreIndices}
 use Rattle.sixel_base.specs.Payload.{Image}
 use Rattle.sixel_encoder.specs.inside.Indexed.{entry_of, entries_of}
-use Rattle.sixel_encoder.specs.Encoding.{IsDrawing, image_fault}
-use Rattle.sixel_encoder.specs.IndexedDrawing.{indexed_drawing, IsTextOf, index_range_fault}
-use Rattle.sixel_encoder.specs.{IndexedDrawing.is_past, declared.form.TextForm.TextForm}
-use Rattle.sixel_encoder.specs.{Form.form_text, Text.Drawing, Text.row_of, Trip.IsColor}
-use Rattle.sixel_encoder.specs.{Trip.IsWritable}
+use Rattle.sixel_encoder.specs.{Encoding.{IsDrawing, image_fault}, IndexedDrawing.indexed_drawing}
+use Rattle.sixel_encoder.specs.IndexedDrawing.{IsTextOf, index_range_fault, is_past}
+use Rattle.sixel_encoder.specs.{Form.form_text, Text.{Drawing, row_of}, Trip.{IsColor, IsWritable}}
+use Rattle.sixel_encoder.specs.declared.form.TextForm.{TextForm}
 use Rattle.sixel_encoder.proofs.round_trip.DcsText.{IsOneString-drawn, IsReadAs-drawn}
-use Rattle.sixel_encoder.proofs.drawings.EncodedText.{IsDrawnText-form}
+use Rattle.sixel_encoder.proofs.drawings.{EncodedText.IsDrawnText-form, Sizes.within-sound}
 use Rattle.sixel_encoder.proofs.band_rows.ShortestRows.{shortest, spells}
-use Rattle.sixel_encoder.proofs.{drawings.Sizes.within-sound, compact_form.Text.length-compact}
+use Rattle.sixel_encoder.proofs.compact_form.Text.{length-compact}
 
 pub get_or-entries : (pixels indices : List ℕ) (pixel : ℕ) → pixel < length indices
     → get_or (entries_of pixels indices) pixel None ≡ entry_of pixels indices pixel

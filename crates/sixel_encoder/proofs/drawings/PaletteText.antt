@@ -1,14 +1,15 @@
 -- What is known of the text of an image in a given palette once it is returned: the image has no
 -- fault, a new decoder can read the text, and colors of transparent pixels do not affect it.
-use Rattle.sixel_encoder.proofs.Names.{◌≡◌, ℕ, List, arith, Option, None, Result, IfOk, option_or}
-use Rattle.sixel_encoder.proofs.{Names.mul_comm, Names.nat_tests, drawings.Sizes.within-sound}
-use Rattle.sixel_base.specs.CallFault.{CallFault, FailsBy, size_call_fault}
-use Rattle.sixel_base.specs.{Payload.Image, declared.error.SixelError.SixelError}
+use Rattle.std.proofs.{Common.{◌≡◌, ℕ, List, arith, None, Result}, Math.Nat.mul_comm}
+use Rattle.std.proofs.lemmas.Bool.Decides.{nat_tests}
+use Rattle.std.specs.{Option.option_or, Prelude.{Option, IfOk}}
+use Rattle.sixel_encoder.proofs.{drawings.SameDithering.drawing-alike, drawings.Sizes.within-sound}
+use Rattle.sixel_base.specs.{CallFault.{CallFault, FailsBy, size_call_fault}, Payload.Image}
+use Rattle.sixel_base.specs.declared.error.SixelError.{SixelError}
 use Rattle.sixel_palette.specs.declared.mapping.Mapping.{Mapping}
-use Rattle.sixel_encoder.specs.{declared.form.TextForm.TextForm, IndexedDrawing.IsPaletteText}
-use Rattle.sixel_encoder.specs.Encoding.{image_fault, shown_image}
+use Rattle.sixel_encoder.specs.{Encoding.{image_fault, shown_image}, IndexedDrawing.IsPaletteText}
+use Rattle.sixel_encoder.specs.declared.form.TextForm.{TextForm}
 use Rattle.sixel_palette.proofs.mapped_images.DitheredIndices.{AreRowsOf}
-use Rattle.sixel_encoder.proofs.drawings.SameDithering.{drawing-alike}
 
 -- the rows of an image without a fault
 pub rows-sound : (image : Image) → image_fault image ≡ None → AreRowsOf image.pixels image.width

@@ -1,25 +1,23 @@
 -- The text of an image in a refined palette: a decoder shows the entries unrounded, and it is the
 -- text of each image that shows the same.
-use Rattle.sixel_encoder.proofs.Names.{◌≡◌, ℕ, List, arith, map, All, nat_tests, ◌<◌, length, ap}
-use Rattle.sixel_encoder.proofs.Names.{sym, subst, ◌∙◌, Err, IfOk, None, Ok, OnOk, Option, Result}
-use Rattle.sixel_encoder.proofs.Names.{option_or}
-use Rattle.sixel_base.specs.{Payload.Image, declared.error.SixelError.SixelError}
-use Rattle.sixel_palette.specs.Refined.{IsRegisterColor, IsRefined, base_entries, cut_entries}
-use Rattle.sixel_palette.specs.Refined.{opaque_bins, opaque_pixels}
-use Rattle.sixel_encoder.specs.IndexedDrawing.{indexed_drawing, IsTextOf}
-use Rattle.sixel_encoder.specs.RefinedText.{ShowsEntries, IsRefinedText}
-use Rattle.sixel_encoder.specs.{Trip.rounded, declared.form.TextForm.TextForm}
-use Rattle.sixel_base.specs.CallFault.{CallFault, FailsBy, size_call_fault}
-use Rattle.sixel_palette.specs.{Palette.nearest, Spread.spread_entries, GainCut.bin_step}
+use Rattle.std.proofs.Common.{◌≡◌, ℕ, List, arith, map, ◌<◌, length, ap, sym, subst, ◌∙◌, Err, None}
+use Rattle.std.proofs.{Common.{Ok, Result}, lemmas.Bool.Decides.nat_tests}
+use Rattle.std.specs.{Option.option_or, Prelude.{All, IfOk, OnOk, Option}}
+use Rattle.sixel_base.specs.{CallFault.{CallFault, FailsBy, size_call_fault}, Payload.Image}
+use Rattle.sixel_base.specs.declared.error.SixelError.{SixelError}
+use Rattle.sixel_palette.specs.{Dithering.{AreDithered, refined_mapping}, GainCut.bin_step}
+use Rattle.sixel_palette.specs.{Palette.nearest, Refined.{IsRegisterColor, IsRefined, base_entries}}
+use Rattle.sixel_palette.specs.Refined.{cut_entries, opaque_bins, opaque_pixels}
+use Rattle.sixel_palette.specs.{Spread.spread_entries, declared.mapping.Mapping.Mapping}
 use Rattle.sixel_palette.specs.declared.palette.refined.RefinedPalette.{RefinedPalette}
+use Rattle.sixel_encoder.specs.{Encoding.{image_fault, shown_image}, IndexedDrawing.indexed_drawing}
+use Rattle.sixel_encoder.specs.{IndexedDrawing.IsTextOf, RefinedText.{ShowsEntries, IsRefinedText}}
+use Rattle.sixel_encoder.specs.{Trip.rounded, declared.form.TextForm.TextForm}
+use Rattle.sixel_palette.proofs.mapped_images.UnditheredAlike.{indices-alike}
 use Rattle.sixel_palette.proofs.{refinement.One.refined_same, refinement.Tops.tops_alike}
-use Rattle.sixel_palette.specs.declared.mapping.Mapping.{Mapping}
-use Rattle.sixel_palette.specs.Dithering.{AreDithered, refined_mapping}
-use Rattle.sixel_encoder.specs.Encoding.{image_fault, shown_image}
 use Rattle.sixel_encoder.proofs.drawings.PaletteText.{hidden-returned, rows-sound}
 use Rattle.sixel_encoder.proofs.drawings.SameDithering.{AreDithered-alike, drawing-alike}
 use Rattle.sixel_encoder.proofs.drawings.SameDithering.{pixels-same, refined-alike}
-use Rattle.sixel_palette.proofs.mapped_images.UnditheredAlike.{indices-alike}
 use Rattle.sixel_encoder.proofs.drawings.SameDrawing.{IsShown-other, AreAlike-images}
 
 -- nor is such a color

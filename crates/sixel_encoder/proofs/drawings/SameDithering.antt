@@ -1,33 +1,33 @@
 -- Images that show the same have the same indices at their opaque pixels, so one drawing.
-use Rattle.sixel_encoder.proofs.Names.{◌≡◌, ℕ, zero, suc, ◌+◌, ◌*◌, ◌<◌, ◌≤◌, List, length, refl}
-use Rattle.sixel_encoder.proofs.Names.{ap, sym, subst, arith, inl, inr, ◌∙◌, ◌/◌, ◌%◌, None, Option}
-use Rattle.sixel_encoder.proofs.Names.{slice_index, div-add-mod', mod_below, cases_lt, ext_get_or}
-use Rattle.sixel_encoder.proofs.Names.{length-map-range_with_len, nat_tests}
-use Rattle.sixel_palette.specs.Palette.{IsOpaque, entry_of}
-use Rattle.sixel_palette.specs.{Refined.opaque_pixels, declared.dither.Dither.Dither}
-use Rattle.sixel_palette.specs.{declared.mapping.Mapping.Mapping, Gray.source_pixels}
-use Rattle.sixel_base.specs.Payload.{Image}
-use Rattle.sixel_palette.specs.declared.{dither.Amplitude.Amplitude, mapping.Tolerance.Tolerance}
-use Rattle.sixel_palette.specs.declared.dither.Dither.TheVariants.{Diffusion, Off, Ordered}
+use Rattle.std.proofs.Common.{◌≡◌, ℕ, zero, suc, ◌+◌, ◌*◌, ◌<◌, ◌≤◌, List, length, refl, ap, sym}
+use Rattle.std.proofs.Common.{subst, arith, inl, inr, ◌∙◌, ◌/◌, ◌%◌, None, slice_index}
+use Rattle.std.specs.Prelude.{Option}
+use Rattle.std.proofs.lemmas.{Bool.cases_lt, Bool.Decides.nat_tests, List.ext_get_or}
+use Rattle.std.proofs.lemmas.{List.FromFn.length-map-range_with_len, Nat.{div-add-mod', mod_below}}
 use Rattle.sixel_palette.specs.Dithering.{AreDiffused, AreDithered, AreVisited, HasTarget}
 use Rattle.sixel_palette.specs.Dithering.{HaveChoice, HaveIndices, HaveTargets, IsIndex, Mapped}
 use Rattle.sixel_palette.specs.Dithering.{amplitude_of, errors_of, mapped_of, moved_image}
 use Rattle.sixel_palette.specs.Dithering.{moved_pixels, refined_mapping, serpentine, shift_of}
 use Rattle.sixel_palette.specs.Dithering.{target_of_visit, tolerance_of, undithered_of, with_pixels}
-use Rattle.sixel_encoder.specs.Encoding.{shown_image}
-use Rattle.sixel_encoder.specs.IndexedDrawing.{entries_of, indexed_drawing}
+use Rattle.sixel_palette.specs.{Gray.source_pixels, Palette.{IsOpaque, entry_of}}
+use Rattle.sixel_palette.specs.Refined.{opaque_pixels}
+use Rattle.sixel_palette.specs.declared.{dither.Amplitude.Amplitude, dither.Dither.Dither}
+use Rattle.sixel_palette.specs.declared.dither.Dither.TheVariants.{Diffusion, Off, Ordered}
+use Rattle.sixel_palette.specs.declared.{mapping.Mapping.Mapping, mapping.Tolerance.Tolerance}
+use Rattle.sixel_base.specs.Payload.{Image}
+use Rattle.sixel_encoder.specs.{Encoding.shown_image, IndexedDrawing.{entries_of, indexed_drawing}}
 use Rattle.sixel_palette.proofs.mapped_images.DitheredIndices.{AreRowsOf, visit-inside}
 use Rattle.sixel_palette.proofs.mapped_images.GraySource.{AreRowsOf-source, IsSource-pixels}
 use Rattle.sixel_palette.proofs.mapped_images.GraySource.{dithered-count, entry-source}
 use Rattle.sixel_palette.proofs.mapped_images.GraySource.{measured-alike, source-alike}
-use Rattle.sixel_encoder.proofs.drawings.{IndexedText.get_or-entries, SameDrawing.AreAlike-images}
-use Rattle.sixel_palette.proofs.mapped_images.KeptEntries.{IsIndex-same}
-use Rattle.sixel_palette.proofs.mapped_images.MovedPixels.{moved-alike, moved-entry}
-use Rattle.sixel_palette.proofs.mapped_images.PaletteError.{number-dark, number-light, sum_to-same}
-use Rattle.sixel_palette.proofs.mapped_images.UnditheredAlike.{AreChosen-alike, chosen-alike}
-use Rattle.sixel_palette.proofs.mapped_images.UnditheredAlike.{indices-alike}
+use Rattle.sixel_palette.proofs.mapped_images.{KeptEntries.IsIndex-same, MovedPixels.moved-alike}
+use Rattle.sixel_palette.proofs.mapped_images.{MovedPixels.moved-entry, PaletteError.number-dark}
+use Rattle.sixel_palette.proofs.mapped_images.PaletteError.{number-light, sum_to-same}
 use Rattle.sixel_palette.proofs.mapped_images.SameVisits.{neighbor-alike, AreSameOpaque, AreAlike}
 use Rattle.sixel_palette.proofs.mapped_images.SameVisits.{entry-before, errors-alike, target-alike}
+use Rattle.sixel_palette.proofs.mapped_images.UnditheredAlike.{AreChosen-alike, chosen-alike}
+use Rattle.sixel_palette.proofs.mapped_images.UnditheredAlike.{indices-alike}
+use Rattle.sixel_encoder.proofs.drawings.{IndexedText.get_or-entries, SameDrawing.AreAlike-images}
 
 -- ---- all kinds
 

@@ -1,11 +1,11 @@
 -- Images that show the same have one drawing.
-use Rattle.sixel_encoder.proofs.Names.{◌≡◌, ℕ, ◌+◌, ◌*◌, ◌/◌, ◌<◌, List, length, get_or, ap, arith}
-use Rattle.sixel_encoder.proofs.Names.{None, nat_tests, ext_get_or, length-map-range_with_len}
-use Rattle.sixel_encoder.proofs.Names.{get_or-map-range_with_len}
+use Rattle.std.proofs.Common.{◌≡◌, ℕ, ◌+◌, ◌*◌, ◌/◌, ◌<◌, List, length, get_or, ap, arith, None}
+use Rattle.std.proofs.lemmas.{Bool.Decides.nat_tests, List.ext_get_or}
+use Rattle.std.proofs.lemmas.List.FromFn.{length-map-range_with_len, get_or-map-range_with_len}
 use Rattle.sixel_palette.specs.Palette.{color_at, IsOpaque, IsShown, IsNearest}
 use Rattle.sixel_base.specs.Payload.{Image}
-use Rattle.sixel_encoder.specs.Text.{Drawing}
 use Rattle.sixel_encoder.specs.Encoding.{IsDrawing, ShownImage, shown_color, shown_image}
+use Rattle.sixel_encoder.specs.Text.{Drawing}
 use Rattle.sixel_palette.proofs.mapped_images.SameVisits.{AreAlike}
 
 module _ (image other : Image) (e : shown_image image ≡ shown_image other) where

@@ -1,17 +1,17 @@
 -- Sixels that change bound the bytes of a band of the plain text from below, and bands bound those
 -- of the whole text.
-use Rattle.std.proofs.Common.{List, arith, length, length-append, ℕ, ◌+◌, ◌-◌, ◌≡◌, ◌≤◌}
+use Rattle.std.proofs.Common.{List, arith, length, length-append, ℕ, ◌+◌, ◌-◌, ◌≡◌, ◌≤◌, ◌≢◌, zero}
+use Rattle.std.proofs.{Common.{suc, ◌<◌, ap, refl, replicate, slice_index}, lemmas.Bool.cases_eq}
+use Rattle.std.proofs.{lemmas.Bool.Decides.nat_tests, lemmas.Fmt.decimal_nonempty}
 use Rattle.sixel_base.specs.Picture.{joined}
-use Rattle.sixel_encoder.specs.{Text.Drawing, Text.band_text, declared.bound.RowRuns.RowRuns}
-use Rattle.sixel_encoder.proofs.JoinedLists.{joined-add, joined-more}
-use Rattle.std.proofs.lemmas.Bool.Decides.{nat_tests}
-use Rattle.sixel_encoder.proofs.Names.{◌≢◌, zero, suc, ◌<◌, ap, refl, replicate, if◌then◌else◌}
-use Rattle.sixel_encoder.proofs.Names.{slice_index, ◌==◌, cases_eq, decimal_nonempty}
+use Rattle.sixel_encoder.specs.{Text.{Drawing, band_text}, declared.bound.RowRuns.RowRuns}
 use Rattle.sixel_encoder.specs.inside.Bound.{IsBound, IsChange, bytes_due, bytes_from, bytes_left}
 use Rattle.sixel_encoder.specs.inside.Bound.{row_bytes, total}
+use Rattle.sixel_encoder.proofs.JoinedLists.{joined-add, joined-more}
 use Rattle.sixel_encoder.proofs.band_rows.RowBounds.{bytes_from-end, bytes_from-last}
 use Rattle.sixel_encoder.proofs.band_rows.RowBounds.{bytes_from-start, bytes_from-step}
 use Rattle.sixel_encoder.proofs.band_rows.RunCost.{run_low}
+use Rattle.std.specs.Prelude.{if◌then◌else◌, ◌==◌}
 
 -- the first n lists are no longer than more of them
 pub length-joined : (f : ℕ → List ℕ) (n m : ℕ) → n ≤ m → length (joined f n) ≤ length (joined f m)

@@ -1,19 +1,20 @@
 -- The plain text of a drawing as definitions and marks that draw it: each entry is defined in the
 -- register of its number, each row returns to the left, and each band goes down to the next.
-use Rattle.sixel_encoder.proofs.Names.{List, append_assoc, cond, length, ℕ, ◌++◌, ◌∷◌, ◌≡◌, arith}
-use Rattle.sixel_encoder.proofs.Names.{[], flat_map-append, append-nil, None, Option, Some}
-use Rattle.sixel_encoder.proofs.Names.{slice_index_or, ◌==◌, refl, suc, true, zero, ◌*◌, ◌+◌, ◌<◌}
-use Rattle.sixel_encoder.proofs.Names.{◌≤◌, cases_Bool, cases_eq, nat_tests, get_or_past}
+use Rattle.std.proofs.Common.{List, append_assoc, cond, length, ℕ, ◌++◌, ◌∷◌, ◌≡◌, arith, [], None}
+use Rattle.std.proofs.Common.{Some, refl, suc, true, zero, ◌*◌, ◌+◌, ◌<◌, ◌≤◌}
+use Rattle.std.proofs.lemmas.{Bool.{cases_Bool, cases_eq}, Bool.Decides.nat_tests}
+use Rattle.std.proofs.lemmas.{Grind.flat_map-append, List.{append-nil, get_or_past}}
+use Rattle.std.specs.Prelude.{Option, slice_index_or, ◌==◌}
 use Rattle.sixel_base.specs.Picture.{joined}
 use Rattle.sixel_encoder.specs.Marks.{Back, Definition, Draw, Mark, Next, Pick, marks_payload}
 use Rattle.sixel_encoder.specs.Marks.{AreDefinitions, Draws, Pen, first_pen, register_entry}
-use Rattle.sixel_encoder.specs.Text.{Drawing, bands, has_dot, row_of, entry_at}
-use Rattle.sixel_encoder.specs.Trip.{payload_text, IsWritable}
-use Rattle.sixel_encoder.proofs.{JoinedLists.flat_map-joined, round_trip.UsedBands.unused-dots}
+use Rattle.sixel_encoder.specs.{Text.{Drawing, bands, has_dot, row_of, entry_at}, Trip.payload_text}
+use Rattle.sixel_encoder.specs.Trip.{IsWritable}
+use Rattle.sixel_encoder.proofs.JoinedLists.{flat_map-joined}
+use Rattle.sixel_encoder.proofs.round_trip.MarkSteps.{Leads, Leads-append, Leads-joined, Places}
+use Rattle.sixel_encoder.proofs.round_trip.{MarkSteps.painted-place, UsedBands.unused-dots}
 use Rattle.sixel_encoder.proofs.band_rows.EntryRows.{IsInBand, length-row_of, lit-own, no_dot-own}
 use Rattle.sixel_encoder.proofs.band_rows.EntryRows.{own-lit, row_of-small}
-use Rattle.sixel_encoder.proofs.round_trip.MarkSteps.{Leads, Leads-append, Leads-joined, Places}
-use Rattle.sixel_encoder.proofs.round_trip.MarkSteps.{painted-place}
 
 -- ---- the marks
 

@@ -1,22 +1,22 @@
 -- The plain text of a drawing is a text of marks that draw it, so it is read back as they are.
-use Rattle.sixel_encoder.proofs.Names.{list_all, IsTrue, None, Some, codes, List, ap, append_assoc}
-use Rattle.sixel_encoder.proofs.Names.{subst, sym, ℕ, ◌*◌, ◌++◌, ◌∙◌, ◌∷◌, ◌≡◌, ◌≤◌, nat_tests}
-use Rattle.sixel_encoder.proofs.{Names.arith, plain_text.Marks.plain_marks}
-use Rattle.sixel_base.specs.Bytes.{before_terminator, first_terminator, front}
-use Rattle.sixel_base.specs.{Dcs.Reading, Dcs.stage, Decoder.origin_of, Limits.Limit, Size.banded}
-use Rattle.sixel_base.specs.OneShot.{Payload, found}
-use Rattle.sixel_base.specs.Payload.{payload_fault, payload_image}
-use Rattle.sixel_base.specs.declared.state.DecoderState.{DecoderState}
-use Rattle.sixel_base.proofs.Histories.{carries}
-use Rattle.sixel_encoder.specs.{Marks.IsDrawnText, Text.Drawing, Text.parameters_text, Text.text_of}
-use Rattle.sixel_encoder.specs.Trip.{CanRead, CanShow, IsOneString, IsReadAs, IsWritable}
-use Rattle.sixel_encoder.specs.Trip.{drawing_settings, payload_text, trip}
+use Rattle.std.specs.{List.list_all, Prelude.{IsTrue, codes}}
+use Rattle.std.proofs.Common.{None, Some, List, ap, append_assoc, subst, sym, ℕ, ◌*◌, ◌++◌, ◌∙◌}
+use Rattle.std.proofs.{Common.{◌∷◌, ◌≡◌, ◌≤◌, arith}, lemmas.Bool.Decides.nat_tests}
+use Rattle.sixel_encoder.proofs.plain_text.Marks.{plain_marks, Draws-plain, payload-plain}
+use Rattle.sixel_encoder.proofs.plain_text.Marks.{plain_definitions}
 use Rattle.sixel_encoder.proofs.round_trip.DcsText.{IsOneString-drawn, IsReadAs-drawn}
 use Rattle.sixel_encoder.proofs.round_trip.DcsText.{found-sequence, stage-sequence}
-use Rattle.sixel_encoder.proofs.plain_text.Marks.{Draws-plain, payload-plain, plain_definitions}
-use Rattle.sixel_encoder.proofs.round_trip.Trip.{payload-sound, payload-trip}
 use Rattle.sixel_encoder.proofs.round_trip.TextHistory.{before_terminator-carrying, carries-payload}
 use Rattle.sixel_encoder.proofs.round_trip.TextHistory.{first_terminator-carrying, front-carrying}
+use Rattle.sixel_encoder.proofs.round_trip.Trip.{payload-sound, payload-trip}
+use Rattle.sixel_base.specs.{Bytes.{before_terminator, first_terminator, front}, Dcs.Reading}
+use Rattle.sixel_base.specs.{Dcs.stage, Decoder.origin_of, Limits.Limit, OneShot.{Payload, found}}
+use Rattle.sixel_base.specs.{Payload.{payload_fault, payload_image}, Size.banded}
+use Rattle.sixel_base.specs.declared.state.DecoderState.{DecoderState}
+use Rattle.sixel_base.proofs.Histories.{carries}
+use Rattle.sixel_encoder.specs.{Marks.IsDrawnText, Text.{Drawing, parameters_text, text_of}}
+use Rattle.sixel_encoder.specs.Trip.{CanRead, CanShow, IsOneString, IsReadAs, IsWritable}
+use Rattle.sixel_encoder.specs.Trip.{drawing_settings, payload_text, trip}
 
 -- the parts of a text in one order of joining
 payload-joined : (p r c b e : List ℕ) → p ++ r ++ c ++ b ++ e ≡ p ++ ((r ++ c ++ b) ++ e)

@@ -1,21 +1,21 @@
 -- A text as a DCS sequence: its parameters are the drawing's, and its payload is what follows them.
-use Rattle.sixel_encoder.proofs.Names.{list_all, IsTrue, codes, decimal, List, arith, length-append}
-use Rattle.sixel_encoder.proofs.Names.{refl, sym, ℕ, ◌*◌, ◌++◌, ◌∷◌, ◌≡◌, ◌≤◌, [], nat_tests}
-use Rattle.sixel_encoder.proofs.Names.{decimal_digit}
-use Rattle.sixel_base.specs.Bytes.{carrying, is_parameter}
-use Rattle.sixel_base.specs.{Dcs.Reading, Dcs.stage, Limits.Limit, OneShot.Payload, OneShot.found}
-use Rattle.sixel_base.specs.{Settings.p1_of, Settings.p2_of, Size.banded, Fields.fields}
-use Rattle.sixel_base.specs.Header.{header_front, header_rest, settings_of}
+use Rattle.std.specs.{List.list_all, Prelude.{IsTrue, codes}}
+use Rattle.std.proofs.Common.{decimal, List, arith, length-append, refl, sym, ℕ, ◌*◌, ◌++◌, ◌∷◌}
+use Rattle.std.proofs.Common.{◌≡◌, ◌≤◌, []}
+use Rattle.std.proofs.lemmas.{Bool.Decides.nat_tests, Fmt.decimal_digit}
+use Rattle.sixel_base.specs.{Bytes.{carrying, is_parameter}, Dcs.{Reading, stage}, Fields.fields}
+use Rattle.sixel_base.specs.{Header.{header_front, header_rest, settings_of}, Limits.Limit}
+use Rattle.sixel_base.specs.{OneShot.{Payload, found}, Settings.{p1_of, p2_of}, Size.banded}
 use Rattle.sixel_base.specs.declared.state.DecoderState.{DecoderState}
-use Rattle.sixel_encoder.specs.Marks.{IsDrawnText, marks_payload}
-use Rattle.sixel_encoder.specs.{Text.Drawing, Text.parameters_text, Trip.trip}
-use Rattle.sixel_encoder.specs.Trip.{CanRead, IsOneString, IsReadAs, IsWritable, drawing_settings}
+use Rattle.sixel_encoder.specs.{Marks.{IsDrawnText, marks_payload}, Text.{Drawing, parameters_text}}
+use Rattle.sixel_encoder.specs.Trip.{trip, CanRead, IsOneString, IsReadAs, IsWritable}
+use Rattle.sixel_encoder.specs.Trip.{drawing_settings}
 use Rattle.sixel_encoder.proofs.round_trip.Digits.{AreFields, all_parameters-numbers}
 use Rattle.sixel_encoder.proofs.round_trip.Digits.{fields-numbers, numbers}
-use Rattle.sixel_encoder.proofs.round_trip.Trip.{payload-sound, payload-trip}
 use Rattle.sixel_encoder.proofs.round_trip.TextHistory.{after_terminator-carrying}
 use Rattle.sixel_encoder.proofs.round_trip.TextHistory.{before_terminator-carrying, carries-payload}
 use Rattle.sixel_encoder.proofs.round_trip.TextHistory.{first_terminator-carrying}
+use Rattle.sixel_encoder.proofs.round_trip.Trip.{payload-sound, payload-trip}
 
 -- ---- a header of parameters before its `q`
 

@@ -1,22 +1,21 @@
 -- How high the tokens of a text make the picture: to the end of the last band that is used.
-use Rattle.sixel_encoder.proofs.Names.{None, Option, is_some, ◌/◌, Bool, List, ap, arith, cond}
-use Rattle.sixel_encoder.proofs.Names.{length, max, refl, subst, suc, true, zero, ℕ, ◌*◌, ◌+◌, ◌<◌}
-use Rattle.sixel_encoder.proofs.Names.{◌∷◌, ◌≡◌, ◌≤◌, [], cases_eq, nat_tests, common_steps}
-use Rattle.sixel_base.specs.{History.History, Payload.cropped_height, Stroke.registers}
-use Rattle.sixel_base.specs.Place.{height, raster_height}
+use Rattle.std.proofs.Common.{None, ◌/◌, Bool, List, ap, arith, cond, length, max, refl, subst, suc}
+use Rattle.std.proofs.Common.{true, zero, ℕ, ◌*◌, ◌+◌, ◌<◌, ◌∷◌, ◌≡◌, ◌≤◌, []}
+use Rattle.std.specs.Prelude.{Option, is_some}
+use Rattle.std.proofs.lemmas.{Bool.cases_eq, Bool.Decides.nat_tests, Grind.common_steps}
+use Rattle.sixel_base.specs.{History.History, Payload.cropped_height, Place.{height, raster_height}}
+use Rattle.sixel_base.specs.Stroke.{registers}
 use Rattle.sixel_encoder.specs.Marks.{AreAllowed, Back, Definition, Draw, Draws, IsAllowed, Mark}
 use Rattle.sixel_encoder.specs.Marks.{Next, Pen, Pick, covered, first_pen, moved, painted}
-use Rattle.sixel_encoder.specs.RunTokens.{RunToken, row_tokens, sixels}
-use Rattle.sixel_encoder.specs.Text.{Drawing, bands}
+use Rattle.sixel_encoder.specs.{RunTokens.{RunToken, row_tokens, sixels}, Text.{Drawing, bands}}
 use Rattle.sixel_encoder.specs.Trip.{IsWritable, bands_up_to, is_used, trip_height}
 use Rattle.sixel_encoder.proofs.round_trip.{Extent.height-run_tokens, UsedBands.used-pixel}
 use Rattle.sixel_encoder.proofs.round_trip.PenSteps.{Follows, Follows-mark}
-use Rattle.sixel_encoder.proofs.{band_rows.EntryRows.is_lit-past, band_rows.ShortestRows.spells}
-use Rattle.sixel_encoder.proofs.round_trip.TextHistory.{AreSound-row}
-use Rattle.sixel_encoder.proofs.round_trip.TextPalette.{Follows-palette, height-palette}
-use Rattle.sixel_encoder.proofs.round_trip.TextPalette.{raster_height-palette}
+use Rattle.sixel_encoder.proofs.round_trip.{TextHistory.AreSound-row, TextPalette.Follows-palette}
+use Rattle.sixel_encoder.proofs.round_trip.TextPalette.{height-palette, raster_height-palette}
 use Rattle.sixel_encoder.proofs.round_trip.Tokens.{tokens, with_mark, with_marks, with_palette}
 use Rattle.sixel_encoder.proofs.round_trip.Tokens.{with_run_tokens, with_run_token}
+use Rattle.sixel_encoder.proofs.band_rows.{EntryRows.is_lit-past, ShortestRows.spells}
 
 -- ---- the last band that passes a test
 

@@ -1,19 +1,20 @@
 -- A refined text shows the very pixels of an image whose colors registers show, if its palette may
 -- have them all.
-use Rattle.sixel_encoder.proofs.Names.{◌≡◌, ℕ, ◌/◌, ◌<◌, ◌≤◌, List, [], ◌∷◌, ◌++◌, length, refl, ap}
-use Rattle.sixel_encoder.proofs.Names.{◌∙◌, arith, All, Contains, None, slice_index, slice_index_or}
-use Rattle.sixel_encoder.proofs.Names.{nat_tests, get_or-map, length-map}
+use Rattle.std.proofs.Common.{◌≡◌, ℕ, ◌/◌, ◌<◌, ◌≤◌, List, [], ◌∷◌, ◌++◌, length, refl, ap, ◌∙◌}
+use Rattle.std.proofs.{Common.{arith, None, slice_index}, lemmas.Bool.Decides.nat_tests}
+use Rattle.std.proofs.lemmas.List.{get_or-map, length-map}
+use Rattle.std.specs.Prelude.{All, Contains, slice_index_or}
 use Rattle.sixel_base.specs.Payload.{Image}
-use Rattle.sixel_palette.specs.Palette.{AreIndices, HasSize, IsOpaque, IsShown, color_at}
-use Rattle.sixel_palette.specs.Refined.{IsRegisterColor, register_color}
-use Rattle.sixel_palette.specs.Dithering.{mapped_of, undithered_of}
+use Rattle.sixel_palette.specs.{Dithering.{mapped_of, undithered_of}, Palette.{AreIndices, HasSize}}
+use Rattle.sixel_palette.specs.{Palette.{IsOpaque, IsShown, color_at}, Refined.IsRegisterColor}
+use Rattle.sixel_palette.specs.Refined.{register_color}
 use Rattle.sixel_palette.proofs.mapped_images.DiffusionLaws.{nearest-own}
-use Rattle.sixel_palette.proofs.mapped_images.UnditheredLaws.{AreIndices-chosen}
 use Rattle.sixel_palette.proofs.mapped_images.KeptEntries.{entry_of-opaque}
+use Rattle.sixel_palette.proofs.mapped_images.UnditheredLaws.{AreIndices-chosen}
 use Rattle.sixel_palette.proofs.{refinement.Refined.register_color-own, traversal.Law.size_same}
-use Rattle.sixel_encoder.specs.{declared.form.TextForm.TextForm, Encoding.image_fault}
-use Rattle.sixel_encoder.specs.{IndexedDrawing.indexed_drawing, Trip.trip_pixel}
+use Rattle.sixel_encoder.specs.{Encoding.image_fault, IndexedDrawing.indexed_drawing}
 use Rattle.sixel_encoder.specs.RefinedText.{IsRefinedText, ShowsPixels, no_mapping}
+use Rattle.sixel_encoder.specs.{Trip.trip_pixel, declared.form.TextForm.TextForm}
 use Rattle.sixel_encoder.proofs.{drawings.IndexedText.get_or-entries, drawings.Sizes.within-sound}
 
 module _ (image : Image) (max_colors n : ℕ) (form : TextForm) (text : List ℕ)

@@ -1,10 +1,11 @@
 -- How far the tokens of a text reach: within the width, within the bands, and so without a fault.
-use Rattle.sixel_encoder.proofs.Names.{option_or, None, Option, flat_map, List, arith, length}
-use Rattle.sixel_encoder.proofs.Names.{length-append, max, refl, ℕ, ◌*◌, ◌+◌, ◌<◌, ◌∷◌, ◌≡◌, ◌≤◌}
-use Rattle.sixel_encoder.proofs.Names.{[], ◌∙◌, nat_tests, length-replicate, mul-le, common_steps}
-use Rattle.sixel_base.specs.{Fault.Fault, Limits.Limit, Payload.fault_of, Payload.first_fault}
-use Rattle.sixel_base.specs.History.{Color, History, Token}
-use Rattle.sixel_base.specs.Place.{across, down, height, span, width}
+use Rattle.std.specs.{Option.option_or, Prelude.{Option, flat_map}}
+use Rattle.std.proofs.Common.{None, List, arith, length, length-append, max, refl, ℕ, ◌*◌, ◌+◌, ◌<◌}
+use Rattle.std.proofs.{Common.{◌∷◌, ◌≡◌, ◌≤◌, [], ◌∙◌}, lemmas.Bool.Decides.nat_tests}
+use Rattle.std.proofs.{lemmas.Grind.common_steps, lemmas.List.length-replicate, lemmas.Nat.mul-le}
+use Rattle.sixel_base.specs.{Fault.Fault, History.{Color, History, Token}, Limits.Limit}
+use Rattle.sixel_base.specs.{Payload.{fault_of, first_fault}, Place.{across, down, height, span}}
+use Rattle.sixel_base.specs.Place.{width}
 use Rattle.sixel_encoder.specs.RunTokens.{RunToken, sixels}
 use Rattle.sixel_encoder.proofs.round_trip.RowSteps.{Moved-run_token, field-decimal}
 use Rattle.sixel_encoder.proofs.round_trip.TextHistory.{AreSound, IsSound}

@@ -1,6 +1,6 @@
 -- Marks made step by step: each step may count on what the steps before it established.
-use Rattle.sixel_encoder.proofs.Names.{Option, List, arith, refl, suc, zero, ℕ, ◌++◌, ◌+◌, ◌<◌, ◌∷◌}
-use Rattle.sixel_encoder.proofs.Names.{◌≡◌, [], nat_tests}
+use Rattle.std.proofs.Common.{List, arith, refl, suc, zero, ℕ, ◌++◌, ◌+◌, ◌<◌, ◌∷◌, ◌≡◌, []}
+use Rattle.std.{proofs.lemmas.Bool.Decides.nat_tests, specs.Prelude.Option}
 use Rattle.sixel_base.specs.Picture.{joined}
 use Rattle.sixel_encoder.specs.Marks.{AreAllowed, Mark, Pen, covered, moved, moved_by, painted}
 use Rattle.sixel_encoder.specs.Text.{Drawing}

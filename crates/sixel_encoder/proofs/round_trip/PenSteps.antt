@@ -1,17 +1,17 @@
 -- What marks do to the place, the colors and the sizes: the history is where the pen is.
-use Rattle.sixel_encoder.proofs.Names.{Some, List, arith, false, refl, ℕ, ◌*◌, ◌<◌, ◌∷◌, ◌≡◌, []}
-use Rattle.sixel_encoder.proofs.{Names.nat_tests, round_trip.RowSteps.Moved-row}
-use Rattle.sixel_encoder.proofs.{band_rows.ShortestRows.spells, round_trip.TextHistory.AreSound-row}
-use Rattle.sixel_base.specs.{History.Color, History.History, Limits.whole_limit}
-use Rattle.sixel_base.specs.Place.{across, down, span}
-use Rattle.sixel_base.specs.Stroke.{is_definition, named_by, ratio, registers, selected}
-use Rattle.sixel_base.specs.declared.settings.PixelAspectRatio.{PixelAspectRatio}
-use Rattle.sixel_encoder.specs.Marks.{AreAllowed, Back, Draw, IsAllowed, Mark, Next, Pen, Pick}
-use Rattle.sixel_encoder.specs.Marks.{moved, moved_by}
-use Rattle.sixel_encoder.specs.{RunTokens.row_tokens, Text.Drawing, Text.bands, Trip.IsWritable}
-use Rattle.sixel_encoder.proofs.round_trip.Digits.{fields-numbers, numbers}
-use Rattle.sixel_encoder.proofs.round_trip.Extent.{Fits, Fits-run_tokens, IsWithinLimits}
+use Rattle.std.proofs.Common.{Some, List, arith, false, refl, ℕ, ◌*◌, ◌<◌, ◌∷◌, ◌≡◌, []}
+use Rattle.std.proofs.lemmas.Bool.Decides.{nat_tests}
+use Rattle.sixel_encoder.proofs.{band_rows.ShortestRows.spells, round_trip.Digits.fields-numbers}
+use Rattle.sixel_encoder.proofs.{round_trip.Digits.numbers, round_trip.Extent.Fits}
+use Rattle.sixel_encoder.proofs.round_trip.Extent.{Fits-run_tokens, IsWithinLimits}
+use Rattle.sixel_encoder.proofs.{round_trip.RowSteps.Moved-row, round_trip.TextHistory.AreSound-row}
 use Rattle.sixel_encoder.proofs.round_trip.Tokens.{with_mark, with_marks}
+use Rattle.sixel_base.specs.{History.{Color, History}, Limits.whole_limit, Place.{across, down}}
+use Rattle.sixel_base.specs.{Place.span, Stroke.{is_definition, named_by, ratio, registers}}
+use Rattle.sixel_base.specs.{Stroke.selected, declared.settings.PixelAspectRatio.PixelAspectRatio}
+use Rattle.sixel_encoder.specs.Marks.{AreAllowed, Back, Draw, IsAllowed, Mark, Next, Pen, Pick}
+use Rattle.sixel_encoder.specs.{Marks.{moved, moved_by}, RunTokens.row_tokens, Text.Drawing}
+use Rattle.sixel_encoder.specs.{Text.bands, Trip.IsWritable}
 
 -- ---- a color introducer of one number
 

@@ -1,19 +1,18 @@
 -- What the run-length tokens of a row do to the place, the colors and the pixels.
-use Rattle.sixel_encoder.proofs.Names.{All, decimal, flat_map, List, ap, arith, cond, get_or}
-use Rattle.sixel_encoder.proofs.Names.{length, length-append, replicate, subst, ℕ, ◌++◌, ◌+◌, ◌<◌}
-use Rattle.sixel_encoder.proofs.Names.{◌∷◌, ◌≡◌, ◌≤◌, [], length-replicate, get_or_append_left}
-use Rattle.sixel_encoder.proofs.Names.{get_or-append-add, nat_tests}
-use Rattle.std.proofs.lemmas.List.{get_or-replicate}
-use Rattle.sixel_base.specs.{Limits.repeat_limit, Fields.field, History.History, History.Repeat}
-use Rattle.sixel_base.specs.{History.Sixel, Place.across, Place.down, Place.span}
-use Rattle.sixel_base.specs.Stroke.{Origin, color, pixel, ratio, registers, selected}
+use Rattle.std.specs.Prelude.{All, flat_map}
+use Rattle.std.proofs.Common.{decimal, List, ap, arith, cond, get_or, length, length-append}
+use Rattle.std.proofs.Common.{replicate, subst, ℕ, ◌++◌, ◌+◌, ◌<◌, ◌∷◌, ◌≡◌, ◌≤◌, []}
+use Rattle.std.proofs.lemmas.{Bool.Decides.nat_tests, List.{length-replicate, get_or_append_left}}
+use Rattle.std.proofs.lemmas.List.{get_or-append-add, get_or-replicate}
+use Rattle.sixel_base.specs.{Fields.field, History.{History, Repeat, Sixel}, Limits.repeat_limit}
+use Rattle.sixel_base.specs.{Place.{across, down, span}, Stroke.{Origin, color, pixel, ratio}}
+use Rattle.sixel_base.specs.Stroke.{registers, selected}
 use Rattle.sixel_base.specs.declared.settings.PixelAspectRatio.{PixelAspectRatio}
-use Rattle.sixel_encoder.specs.Marks.{is_lit}
-use Rattle.sixel_encoder.specs.RunTokens.{Many, One, RunToken, row_tokens, sixels}
-use Rattle.sixel_encoder.proofs.round_trip.Digits.{fields-numbers}
-use Rattle.sixel_encoder.proofs.{band_rows.ShortestRows.spells, band_rows.EntryRows.is_lit-past}
-use Rattle.sixel_encoder.proofs.round_trip.TextHistory.{AreSound, AreSound-row, IsSound}
+use Rattle.sixel_encoder.specs.{Marks.is_lit, RunTokens.{Many, One, RunToken, row_tokens, sixels}}
+use Rattle.sixel_encoder.proofs.round_trip.{Digits.fields-numbers, TextHistory.AreSound}
+use Rattle.sixel_encoder.proofs.round_trip.TextHistory.{AreSound-row, IsSound}
 use Rattle.sixel_encoder.proofs.round_trip.Tokens.{with_run_token, with_run_tokens}
+use Rattle.sixel_encoder.proofs.band_rows.{EntryRows.is_lit-past, ShortestRows.spells}
 
 -- a history has gone on by a row of sixels, drawn in the color that was selected
 pub record Moved (row : List ℕ) (old new : History) : Type 0 where

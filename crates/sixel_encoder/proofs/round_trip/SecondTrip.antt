@@ -1,31 +1,30 @@
 -- The second trip: what a transparent image has become by a trip it stays, if it may use as many
 -- colors again.
-use Rattle.sixel_encoder.proofs.Names.{◌≡◌, ℕ, zero, suc, ◌+◌, ◌*◌, ◌<◌, ◌≤◌, Bool, true, false}
-use Rattle.sixel_encoder.proofs.Names.{List, [], ◌∷◌, map, length, refl, ap, sym, subst, ◌∙◌, arith}
-use Rattle.sixel_encoder.proofs.Names.{Option, Some, None, slice_index_or, All, Contains}
-use Rattle.sixel_encoder.proofs.Names.{mul-add-lt, length-map, nat_tests}
+use Rattle.std.proofs.Common.{◌≡◌, ℕ, zero, suc, ◌+◌, ◌*◌, ◌<◌, ◌≤◌, Bool, true, false, List, []}
+use Rattle.std.proofs.Common.{◌∷◌, map, length, refl, ap, sym, subst, ◌∙◌, arith, Some, None}
+use Rattle.std.specs.Prelude.{Option, slice_index_or, All, Contains}
+use Rattle.std.proofs.lemmas.{Bool.Decides.nat_tests, List.length-map, Nat.mul-add-lt}
 use Rattle.sixel_base.specs.declared.settings.BackgroundMode.TheVariants.{Transparent}
-use Rattle.sixel_palette.specs.Palette.{IsShown, IsOpaque, HasSize, color_at}
-use Rattle.sixel_base.specs.{Picture.picture, Payload.Image}
 use Rattle.sixel_base.specs.declared.state.DecoderState.{DecoderState}
+use Rattle.sixel_palette.specs.Palette.{IsShown, IsOpaque, HasSize, color_at}
+use Rattle.sixel_base.specs.{Payload.Image, Picture.picture}
 use Rattle.sixel_palette.proofs.mapped_images.DiffusionLaws.{nearest-own}
-use Rattle.sixel_palette.proofs.traversal.{Order.members_from_order, Choices.three_from_shown}
+use Rattle.sixel_palette.proofs.traversal.{Choices.three_from_shown, Order.members_from_order}
 use Rattle.sixel_palette.proofs.traversal.Size.{complete_from_size, size-le}
-use Rattle.sixel_encoder.specs.Text.{Drawing, entry_at, bands}
-use Rattle.sixel_encoder.specs.Trip.{IsWritable, CanRead, rounded, trip_pixel, trip_height, trip}
-use Rattle.sixel_encoder.specs.Trip.{IsTrip, IsReadAs, is_used, bands_up_to}
-use Rattle.sixel_encoder.specs.Encoding.{image_fault, IsDrawing, IsText}
-use Rattle.sixel_encoder.proofs.round_trip.Trip.{picture-same, image-same}
-use Rattle.sixel_encoder.proofs.round_trip.{Percentages.rounded-rounded, DrawnHeight.bands_up_to-le}
-use Rattle.sixel_encoder.proofs.round_trip.UsedBands.{window-some, window-any}
-use Rattle.sixel_encoder.proofs.round_trip.DrawnHeight.{bands_up_to-none, bands_up_to-more}
-use Rattle.sixel_encoder.proofs.round_trip.TripLimits.{IsWritable-drawn, image_fault-trip}
-use Rattle.sixel_encoder.proofs.round_trip.TripLimits.{bytes-trip, bands-trip}
-use Rattle.sixel_encoder.specs.declared.form.TextForm.TheVariants.{Plain}
-use Rattle.sixel_encoder.proofs.drawings.EncodedText.{read_back-form}
+use Rattle.sixel_encoder.specs.{Encoding.{image_fault, IsDrawing, IsText}, Text.{Drawing, entry_at}}
+use Rattle.sixel_encoder.specs.{Text.bands, Trip.{IsWritable, CanRead, rounded, trip_pixel}}
+use Rattle.sixel_encoder.specs.Trip.{trip_height, trip, IsTrip, IsReadAs, is_used, bands_up_to}
+use Rattle.sixel_encoder.proofs.round_trip.DrawnHeight.{bands_up_to-le, bands_up_to-none}
+use Rattle.sixel_encoder.proofs.round_trip.DrawnHeight.{bands_up_to-more}
+use Rattle.sixel_encoder.proofs.round_trip.{Percentages.rounded-rounded, Trip.picture-same}
+use Rattle.sixel_encoder.proofs.round_trip.{Trip.image-same, TripLimits.IsWritable-drawn}
+use Rattle.sixel_encoder.proofs.round_trip.TripLimits.{image_fault-trip, bytes-trip, bands-trip}
 use Rattle.sixel_encoder.proofs.round_trip.TripPixels.{entry_in, known_in, rounded_entry}
 use Rattle.sixel_encoder.proofs.round_trip.TripPixels.{length-trip, alpha-some, color-some}
 use Rattle.sixel_encoder.proofs.round_trip.TripPixels.{alpha-none, shown-among}
+use Rattle.sixel_encoder.proofs.round_trip.UsedBands.{window-some, window-any}
+use Rattle.sixel_encoder.specs.declared.form.TextForm.TheVariants.{Plain}
+use Rattle.sixel_encoder.proofs.drawings.EncodedText.{read_back-form}
 
 -- ---- an image and its trip, each drawn with as many colors
 

@@ -1,26 +1,27 @@
 -- The tokens of a text of marks are its history, and the text's front is the whole of it.
-use Rattle.sixel_encoder.proofs.Names
-use Names.{list_all, All, IsTrue, Some, flat_map, slice_index_or, List, arith, length-append, refl}
-use Names.{replicate, [], suc, sym, true, zero, ℕ, ◌++◌, ◌+◌, ◌<◌, ◌∷◌, ◌≡◌, ◌≤◌, nat_tests}
-use Names.{common_steps, get_or-append-add, All-head, All-same, All-tail}
-use Rattle.sixel_base.specs.{Limits.repeat_limit, Bytes.is_digit, Bytes.is_parameter}
-use Rattle.sixel_base.specs.{Dcs.after_terminator, History.spellings, Settings.pad_of}
-use Rattle.sixel_base.specs.Bytes.{before_terminator, carrying, count, first_terminator, front}
-use Rattle.sixel_base.specs.History.{AreTokens, Color, History, IsHistory, IsToken, Newline, Raster}
-use Rattle.sixel_base.specs.History.{Repeat, Return, Sixel, Skip, Token, history_of, spelling}
+use Rattle.std.specs.{List.list_all, Prelude.{All, IsTrue, flat_map, slice_index_or}}
+use Rattle.std.proofs.Common.{Some, List, arith, length-append, refl, replicate, [], suc, sym, true}
+use Rattle.std.proofs.Common.{zero, ℕ, ◌++◌, ◌+◌, ◌<◌, ◌∷◌, ◌≡◌, ◌≤◌}
+use Rattle.std.proofs.lemmas.{Bool.Decides.nat_tests, Grind.common_steps, List.get_or-append-add}
+use Rattle.std.proofs.lemmas.List.Elements.{All-head, All-same, All-tail}
+use Rattle.sixel_base.specs.Bytes.{is_digit, is_parameter, before_terminator, carrying, count}
+use Rattle.sixel_base.specs.{Bytes.{first_terminator, front}, Dcs.after_terminator}
+use Rattle.sixel_base.specs.History.{spellings, AreTokens, Color, History, IsHistory, IsToken}
+use Rattle.sixel_base.specs.History.{Newline, Raster, Repeat, Return, Sixel, Skip, Token}
+use Rattle.sixel_base.specs.{History.{history_of, spelling}, Limits.repeat_limit, Settings.pad_of}
 use Rattle.sixel_base.specs.declared.settings.PixelAspectRatio.{PixelAspectRatio}
 use Rattle.sixel_base.proofs.Histories.{carries, history_unique}
 use Rattle.sixel_encoder.specs.Marks.{AreAllowed, AreDefinitions, Back, Definition, Draw, Draws}
 use Rattle.sixel_encoder.specs.Marks.{IsAllowed, Mark, Next, Pen, Pick, first_pen, marks_payload}
-use Rattle.sixel_encoder.specs.{Marks.moved, Text.Drawing, Trip.IsColor, Trip.IsWritable}
+use Rattle.sixel_encoder.specs.{Marks.moved, Text.Drawing, Trip.{IsColor, IsWritable}}
 use Rattle.sixel_encoder.specs.RunTokens.{IsRunToken, Many, One, RunToken, row_tokens, sixels}
 use Rattle.sixel_encoder.proofs.round_trip.Digits.{AreFields, all_digits-decimal}
 use Rattle.sixel_encoder.proofs.round_trip.Digits.{all_parameters-numbers, numbers}
-use Rattle.sixel_encoder.proofs.band_rows.ShortestRows.{spells}
 use Rattle.sixel_encoder.proofs.round_trip.Tokens.{percentages, raster_of, sizes, spellings-tokens}
 use Rattle.sixel_encoder.proofs.round_trip.Tokens.{token-more, tokens, with_definition}
 use Rattle.sixel_encoder.proofs.round_trip.Tokens.{with_definitions, with_mark, with_marks}
 use Rattle.sixel_encoder.proofs.round_trip.Tokens.{with_palette, with_run_token, with_run_tokens}
+use Rattle.sixel_encoder.proofs.band_rows.ShortestRows.{spells}
 
 -- a run-length token of six bits whose count can be written
 abbrev pub IsSound : RunToken → Type 0

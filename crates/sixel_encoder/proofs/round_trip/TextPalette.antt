@@ -1,23 +1,24 @@
 -- What the raster attributes and the definitions of a text leave: the drawing's sizes and shape,
 -- and in each register the color of the last entry that was defined in it, rounded.
-use Rattle.sixel_encoder.proofs.Names.{ap, arith, get_or, ◌*◌, ◌∷◌, ◌≡◌, [], mul-le, nat_tests}
-use Rattle.sixel_encoder.proofs.Names.{None, Option, Some, slice_index_or, slice_set, ◌==◌, List}
-use Rattle.sixel_encoder.proofs.Names.{cond, length, nat_lt, refl, ℕ, ◌<◌, ◌∙◌, get_or-set_other}
-use Rattle.sixel_encoder.proofs.Names.{get_or-set_same, length-set, common_steps}
-use Rattle.sixel_base.specs.{Fields.field, Fields.fields, Limits.whole_limit, Settings.pad_of}
-use Rattle.sixel_base.specs.{declared.settings.PixelAspectRatio.PixelAspectRatio, History.History}
-use Rattle.sixel_base.specs.Place.{height, across, down, raster_height, span}
+use Rattle.std.proofs.Common.{ap, arith, get_or, ◌*◌, ◌∷◌, ◌≡◌, [], None, Some, List, cond, length}
+use Rattle.std.proofs.Common.{nat_lt, refl, ℕ, ◌<◌, ◌∙◌}
+use Rattle.std.proofs.lemmas.{Bool.Decides.nat_tests, Grind.common_steps, List.get_or-set_other}
+use Rattle.std.proofs.lemmas.{List.{get_or-set_same, length-set}, Nat.mul-le}
+use Rattle.std.specs.Prelude.{Option, slice_index_or, slice_set, ◌==◌}
+use Rattle.sixel_base.specs.{Fields.{field, fields}, History.History, Limits.whole_limit}
+use Rattle.sixel_base.specs.{Place.{height, across, down, raster_height, span}, Settings.pad_of}
 use Rattle.sixel_base.specs.Stroke.{ratio, Origin, background, pixel, registers}
-use Rattle.sixel_encoder.specs.{Text.Drawing, Text.bands, Marks.first_pen}
-use Rattle.sixel_encoder.specs.Marks.{register_entry, AreDefinitions, Definition, IsDefinition}
-use Rattle.sixel_encoder.specs.Trip.{IsWritable, IsColor}
-use Rattle.sixel_encoder.proofs.{drawings.Sizes.covered, round_trip.PenSteps.Follows}
-use Rattle.sixel_encoder.proofs.round_trip.Digits.{fields-numbers, numbers}
-use Rattle.sixel_encoder.proofs.round_trip.Extent.{Fits, Fits-color}
+use Rattle.sixel_base.specs.declared.settings.PixelAspectRatio.{PixelAspectRatio}
+use Rattle.sixel_encoder.specs.Marks.{first_pen, register_entry, AreDefinitions, Definition}
+use Rattle.sixel_encoder.specs.{Marks.IsDefinition, Text.{Drawing, bands}, Trip.IsWritable}
+use Rattle.sixel_encoder.specs.Trip.{IsColor}
+use Rattle.sixel_encoder.proofs.drawings.Sizes.{covered}
+use Rattle.sixel_encoder.proofs.round_trip.{Digits.{fields-numbers, numbers}, Extent.Fits}
+use Rattle.sixel_encoder.proofs.round_trip.{Extent.Fits-color, PenSteps.Follows}
 use Rattle.sixel_encoder.proofs.round_trip.TextHistory.{AreFields-percentages, AreFields-sizes}
-use Rattle.sixel_encoder.proofs.round_trip.{TextHistory.pad-small, TripPixels.rounded_entry}
-use Rattle.sixel_encoder.proofs.round_trip.Tokens.{raster_of, sizes, percentages, with_definition}
-use Rattle.sixel_encoder.proofs.round_trip.Tokens.{with_definitions, with_palette}
+use Rattle.sixel_encoder.proofs.round_trip.{TextHistory.pad-small, Tokens.{raster_of, sizes}}
+use Rattle.sixel_encoder.proofs.round_trip.Tokens.{percentages, with_definition, with_definitions}
+use Rattle.sixel_encoder.proofs.round_trip.{Tokens.with_palette, TripPixels.rounded_entry}
 
 -- the fields of the raster attributes
 raster-fields : (drawing : Drawing) → IsWritable drawing

@@ -1,12 +1,12 @@
 -- What the tokens of a text show: each pixel in the register that it was last drawn in.
-use Rattle.sixel_encoder.proofs.Names.{None, Option, Some, slice_index_or, List, ℕ}
-use Rattle.sixel_encoder.proofs.Names.{◌++◌, ◌∷◌, ◌≡◌, arith, [], nat_tests}
-use Rattle.sixel_base.specs.{History.History, Stroke.Origin, Stroke.pixel}
+use Rattle.std.proofs.Common.{None, Some, List, ℕ, ◌++◌, ◌∷◌, ◌≡◌, arith, []}
+use Rattle.std.specs.Prelude.{Option, slice_index_or}
+use Rattle.std.proofs.lemmas.Bool.Decides.{nat_tests}
+use Rattle.sixel_base.specs.{History.History, Stroke.{Origin, pixel}}
 use Rattle.sixel_encoder.specs.Marks.{AreAllowed, Back, Draw, IsAllowed, Mark, Next, Pen, Pick}
-use Rattle.sixel_encoder.specs.Marks.{covered, moved, painted}
-use Rattle.sixel_encoder.specs.{Text.Drawing, Trip.IsWritable}
-use Rattle.sixel_encoder.proofs.round_trip.PenSteps.{Follows, Follows-mark}
-use Rattle.sixel_encoder.proofs.round_trip.{RowSteps.Moved-row, Tokens.with_mark, Tokens.with_marks}
+use Rattle.sixel_encoder.specs.{Marks.{covered, moved, painted}, Text.Drawing, Trip.IsWritable}
+use Rattle.sixel_encoder.proofs.round_trip.{PenSteps.{Follows, Follows-mark}, RowSteps.Moved-row}
+use Rattle.sixel_encoder.proofs.round_trip.Tokens.{with_mark, with_marks}
 
 -- the color of a pixel in this register of the palette, or the color that it had before
 abbrev pub color_in : List (List ℕ) → List ℕ → Option ℕ → List ℕ

@@ -1,14 +1,16 @@
 -- The tokens of definitions and marks, newest first, and that they spell the text.
-use Rattle.sixel_encoder.proofs.Names.{decimal, slice_index, slice_index_or, List, append_assoc}
-use Rattle.sixel_encoder.proofs.Names.{arith, false, sym, ℕ, ◌++◌, ◌∷◌, ◌≡◌, [], nat_tests}
-use Rattle.sixel_encoder.proofs.{Names.decimal_digit, Names.append-nil, round_trip.Digits.numbers}
-use Rattle.sixel_base.specs.{Bytes.count, Bytes.is_parameter, Settings.pad_of}
-use Rattle.sixel_base.specs.History.{AreTokens, Color, History, IsToken, Newline, Raster, Repeat}
-use Rattle.sixel_base.specs.History.{Return, Sixel, Token, goes_on, spellings, start}
+use Rattle.std.proofs.Common.{decimal, slice_index, List, append_assoc, arith, false, sym, ℕ, ◌++◌}
+use Rattle.std.proofs.Common.{◌∷◌, ◌≡◌, []}
+use Rattle.std.specs.Prelude.{slice_index_or}
+use Rattle.std.proofs.lemmas.{Bool.Decides.nat_tests, Fmt.decimal_digit, List.append-nil}
+use Rattle.sixel_encoder.proofs.round_trip.Digits.{numbers}
+use Rattle.sixel_base.specs.{Bytes.{count, is_parameter}, History.{AreTokens, Color, History}}
+use Rattle.sixel_base.specs.History.{IsToken, Newline, Raster, Repeat, Return, Sixel, Token}
+use Rattle.sixel_base.specs.{History.{goes_on, spellings, start}, Settings.pad_of}
 use Rattle.sixel_palette.specs.Refined.{percentage}
 use Rattle.sixel_encoder.specs.Marks.{Back, Definition, Draw, Mark, Next, Pick, definitions_text}
-use Rattle.sixel_encoder.specs.Marks.{mark_text, marks_payload, marks_text}
-use Rattle.sixel_encoder.specs.RunTokens.{Many, One, RunToken, row_tokens, written}
+use Rattle.sixel_encoder.specs.{Marks.{mark_text, marks_payload, marks_text}, RunTokens.{Many, One}}
+use Rattle.sixel_encoder.specs.RunTokens.{RunToken, row_tokens, written}
 use Rattle.sixel_encoder.specs.{RunTokens.spelling as run_token_spelling, Text.Drawing}
 
 -- a byte that no text takes begins a token after any

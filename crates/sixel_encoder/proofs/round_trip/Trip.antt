@@ -1,26 +1,28 @@
 -- The round trip: what the payload of marks that draw a drawing means is the drawing's trip,
 -- without a fault.
-use Rattle.sixel_encoder.proofs.Names.{get_or-map-range_with_len, length-map-range_with_len, length}
-use Rattle.sixel_encoder.proofs.Names.{slice_index_or, get_or_past, nat_tests, mul-le, arith, false}
-use Rattle.sixel_encoder.proofs.Names.{None, Some, List, ◌++◌, ◌*◌, ◌<◌, ◌∷◌, ◌≡◌, ◌≤◌, map, [], ℕ}
-use Rattle.sixel_base.specs.Color.{default_color, default_registers}
-use Rattle.sixel_base.specs.{Decoder.origin_of, Bytes.front, History.history_of, Limits.Limit}
-use Rattle.sixel_base.specs.{Payload.payload_registers, Picture.picture, Settings.mode_of}
-use Rattle.sixel_base.specs.{Size.banded, declared.state.DecoderState.DecoderState}
-use Rattle.sixel_base.proofs.ToleratedTokens.{effective-off, fault-sound}
-use Rattle.sixel_base.specs.Payload.{Image, image_of, payload_fault, payload_image}
+use Rattle.std.proofs.lemmas.List.FromFn.{get_or-map-range_with_len, length-map-range_with_len}
+use Rattle.std.proofs.lemmas.{List.get_or_past, Bool.Decides.nat_tests, Nat.mul-le}
+use Rattle.std.proofs.Common.{length, arith, false, None, Some, List, ◌++◌, ◌*◌, ◌<◌, ◌∷◌, ◌≡◌, ◌≤◌}
+use Rattle.std.proofs.Common.{map, [], ℕ}
+use Rattle.std.specs.Prelude.{slice_index_or}
+use Rattle.sixel_base.specs.{Bytes.front, Color.{default_color, default_registers}}
+use Rattle.sixel_base.specs.{Decoder.origin_of, History.history_of, Limits.Limit}
+use Rattle.sixel_base.specs.Payload.{payload_registers, Image, image_of, payload_fault}
+use Rattle.sixel_base.specs.{Payload.payload_image, Picture.picture, Settings.mode_of, Size.banded}
 use Rattle.sixel_base.specs.Stroke.{Origin, background, pixel, registers}
+use Rattle.sixel_base.specs.declared.state.DecoderState.{DecoderState}
+use Rattle.sixel_base.proofs.ToleratedTokens.{effective-off, fault-sound}
 use Rattle.sixel_encoder.specs.Marks.{Definition, Draws, Mark, first_pen, marks_payload, painted}
-use Rattle.sixel_encoder.specs.{Marks.moved_by, Marks.register_entry, Trip.trip_pixel}
-use Rattle.sixel_encoder.specs.Text.{Drawing, bands, entry_at}
-use Rattle.sixel_encoder.specs.Trip.{CanShow, IsWritable, blank, drawing_settings, rounded, trip}
+use Rattle.sixel_encoder.specs.{Marks.{moved_by, register_entry}, Text.{Drawing, bands, entry_at}}
+use Rattle.sixel_encoder.specs.Trip.{trip_pixel, CanShow, IsWritable, blank, drawing_settings}
+use Rattle.sixel_encoder.specs.Trip.{rounded, trip}
 use Rattle.sixel_encoder.proofs.round_trip.DrawnHeight.{cropped_height-tokens}
-use Rattle.sixel_encoder.proofs.{round_trip.Extent.first_fault-other, JoinedLists.joined-same}
-use Rattle.sixel_encoder.proofs.round_trip.PenSteps.{Follows, Follows-marks}
-use Rattle.sixel_encoder.proofs.round_trip.{TextHistory.payload-read, TextPalette.register-palette}
-use Rattle.sixel_encoder.proofs.round_trip.TextPalette.{Follows-palette, pixel-palette}
-use Rattle.sixel_encoder.proofs.round_trip.TextPixels.{pixel-marks, color_in}
-use Rattle.sixel_encoder.proofs.round_trip.Tokens.{tokens, with_palette}
+use Rattle.sixel_encoder.proofs.round_trip.{Extent.first_fault-other, PenSteps.Follows}
+use Rattle.sixel_encoder.proofs.round_trip.{PenSteps.Follows-marks, TextHistory.payload-read}
+use Rattle.sixel_encoder.proofs.round_trip.TextPalette.{register-palette, Follows-palette}
+use Rattle.sixel_encoder.proofs.round_trip.{TextPalette.pixel-palette, TextPixels.pixel-marks}
+use Rattle.sixel_encoder.proofs.round_trip.{TextPixels.color_in, Tokens.{tokens, with_palette}}
+use Rattle.sixel_encoder.proofs.JoinedLists.{joined-same}
 
 -- a picture depends on its pixels alone
 pub picture-same : (p q : ℕ → ℕ → List ℕ) (w h : ℕ)

@@ -1,17 +1,18 @@
 -- What is drawn of an image within the limits can be written, and a trip leads to an image within
 -- the limits.
-use Rattle.sixel_encoder.proofs.Names.{◌≡◌, ℕ, Bool, zero, suc, ◌+◌, ◌*◌, ◌<◌, List, ◌∷◌, ◌++◌, map}
-use Rattle.sixel_encoder.proofs.Names.{get_or, arith, [], ◌/◌, ◌%◌, Option, None, All}
-use Rattle.sixel_encoder.proofs.Names.{get_or_default, All-from_get_or, nat_tests}
+use Rattle.std.proofs.Common.{◌≡◌, ℕ, Bool, zero, suc, ◌+◌, ◌*◌, ◌<◌, List, ◌∷◌, ◌++◌, map, get_or}
+use Rattle.std.proofs.Common.{arith, [], ◌/◌, ◌%◌, None}
+use Rattle.std.specs.Prelude.{Option, All}
+use Rattle.std.proofs.lemmas.{Bool.Decides.nat_tests, List.get_or_default}
+use Rattle.std.proofs.lemmas.List.Elements.{All-from_get_or}
 use Rattle.sixel_palette.specs.Palette.{IsShown}
-use Rattle.sixel_base.specs.{Size.banded, Decoder.new_decoder, Payload.Image}
+use Rattle.sixel_base.specs.{Decoder.new_decoder, Payload.Image, Size.banded}
 use Rattle.sixel_base.specs.declared.state.DecoderState.{DecoderState}
 use Rattle.sixel_palette.proofs.traversal.Order.{members_from_order}
-use Rattle.sixel_encoder.specs.{Text.Drawing, Text.bands, Trip.trip}
+use Rattle.sixel_encoder.specs.{Encoding.{IsDrawing, image_fault}, Text.{Drawing, bands}, Trip.trip}
 use Rattle.sixel_encoder.specs.Trip.{IsColor, IsWritable, CanRead, rounded, trip_pixel, trip_height}
-use Rattle.sixel_encoder.specs.Encoding.{IsDrawing, image_fault}
 use Rattle.sixel_encoder.proofs.drawings.Sizes.{within-sound, sound-within}
-use Rattle.sixel_encoder.proofs.round_trip.{Percentages.rounded_byte, DrawnHeight.bands_up_to-le}
+use Rattle.sixel_encoder.proofs.round_trip.{DrawnHeight.bands_up_to-le, Percentages.rounded_byte}
 use Rattle.sixel_encoder.proofs.round_trip.TripPixels.{byte-trip, length-trip}
 
 -- ---- an image's drawing

@@ -1,16 +1,17 @@
 -- What the trip of a drawing shows, byte by byte: each pixel with an entry in its rounded color,
 -- and no other.
-use Rattle.sixel_encoder.proofs.Names.{◌≡◌, ℕ, ◌+◌, ◌*◌, ◌<◌, List, length, get_or, arith, ◌/◌, ◌%◌}
-use Rattle.sixel_encoder.proofs.Names.{slice_index, mul_comm, div-add-mod', div_below, mod_below}
-use Rattle.sixel_encoder.proofs.Names.{nat_tests, Bool, ◌∷◌, ◌++◌, map, refl, sym, ◌∙◌}
-use Rattle.sixel_encoder.proofs.Names.{length-append, [], Option, Some, None, slice_index_or}
-use Rattle.sixel_encoder.proofs.Names.{Contains, get_or_past, length-map, get_or-map, common_steps}
+use Rattle.std.proofs.Common.{◌≡◌, ℕ, ◌+◌, ◌*◌, ◌<◌, List, length, get_or, arith, ◌/◌, ◌%◌}
+use Rattle.std.proofs.Common.{slice_index, Bool, ◌∷◌, ◌++◌, map, refl, sym, ◌∙◌, length-append, []}
+use Rattle.std.proofs.{Common.{Some, None}, Math.Nat.mul_comm, lemmas.Bool.Decides.nat_tests}
+use Rattle.std.proofs.{lemmas.Grind.common_steps, lemmas.List.{get_or_past, length-map, get_or-map}}
+use Rattle.std.proofs.lemmas.Nat.{div-add-mod', div_below, mod_below}
+use Rattle.std.specs.Prelude.{Option, slice_index_or, Contains}
 use Rattle.sixel_base.specs.Picture.{picture}
-use Rattle.sixel_base.proofs.PictureBytes.{get_or-joined, length-joined_below}
 use Rattle.sixel_base.specs.declared.settings.BackgroundMode.TheVariants.{Transparent}
+use Rattle.sixel_base.proofs.PictureBytes.{get_or-joined, length-joined_below}
 use Rattle.sixel_palette.specs.Palette.{IsShown, color_at}
-use Rattle.sixel_encoder.specs.Text.{Drawing, entry_at}
-use Rattle.sixel_encoder.specs.Trip.{IsWritable, rounded, trip_pixel, trip_height, trip}
+use Rattle.sixel_encoder.specs.{Text.{Drawing, entry_at}, Trip.{IsWritable, rounded, trip_pixel}}
+use Rattle.sixel_encoder.specs.Trip.{trip_height, trip}
 
 -- the pixels of a picture have four bytes each
 pub length-picture : (p : ℕ → ℕ → List ℕ) (w h : ℕ)

@@ -1,11 +1,14 @@
 -- Which bands of a drawing are used: those with a pixel that has an entry.
-use Rattle.sixel_encoder.proofs.Names
-use Names.{get_or-map-range_with_len, Any-from_list_any, get_or_default, list_any_none, get_or-drop}
-use Names.{get_or-take, get_or_past, length-drop, length-take, list_any_at, mul-add-lt, div_below}
-use Names.{mod_below, nat_tests, list_any, is_some, Option, get_or, length, mul-le, arith, false}
-use Names.{None, Some, List, drop, take, true, ◌/◌, ◌%◌, ◌*◌, ◌+◌, ◌-◌, ◌<◌, ◌∙◌, ◌≡◌, ap, ℕ}
-use Rattle.sixel_encoder.specs.Text.{Drawing, entry_at, has_dot, row_of}
-use Rattle.sixel_encoder.specs.Trip.{IsWritable, is_used}
+use Rattle.std.proofs.Common.{get_or, length, arith, false, None, Some, List, drop, take, true, ◌/◌}
+use Rattle.std.proofs.Common.{◌%◌, ◌*◌, ◌+◌, ◌-◌, ◌<◌, ◌∙◌, ◌≡◌, ap, ℕ}
+use Rattle.std.proofs.{lemmas.Bool.Decides.nat_tests, lemmas.List.{get_or_default, get_or-drop}}
+use Rattle.std.proofs.lemmas.List.{get_or-take, get_or_past, length-drop, length-take}
+use Rattle.std.proofs.lemmas.List.Folds.{Any-from_list_any, list_any_none, list_any_at}
+use Rattle.std.proofs.{lemmas.List.FromFn.get_or-map-range_with_len, lemmas.Nat.mul-add-lt}
+use Rattle.std.proofs.lemmas.Nat.{div_below, mod_below, mul-le}
+use Rattle.std.specs.{List.list_any, Prelude.{is_some, Option}}
+use Rattle.sixel_encoder.specs.{Text.{Drawing, entry_at, has_dot, row_of}, Trip.IsWritable}
+use Rattle.sixel_encoder.specs.Trip.{is_used}
 use Rattle.sixel_encoder.proofs.{MaskBits.mask-nothing, band_rows.EntryRows.length-row_of}
 
 -- ---- where a part of a list has a value

@@ -1,11 +1,9 @@
 -- A lower bound of the bytes of a band of the plain text, from the columns before one. It is
 -- internal to the encoder: the text of a drawing defines its output.
-use Rattle.std.specs.Prelude.{◌≡◌, ◌≢◌, ℕ, zero, suc, ◌+◌, ◌-◌, ◌<◌, ◌≤◌, ◌==◌, true, List, length}
-use Rattle.std.specs.Prelude.{map, if◌then◌else◌, slice_index}
-use Rattle.std.specs.List.{range_with_len}
-use Rattle.sixel_encoder.specs.declared.bound.RowRuns.{RowRuns}
-use Rattle.sixel_encoder.specs.RunTokens.{cost, row_tokens, tokens_after}
-use Rattle.sixel_encoder.specs.Text.{Drawing, has_dot, row_of, sixel_of}
+use Rattle.std.specs.{List.range_with_len, Prelude.{◌≡◌, ◌≢◌, ℕ, zero, suc, ◌+◌, ◌-◌, ◌<◌, ◌≤◌}}
+use Rattle.std.specs.Prelude.{◌==◌, true, List, length, map, if◌then◌else◌, slice_index}
+use Rattle.sixel_encoder.specs.{RunTokens.{cost, row_tokens, tokens_after}, Text.{Drawing, has_dot}}
+use Rattle.sixel_encoder.specs.{Text.{row_of, sixel_of}, declared.bound.RowRuns.RowRuns}
 
 -- the sum of a function at 0, 1, .. up to before n
 unfoldable pub total : (ℕ → ℕ) → ℕ → ℕ

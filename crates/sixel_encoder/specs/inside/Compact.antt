@@ -4,11 +4,9 @@ use Rattle.std.specs.Prelude.{◌≡◌, ℕ, ◌+◌, ◌*◌, ◌<◌, ◌≤�
 use Rattle.std.specs.Prelude.{slice_index_or, Option, Some, None, [], ◌∷◌, ◌==◌, ◌&&◌, nat_lt}
 use Rattle.std.specs.Prelude.{if◌then◌else◌}
 use Rattle.sixel_encoder.specs.declared.band_entries.BandEntries.{BandEntries}
-use Rattle.sixel_encoder.specs.declared.compact.BandWriter.{BandWriter}
-use Rattle.sixel_encoder.specs.declared.segments.Segment.{Segment}
+use Rattle.sixel_encoder.specs.declared.{compact.BandWriter.BandWriter, segments.Segment.Segment}
 use Rattle.sixel_encoder.specs.declared.text.IndexedImage.{IndexedImage}
-use Rattle.sixel_encoder.specs.Compact.{Drawn}
-use Rattle.sixel_encoder.specs.RegisterOrder.{number_of, rank, runs_of}
+use Rattle.sixel_encoder.specs.{Compact.Drawn, RegisterOrder.{number_of, rank, runs_of}}
 use Rattle.sixel_encoder.specs.Text.{Drawing, entry_at}
 use Rattle.sixel_encoder.specs.inside.Indexed.{IsIndexed, drawing_of}
 

@@ -1,15 +1,12 @@
 -- The rows of sixels of one band: those of some entries from one on, entry after entry, and which
 -- of them have a set pixel. They are internal to the encoder: the text of a drawing defines its
 -- output.
-use Rattle.std.specs.Prelude.{◌≡◌, ℕ, ◌+◌, ◌*◌, ◌<◌, ◌≤◌, ◌==◌, Bool, true, false, ◌&&◌}
-use Rattle.std.specs.Prelude.{if◌then◌else◌, List, [], length, map, slice_index, slice_index_or}
-use Rattle.std.specs.Prelude.{Option, nat_lt}
+use Rattle.std.specs.{List.range_with_len, Prelude.{◌≡◌, ℕ, ◌+◌, ◌*◌, ◌<◌, ◌≤◌, ◌==◌, Bool, true}}
+use Rattle.std.specs.Prelude.{false, ◌&&◌, if◌then◌else◌, List, [], length, map, slice_index}
+use Rattle.std.specs.Prelude.{slice_index_or, Option, nat_lt}
 use Rattle.sixel_palette.specs.Palette.{entry_of}
-use Rattle.std.specs.List.{range_with_len}
-use Rattle.sixel_encoder.specs.declared.band.BandRows.{BandRows}
-use Rattle.sixel_encoder.specs.declared.band.Line.{Line}
-use Rattle.sixel_encoder.specs.declared.text.IndexedImage.{IndexedImage}
-use Rattle.sixel_encoder.specs.Text.{is_entry, has_dot, row_text}
+use Rattle.sixel_encoder.specs.{Text.{is_entry, has_dot, row_text}, declared.band.BandRows.BandRows}
+use Rattle.sixel_encoder.specs.{declared.band.Line.Line, declared.text.IndexedImage.IndexedImage}
 
 -- the sixel of an entry in a column
 abbrev pub cell : List ℕ → ℕ → ℕ → ℕ → ℕ

@@ -3,8 +3,7 @@
 -- has none.
 use Rattle.std.specs.Prelude.{◌≡◌, ℕ, ◌+◌, ◌*◌, ◌<◌, ◌≤◌, length, slice_index}
 use Rattle.sixel_base.specs.Limits.{side_limit}
-use Rattle.sixel_encoder.specs.declared.text.IndexedImage.{IndexedImage}
-use Rattle.sixel_encoder.specs.Text.{Drawing}
+use Rattle.sixel_encoder.specs.{Text.Drawing, declared.text.IndexedImage.IndexedImage}
 pub use Rattle.sixel_palette.specs.Palette.{entry_of}
 pub use Rattle.sixel_encoder.specs.IndexedDrawing.{entries_of}
 

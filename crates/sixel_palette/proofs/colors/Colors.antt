@@ -1,14 +1,11 @@
 -- Colors of three bytes and their codes.
-use Rattle.std.proofs.Common.{◌≡◌, ℕ, suc, ◌-◌, ◌<◌, ◌≤◌, List, [], ◌∷◌, length, get_or}
-use Rattle.std.proofs.Common.{⊎_elim, arith}
-use Rattle.std.specs.List.{All, Contains}
-use Rattle.std.proofs.lemmas.Bool.{cases_lt}
-use Rattle.std.proofs.lemmas.Grind.{same_number_lists}
-use Rattle.std.specs.Int.{abs_diff}
+use Rattle.std.proofs.Common.{◌≡◌, ℕ, suc, ◌-◌, ◌<◌, ◌≤◌, List, [], ◌∷◌, length, get_or, ⊎_elim}
+use Rattle.std.proofs.Common.{arith}
+use Rattle.std.specs.{Int.abs_diff, List.{All, Contains}}
+use Rattle.std.proofs.lemmas.{Bool.cases_lt, Bool.Decides.nat_tests, Grind.same_number_lists}
 use Rattle.sixel_palette.specs.Palette.{distance, square_gap, nearest, rank, no_entry}
 use Rattle.sixel_palette.specs.inside.Codes.{color_of, code_count}
 use Rattle.sixel_palette.proofs.colors.Distance.{same_from_distance, below_three, square-le}
-use Rattle.std.proofs.lemmas.Bool.Decides.{nat_tests}
 
 -- three channels, each a byte
 pub record IsColor (c : List ℕ) : Type 0 where

@@ -1,9 +1,8 @@
 -- Distances of colors: symmetry, the triangle rule, and that only equal colors have none.
 use Rattle.std.proofs.Common.{◌≡◌, ℕ, ◌+◌, ◌-◌, ◌*◌, ◌%◌, ◌<◌, ◌≤◌, List, length, ap, arith}
-use Rattle.std.proofs.lemmas.Grind.{same_number_lists}
+use Rattle.std.proofs.lemmas.{Bool.Decides.nat_tests, Grind.same_number_lists}
 use Rattle.std.specs.Int.{abs_diff}
 use Rattle.sixel_palette.specs.Palette.{distance, square_gap}
-use Rattle.std.proofs.lemmas.Bool.Decides.{nat_tests}
 
 -- squares do not fall
 pub square-le : (a b d : ℕ) → b ≡ a + d → a * a ≤ b * b

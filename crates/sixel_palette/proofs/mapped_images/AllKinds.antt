@@ -1,17 +1,15 @@
 -- Palette indices of all kinds of dithering: one for each pixel, and each that of an entry.
 use Rattle.std.proofs.Common.{◌≡◌, ℕ, ◌<◌, List, length, refl, arith}
-use Rattle.std.specs.Prelude.{◌/◌, slice_index}
-use Rattle.std.proofs.lemmas.Bool.Decides.{nat_tests}
-use Rattle.sixel_palette.specs.Palette.{AreIndices, IsOpaque}
-use Rattle.sixel_palette.specs.declared.dither.Dither.{Dither}
-use Rattle.sixel_palette.specs.declared.dither.Dither.TheVariants.{Diffusion, Off, Ordered}
-use Rattle.sixel_palette.specs.Dithering.{HaveChoice, HaveIndices, Mapped, amplitude_of}
-use Rattle.sixel_palette.specs.Dithering.{moved_image, serpentine, shift_of, undithered_of}
+use Rattle.std.{proofs.lemmas.Bool.Decides.nat_tests, specs.Prelude.{◌/◌, slice_index}}
 use Rattle.sixel_palette.proofs.mapped_images.DitheredIndices.{AreDiffused-none, AreRowsOf}
 use Rattle.sixel_palette.proofs.mapped_images.DitheredIndices.{visit-inside}
 use Rattle.sixel_palette.proofs.mapped_images.MovedPixels.{moved-alpha, moved-length}
 use Rattle.sixel_palette.proofs.mapped_images.Serpentine.{serpentine-serpentine}
 use Rattle.sixel_palette.proofs.mapped_images.UnditheredLaws.{AreChosen-none, chosen-below}
+use Rattle.sixel_palette.specs.Dithering.{HaveChoice, HaveIndices, Mapped, amplitude_of}
+use Rattle.sixel_palette.specs.Dithering.{moved_image, serpentine, shift_of, undithered_of}
+use Rattle.sixel_palette.{specs.Palette.{AreIndices, IsOpaque}, specs.declared.dither.Dither.Dither}
+use Rattle.sixel_palette.specs.declared.dither.Dither.TheVariants.{Diffusion, Off, Ordered}
 
 pub have-count : (dither : Dither) (m : Mapped) (indices : List ℕ) → HaveIndices dither m indices
     → length indices ≡ length m.pixels / 4

@@ -1,12 +1,10 @@
 -- Four lanes of 16 bits as a function of the lane, after each operation, where none of them wraps.
 use Rattle.std.proofs.Common.{◌≡◌, ℕ, ◌+◌, ◌-◌, ◌*◌, ◌/◌, ◌^◌, ◌%◌, ◌<◌, ◌≤◌, max, min, cond, false}
 use Rattle.std.proofs.Common.{List, [], ◌∷◌, length, map, get_or, take, drop, nat_lt, refl, sym, ap}
-use Rattle.std.proofs.Common.{◌∙◌, Fits, w16, arith}
-use Rattle.std.proofs.lemmas.Bool.Decides.{nat_tests}
-use Rattle.std.proofs.lemmas.List.{get_or-map, get_or_past, length-map}
-use Rattle.std.proofs.lemmas.Simd.{length-zip2, get_or-zip2, get_or-replicate, length-sel_l}
-use Rattle.std.proofs.lemmas.Simd.{get_or-sel_l, tops_compared, get_or-chunk, length-chunk}
-use Rattle.std.proofs.lemmas.Simd.{Each1-get_or}
+use Rattle.std.proofs.{Common.{◌∙◌, Fits, w16, arith}, lemmas.Bool.Decides.nat_tests}
+use Rattle.std.proofs.{lemmas.List.{get_or-map, get_or_past, length-map}, lemmas.Simd.length-zip2}
+use Rattle.std.proofs.lemmas.Simd.{get_or-zip2, get_or-replicate, length-sel_l, get_or-sel_l}
+use Rattle.std.proofs.lemmas.Simd.{tops_compared, get_or-chunk, length-chunk, Each1-get_or}
 use lib.Lanes.{Each1, sel_l, top, zip2}
 use Rattle.sixel_palette.specs.Dithering.{passed_on, rounded_sixteenths}
 use Rattle.sixel_palette.specs.inside.Diffusion.{AreLanes, channels, rounded_color}

@@ -3,19 +3,17 @@
 use Rattle.std.proofs.Common.{◌≡◌, ℕ, zero, suc, ◌+◌, ◌-◌, ◌*◌, ◌<◌, List, [], length, refl, ap}
 use Rattle.std.proofs.Common.{subst, ◌∙◌, arith}
 use Rattle.std.specs.Prelude.{◌/◌, All, Contains, slice_index, slice_index_or}
-use Rattle.std.proofs.lemmas.List.{get_or_default, get_or_past}
-use Rattle.std.proofs.lemmas.List.Elements.{All-cons, All-nil}
-use Rattle.sixel_palette.specs.Palette.{AreIndices, IsNearest, IsOpaque, color_at, distance}
-use Rattle.sixel_palette.proofs.colors.Distance.{below_three, distance_self, same_from_distance}
+use Rattle.std.proofs.lemmas.{Bool.Decides.nat_tests, Grind.common_steps, List.get_or_default}
+use Rattle.std.proofs.lemmas.{List.get_or_past, List.Elements.{All-cons, All-nil}}
 use Rattle.sixel_palette.specs.Dithering.{AreDiffused, Mapped, error_above, error_back}
 use Rattle.sixel_palette.specs.Dithering.{error_before, error_behind, error_beyond, errors_of}
 use Rattle.sixel_palette.specs.Dithering.{no_error, opaque_error, passed_on, received, serpentine}
 use Rattle.sixel_palette.specs.Dithering.{sixteenths, target_of_visit, visit_error}
+use Rattle.sixel_palette.specs.Palette.{AreIndices, IsNearest, IsOpaque, color_at, distance}
+use Rattle.sixel_palette.proofs.colors.Distance.{below_three, distance_self, same_from_distance}
 use Rattle.sixel_palette.proofs.mapped_images.DitheredIndices.{AreDiffused-exact, AreRows}
 use Rattle.sixel_palette.proofs.mapped_images.DitheredIndices.{AreIndices-targets, visit-inside}
-use Rattle.std.proofs.lemmas.Bool.Decides.{nat_tests}
 use Rattle.sixel_palette.proofs.nearest_entries.Nearest.{nearest-le}
-use Rattle.std.proofs.lemmas.Grind.{common_steps}
 
 -- ---- bounds
 

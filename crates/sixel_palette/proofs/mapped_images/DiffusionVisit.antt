@@ -3,24 +3,22 @@
 use Rattle.std.proofs.Common.{◌≡◌, ℕ, ◌+◌, ◌*◌, ◌<◌, List, [], ◌∷◌, length, set, ap, sym, subst}
 use Rattle.std.proofs.Common.{◌∙◌, arith, zero, suc, ◌≤◌, refl, inl, inr, replicate}
 use Rattle.std.specs.Prelude.{slice_index, slice_index_or, ◌/◌, ◌%◌}
-use Rattle.std.proofs.lemmas.Bool.Decides.{nat_tests}
-use Rattle.std.proofs.lemmas.List.{get_or-set_other, get_or-set_same, get_or-replicate}
-use Rattle.std.proofs.lemmas.List.{length-replicate, length-set}
-use Rattle.sixel_palette.specs.Palette.{IsOpaque}
-use Rattle.sixel_palette.specs.declared.dithering.mapped.MappedImage.{MappedImage}
-use Rattle.sixel_palette.specs.declared.dithering.mapped.Place.{Place}
-use Rattle.sixel_palette.specs.declared.dithering.diffusion.Neighbors.{Neighbors}
+use Rattle.std.proofs.lemmas.{Bool.cases_lt, Bool.Decides.nat_tests, List.get_or-set_other}
+use Rattle.std.proofs.lemmas.List.{get_or-set_same, get_or-replicate, length-replicate, length-set}
 use Rattle.sixel_palette.specs.Dithering.{IsIndex, Mapped, column_of_step, error_above}
 use Rattle.sixel_palette.specs.Dithering.{error_before, error_behind, error_beyond, neighbor_of}
 use Rattle.sixel_palette.specs.Dithering.{no_error, opaque_error, serpentine, target_of_visit}
 use Rattle.sixel_palette.specs.Dithering.{AreVisited, visit_error, error_back, errors_of}
+use Rattle.sixel_palette.specs.Palette.{IsOpaque}
+use Rattle.sixel_palette.specs.declared.dithering.diffusion.Neighbors.{Neighbors}
+use Rattle.sixel_palette.specs.declared.dithering.mapped.MappedImage.{MappedImage}
+use Rattle.sixel_palette.specs.declared.dithering.mapped.Place.{Place}
 use Rattle.sixel_palette.specs.inside.Diffusion.{AreReceived, AreSixteenths, AreErrors, IsBeyond}
 use Rattle.sixel_palette.specs.inside.Diffusion.{IsLine, IsVisit, channels, color_error}
 use Rattle.sixel_palette.specs.inside.Diffusion.{received_of, rounded_color, no_error_lanes}
 use Rattle.sixel_palette.specs.inside.Mapped.{IsIndexAt, IsMappable, IsPlace, mapped_value}
 use Rattle.sixel_palette.proofs.mapped_images.DitheredIndices.{HasTarget-set, IsIndexAt-dark}
 use Rattle.sixel_palette.proofs.mapped_images.DitheredIndices.{IsIndexAt-light, HasTarget-same}
-use Rattle.std.proofs.lemmas.Bool.{cases_lt}
 use Rattle.sixel_palette.proofs.mapped_images.Serpentine.{column-apart, column-lt, serpentine-apart}
 
 -- an element that is written, and the others

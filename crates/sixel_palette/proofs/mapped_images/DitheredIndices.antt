@@ -1,17 +1,16 @@
 -- Palette indices that are stored one after the other, and those of whole rows.
 use Rattle.std.proofs.Common.{◌≡◌, ℕ, ◌+◌, ◌*◌, ◌<◌, List, length, set, sym, arith}
-use Rattle.std.specs.Prelude.{◌/◌, slice_index}
-use Rattle.std.proofs.lemmas.Bool.Decides.{nat_tests}
+use Rattle.std.{specs.Prelude.{◌/◌, slice_index}, proofs.lemmas.Bool.Decides.nat_tests}
 use Rattle.std.proofs.lemmas.List.{get_or_past, get_or-set_other, get_or-set_same}
-use Rattle.sixel_palette.specs.Palette.{AreIndices, IsOpaque, color_at}
-use Rattle.sixel_palette.specs.Dithering.{AreDiffused, HasTarget, IsIndex, Mapped, errors_of}
-use Rattle.sixel_palette.specs.Dithering.{neighbor_of, serpentine, target_of_visit}
-use Rattle.sixel_palette.specs.declared.dithering.mapped.MappedImage.{MappedImage}
-use Rattle.sixel_palette.specs.inside.Mapped.{AreEntries, IsIndexAt, IsMappable, mapped_value}
 use Rattle.sixel_palette.proofs.mapped_images.KeptEntries.{AreSame, IsIndex-exact, neighbor-inside}
 use Rattle.sixel_palette.proofs.mapped_images.KeptEntries.{neighbor-same}
 use Rattle.sixel_palette.proofs.mapped_images.Serpentine.{serpentine-apart, serpentine-serpentine}
-use Rattle.sixel_palette.proofs.nearest_entries.Nearest.{nearest-le}
+use Rattle.sixel_palette.{proofs.nearest_entries.Nearest.nearest-le, specs.Dithering.AreDiffused}
+use Rattle.sixel_palette.specs.Dithering.{HasTarget, IsIndex, Mapped, errors_of, neighbor_of}
+use Rattle.sixel_palette.{specs.Dithering.{serpentine, target_of_visit}, specs.Palette.AreIndices}
+use Rattle.sixel_palette.specs.Palette.{IsOpaque, color_at}
+use Rattle.sixel_palette.specs.declared.dithering.mapped.MappedImage.{MappedImage}
+use Rattle.sixel_palette.specs.inside.Mapped.{AreEntries, IsIndexAt, IsMappable, mapped_value}
 
 -- ---- one more index
 

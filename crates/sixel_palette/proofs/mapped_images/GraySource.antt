@@ -1,29 +1,24 @@
 -- The pixels that are mapped: those of an image, or its grays. Errors of grays are gray.
 use Rattle.std.proofs.Common.{◌≡◌, ℕ, zero, suc, ◌+◌, ◌*◌, ◌<◌, List, [], ◌∷◌, Bool, true, cond}
 use Rattle.std.proofs.Common.{length, get_or, refl, ap, subst, ◌∙◌, arith, inl, inr, false}
+use Rattle.std.{proofs.lemmas.Bool.{and_parts, cases_lt}, proofs.lemmas.Bool.Decides.nat_tests}
+use Rattle.std.{proofs.lemmas.List.{get_or_default, get_or_past}, specs.Int.abs_diff}
 use Rattle.std.specs.Prelude.{◌/◌, ◌%◌, ◌&&◌, Contains, slice_index, slice_index_or, All}
-use Rattle.std.proofs.lemmas.Bool.{and_parts, cases_lt}
-use Rattle.std.proofs.lemmas.List.{get_or_default, get_or_past}
 use Rattle.sixel_palette.specs.Palette.{AreIndices, IsOpaque, color_at, distance, square_gap}
-use Rattle.sixel_palette.specs.Palette.{entry_of}
-use Rattle.sixel_palette.specs.declared.dither.Dither.{Dither}
+use Rattle.sixel_palette.{specs.Palette.entry_of, specs.declared.dither.Dither.Dither}
 use Rattle.sixel_palette.specs.declared.dither.Dither.TheVariants.{Diffusion, Off, Ordered}
-use Rattle.sixel_palette.specs.declared.mapping.Mapping.{Mapping}
-use Rattle.sixel_palette.specs.Dithering.{AreDithered, mapped_of, Mapped}
-use Rattle.sixel_palette.specs.Dithering.{errors_of, no_error, opaque_error, passed_on, received}
-use Rattle.sixel_palette.specs.Dithering.{sixteenths, target_of_visit, error_above, error_before}
-use Rattle.sixel_palette.specs.Dithering.{error_behind, error_beyond}
+use Rattle.sixel_palette.{specs.declared.mapping.Mapping.Mapping, specs.Dithering.AreDithered}
+use Rattle.sixel_palette.specs.Dithering.{mapped_of, Mapped, errors_of, no_error, opaque_error}
+use Rattle.sixel_palette.specs.Dithering.{passed_on, received, sixteenths, target_of_visit}
+use Rattle.sixel_palette.specs.Dithering.{error_above, error_before, error_behind, error_beyond}
 use Rattle.sixel_palette.specs.Gray.{are_gray, gray_color, gray_pixel, gray_pixels, is_gray}
 use Rattle.sixel_palette.specs.Gray.{maps_grays, measured_pixels, source_pixels}
 use Rattle.sixel_palette.proofs.mapped_images.AllKinds.{have-count, have-entry}
 use Rattle.sixel_palette.proofs.mapped_images.DitheredIndices.{AreRowsOf}
-use Rattle.sixel_palette.proofs.mapped_images.SameVisits.{AreAlike}
-use Rattle.std.proofs.lemmas.Bool.Decides.{nat_tests}
-use Rattle.std.specs.Int.{abs_diff}
-use Rattle.sixel_palette.specs.GrayDiffusion.{AreGrays}
+use Rattle.sixel_palette.{proofs.mapped_images.SameVisits.AreAlike, specs.GrayDiffusion.AreGrays}
 use Rattle.sixel_palette.proofs.mapped_images.DiffusionLaws.{errors-all, neighbors-all}
-use Rattle.sixel_base.proofs.PictureBytes.{length-joined_below}
 use Rattle.sixel_palette.proofs.mapped_images.MovedPixels.{pixel-byte}
+use Rattle.sixel_base.proofs.PictureBytes.{length-joined_below}
 
 -- ---- grays
 

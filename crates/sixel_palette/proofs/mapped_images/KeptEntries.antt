@@ -2,18 +2,16 @@
 use Rattle.std.proofs.Common.{◌≡◌, ℕ, ◌+◌, ◌-◌, ◌*◌, ◌<◌, ◌≤◌, List, false, cond, length, ap, subst}
 use Rattle.std.proofs.Common.{◌∙◌, arith, nat_le, get_or}
 use Rattle.std.specs.Prelude.{◌/◌, ◌%◌, ◌==◌, Option, Some, None, slice_index}
-use Rattle.std.proofs.lemmas.Bool.{cases_eq, cases_lt}
-use Rattle.std.proofs.lemmas.Bool.Decides.{nat_tests}
+use Rattle.std.proofs.lemmas.{Bool.{cases_eq, cases_lt}, Bool.Decides.nat_tests, Grind.common_steps}
 use Rattle.std.proofs.lemmas.Nat.{div-add-mod', div-mul-add, mod-mul-add, mod_below, mul-le}
+use Rattle.sixel_palette.specs.Dithering.{IsIndex, Mapped, column_of_step, entry_above}
+use Rattle.sixel_palette.specs.Dithering.{entry_before, neighbor_of, serpentine}
 use Rattle.sixel_palette.specs.Palette.{IsNearest, entry_distance, entry_of, nearest, no_entry}
 use Rattle.sixel_palette.proofs.nearest_entries.Nearest.{nearest-le, nearest-reached}
 use Rattle.sixel_palette.specs.declared.dithering.mapped.Kept.{Kept}
-use Rattle.sixel_palette.specs.Dithering.{IsIndex, Mapped, column_of_step, entry_above}
-use Rattle.sixel_palette.specs.Dithering.{entry_before, neighbor_of, serpentine}
 use Rattle.sixel_palette.specs.inside.Mapped.{AreEntries, IsInside, IsKept, kept_value, no_distance}
 use Rattle.sixel_palette.proofs.mapped_images.Serpentine.{column-lt, serpentine-lt}
 use Rattle.sixel_palette.proofs.mapped_images.Serpentine.{serpentine-serpentine, serpentine-step}
-use Rattle.std.proofs.lemmas.Grind.{common_steps}
 
 pub entry_of-opaque : (pixels indices : List ℕ) (pixel : ℕ) → 128 ≤ get_or pixels (4 * pixel + 3) 0
     → entry_of pixels indices pixel ≡ Some (get_or indices pixel 0)

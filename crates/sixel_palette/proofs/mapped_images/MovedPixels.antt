@@ -1,12 +1,11 @@
 -- The pixels that ordered dithering moves: as many as before, as opaque, and alike where they were.
 use Rattle.std.proofs.Common.{◌≡◌, ℕ, ◌+◌, ◌*◌, ◌<◌, List, [], ◌∷◌, length, get_or, refl, ap, ◌∙◌}
-use Rattle.std.proofs.Common.{arith}
+use Rattle.std.proofs.{Common.arith, lemmas.Bool.Decides.nat_tests}
 use Rattle.std.specs.Prelude.{◌/◌, slice_index}
-use Rattle.std.proofs.lemmas.Bool.Decides.{nat_tests}
 use Rattle.sixel_base.specs.Picture.{joined}
 use Rattle.sixel_base.proofs.PictureBytes.{get_or-joined, length-joined_below}
-use Rattle.sixel_palette.specs.Palette.{color_at, entry_of}
 use Rattle.sixel_palette.specs.Dithering.{moved_color, moved_pixel, moved_pixels}
+use Rattle.sixel_palette.specs.Palette.{color_at, entry_of}
 use Rattle.sixel_palette.proofs.mapped_images.SameVisits.{AreAlike}
 
 -- a byte of a pixel, of which each has four

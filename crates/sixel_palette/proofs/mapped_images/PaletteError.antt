@@ -1,18 +1,15 @@
 -- The error of a palette: sums over the opaque pixels, and what follows where it is none.
-use Rattle.std.proofs.Common.{◌≡◌, ℕ, zero, suc, ◌+◌, ◌*◌, ◌<◌, ◌≤◌, List, []}
-use Rattle.std.proofs.Common.{length, refl, ◌∙◌, arith, inl, inr}
+use Rattle.std.proofs.Common.{◌≡◌, ℕ, zero, suc, ◌+◌, ◌*◌, ◌<◌, ◌≤◌, List, [], length, refl, ◌∙◌}
+use Rattle.std.proofs.{Common.{arith, inl, inr}, lemmas.Bool.{cases_eq, cases_lt}}
+use Rattle.std.proofs.{lemmas.Bool.Decides.nat_tests, lemmas.List.get_or_default}
 use Rattle.std.specs.Prelude.{◌/◌, Contains, All, Option, slice_index}
-use Rattle.std.proofs.lemmas.Bool.{cases_eq, cases_lt}
-use Rattle.std.proofs.lemmas.Bool.Decides.{nat_tests}
-use Rattle.std.proofs.lemmas.List.{get_or_default}
-use Rattle.sixel_palette.specs.Palette.{IsOpaque, color_at, entry_distance, nearest, no_entry}
+use Rattle.sixel_palette.specs.{Dithering.{IsIndex, Mapped, root, tolerance_of}, Palette.IsOpaque}
+use Rattle.sixel_palette.specs.Palette.{color_at, entry_distance, nearest, no_entry}
 use Rattle.sixel_palette.specs.Refined.{opaque_number, opaque_pixels, sum_to, summed_error}
-use Rattle.sixel_palette.proofs.colors.Colors.{Contains-nearest}
-use Rattle.sixel_palette.proofs.colors.Distance.{distance_self}
-use Rattle.sixel_palette.proofs.nearest_entries.Nearest.{nearest-cap, nearest-le}
 use Rattle.sixel_palette.specs.declared.dither.Dither.TheVariants.{Diffusion}
 use Rattle.sixel_palette.specs.declared.mapping.Tolerance.TheVariants.{Auto}
-use Rattle.sixel_palette.specs.Dithering.{IsIndex, Mapped, root, tolerance_of}
+use Rattle.sixel_palette.proofs.{colors.Colors.Contains-nearest, colors.Distance.distance_self}
+use Rattle.sixel_palette.proofs.nearest_entries.Nearest.{nearest-cap, nearest-le}
 
 -- the number of a transparent pixel is 0
 pub number-dark : (number : List ℕ → ℕ) (pixels : List ℕ) (pixel : ℕ)

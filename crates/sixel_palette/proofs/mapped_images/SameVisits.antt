@@ -1,19 +1,17 @@
 -- Images that show the same: the neighbors, targets and errors of their visits are the same.
-use Rattle.std.proofs.Common.{◌≡◌, ℕ, zero, suc, ◌+◌, ◌*◌, ◌<◌, ◌≤◌, List}
-use Rattle.std.proofs.Common.{length, get_or, refl, ap, ◌∙◌, arith, inl, inr}
-use Rattle.std.specs.Prelude.{◌/◌, ◌%◌, slice_index}
-use Rattle.std.proofs.lemmas.Bool.{cases_eq, cases_lt}
-use Rattle.std.proofs.lemmas.Bool.Decides.{nat_tests}
-use Rattle.sixel_palette.specs.Palette.{IsOpaque, color_at, entry_of}
-use Rattle.sixel_palette.specs.Dithering.{Mapped, entry_above, entry_before, errors_of}
-use Rattle.sixel_palette.specs.Dithering.{nearer_entry, neighbor_of, opaque_error, serpentine}
-use Rattle.sixel_palette.specs.Dithering.{sixteenths, target_of_visit, visit_error, with_pixels}
+use Rattle.std.proofs.Common.{◌≡◌, ℕ, zero, suc, ◌+◌, ◌*◌, ◌<◌, ◌≤◌, List, length, get_or, refl, ap}
+use Rattle.std.{proofs.Common.{◌∙◌, arith, inl, inr}, proofs.lemmas.Bool.{cases_eq, cases_lt}}
+use Rattle.std.{proofs.lemmas.Bool.Decides.nat_tests, specs.Prelude.{◌/◌, ◌%◌, slice_index}}
 use Rattle.sixel_palette.proofs.mapped_images.DiffusionVisit.{visit_error-opaque}
 use Rattle.sixel_palette.proofs.mapped_images.DiffusionVisit.{visit_error-transparent}
 use Rattle.sixel_palette.proofs.mapped_images.DitheredIndices.{AreRowsOf, visit-inside}
 use Rattle.sixel_palette.proofs.mapped_images.KeptEntries.{above-lt, entry_of-opaque}
 use Rattle.sixel_palette.proofs.mapped_images.KeptEntries.{entry_of-transparent}
 use Rattle.sixel_palette.proofs.mapped_images.Serpentine.{serpentine-serpentine}
+use Rattle.sixel_palette.specs.Dithering.{Mapped, entry_above, entry_before, errors_of}
+use Rattle.sixel_palette.specs.Dithering.{nearer_entry, neighbor_of, opaque_error, serpentine}
+use Rattle.sixel_palette.specs.Dithering.{sixteenths, target_of_visit, visit_error, with_pixels}
+use Rattle.sixel_palette.specs.Palette.{IsOpaque, color_at, entry_of}
 
 -- pixels that show the same
 pub record AreAlike (p q : List ℕ) : Type 0 where

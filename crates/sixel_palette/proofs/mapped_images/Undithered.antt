@@ -1,10 +1,7 @@
 -- Undithered entries: columns of a band, costs, and the cheapest entry.
 use Rattle.std.proofs.Common.{◌≡◌, ℕ, zero, suc, ◌+◌, ◌-◌, ◌*◌, ◌<◌, ◌≤◌, List, true, false, arith}
-use Rattle.std.proofs.Common.{refl}
-use Rattle.std.proofs.Common.{length}
-use Rattle.std.specs.Prelude.{◌/◌, None, Option, Some, slice_index}
-use Rattle.std.proofs.lemmas.List.{get_or_past}
-use Rattle.std.proofs.lemmas.Bool.Decides.{nat_tests}
+use Rattle.std.{proofs.Common.{refl, length}, specs.Prelude.{◌/◌, None, Option, Some, slice_index}}
+use Rattle.std.{proofs.lemmas.List.get_or_past, proofs.lemmas.Bool.Decides.nat_tests}
 use Rattle.sixel_palette.specs.Palette.{AreIndices, IsNearest, IsOpaque, color_at, entry_of}
 use Rattle.sixel_palette.specs.Undithered.{Undithered, cheaper, cheapest, entry_above, entry_after}
 use Rattle.sixel_palette.specs.Undithered.{entry_before, has_entry, is_entry, lacking, pixel_of}

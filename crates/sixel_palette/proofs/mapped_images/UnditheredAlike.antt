@@ -1,14 +1,12 @@
 -- Images that show the same: without dithering their opaque pixels have the same entries.
-use Rattle.std.proofs.Common.{◌≡◌, ℕ, zero, suc, ◌+◌, ◌*◌, ◌<◌, List, arith, refl}
-use Rattle.std.proofs.Common.{length, inl, inr, sym, ◌∙◌}
+use Rattle.std.proofs.Common.{◌≡◌, ℕ, zero, suc, ◌+◌, ◌*◌, ◌<◌, List, arith, refl, length, inl, inr}
+use Rattle.std.proofs.Common.{sym, ◌∙◌}
 use Rattle.std.specs.Prelude.{◌/◌, ◌%◌, slice_index}
-use Rattle.std.proofs.lemmas.Bool.{cases_lt}
-use Rattle.std.proofs.lemmas.Bool.Decides.{nat_tests}
+use Rattle.std.proofs.lemmas.{Bool.cases_lt, Bool.Decides.nat_tests}
 use Rattle.sixel_palette.specs.Palette.{AreIndices, IsNearest, IsOpaque, entry_of}
 use Rattle.sixel_palette.specs.Undithered.{AreChosen, Undithered, pixel_of}
 use Rattle.sixel_palette.proofs.mapped_images.KeptEntries.{entry_of-opaque, entry_of-transparent}
-use Rattle.sixel_palette.proofs.mapped_images.SameVisits.{AreAlike}
-use Rattle.sixel_palette.proofs.mapped_images.Undithered.{entry_of-past}
+use Rattle.sixel_palette.proofs.mapped_images.{SameVisits.AreAlike, Undithered.entry_of-past}
 use Rattle.sixel_palette.proofs.mapped_images.UnditheredVisits.{AreSameBefore, cheapest-same}
 use Rattle.sixel_palette.proofs.mapped_images.UnditheredVisits.{with_entries}
 

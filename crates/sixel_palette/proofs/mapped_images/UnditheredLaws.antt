@@ -1,22 +1,17 @@
 -- What follows for indices without dithering: they are entries, the nearest ones at no price, and
 -- the summed error is bounded.
-use Rattle.std.proofs.Common.{◌≡◌, ℕ, ◌+◌, ◌*◌, ◌<◌, ◌≤◌, arith}
-use Rattle.std.proofs.Common.{length, inl, inr, ap, ◌∙◌, []}
+use Rattle.std.proofs.Common.{◌≡◌, ℕ, ◌+◌, ◌*◌, ◌<◌, ◌≤◌, arith, length, inl, inr, ap, ◌∙◌, []}
 use Rattle.std.specs.Prelude.{◌/◌, ◌%◌, All, None, Option, Some, slice_index}
-use Rattle.std.proofs.lemmas.Bool.{cases_lt}
-use Rattle.std.proofs.lemmas.Bool.Decides.{nat_tests}
-use Rattle.std.proofs.lemmas.List.{get_or_past}
+use Rattle.std.proofs.lemmas.{Bool.cases_lt, Bool.Decides.nat_tests, List.get_or_past}
 use Rattle.std.proofs.lemmas.Nat.{div-add-mod', mod_below, mul-le}
-use Rattle.sixel_palette.specs.Palette.{AreIndices, IsOpaque, color_at, entry_distance}
-use Rattle.sixel_palette.specs.Palette.{nearest}
+use Rattle.sixel_palette.specs.{Dithering.{index_error, pixel_index_error}, Palette.AreIndices}
+use Rattle.sixel_palette.specs.Palette.{IsOpaque, color_at, entry_distance, nearest}
 use Rattle.sixel_palette.specs.Refined.{opaque_number, opaque_pixels, summed_error}
-use Rattle.sixel_palette.specs.Dithering.{index_error, pixel_index_error}
 use Rattle.sixel_palette.specs.Undithered.{AreChosen, IsChosen, Undithered, cheaper, cheapest, cost}
 use Rattle.sixel_palette.specs.Undithered.{entry_above, entry_after, entry_before, lacking}
 use Rattle.sixel_palette.specs.Undithered.{pixel_of}
 use Rattle.sixel_palette.specs.inside.Mapped.{AreEntries}
-use Rattle.sixel_palette.proofs.colors.Colors.{IsColor, distance-lt}
-use Rattle.sixel_palette.proofs.colors.Shown.{IsColor-color_at}
+use Rattle.sixel_palette.proofs.colors.{Colors.{IsColor, distance-lt}, Shown.IsColor-color_at}
 use Rattle.sixel_palette.proofs.mapped_images.KeptEntries.{nearest-distance}
 use Rattle.sixel_palette.proofs.mapped_images.PaletteError.{number-light, sum_to-more_le}
 use Rattle.sixel_palette.proofs.mapped_images.Undithered.{cheapest-free}

@@ -1,14 +1,12 @@
 -- Visits of undithered pixels: a choice depends on earlier ones only.
 use Rattle.std.proofs.Common.{◌≡◌, ◌≢◌, ◌⊎◌, ℕ, zero, suc, ◌+◌, ◌-◌, ◌*◌, ◌<◌, ◌≤◌, List, arith}
-use Rattle.std.proofs.Common.{refl}
-use Rattle.std.proofs.Common.{length, set, sym, inl, inr, ap, ◌∙◌}
+use Rattle.std.proofs.Common.{refl, length, set, sym, inl, inr, ap, ◌∙◌}
 use Rattle.std.specs.Prelude.{◌/◌, ◌%◌, None, Option, Some, slice_index}
-use Rattle.std.proofs.lemmas.Bool.{cases_eq, cases_lt}
-use Rattle.std.proofs.lemmas.Bool.Decides.{nat_tests}
-use Rattle.std.proofs.lemmas.List.{get_or-set_other, get_or-set_same, length-set}
-use Rattle.std.proofs.lemmas.Nat.{div-mul-add, mod-mul-add, mul-le}
-use Rattle.sixel_palette.specs.Palette.{IsOpaque, color_at, entry_of}
-use Rattle.sixel_palette.specs.Undithered.{AreChosen, IsChosen, Undithered, cheaper, cheapest, cost}
+use Rattle.std.proofs.lemmas.{Bool.{cases_eq, cases_lt}, Bool.Decides.nat_tests}
+use Rattle.std.proofs.lemmas.{List.{get_or-set_other, get_or-set_same, length-set}, Nat.div-mul-add}
+use Rattle.std.proofs.lemmas.Nat.{mod-mul-add, mul-le}
+use Rattle.sixel_palette.specs.{Palette.{IsOpaque, color_at, entry_of}, Undithered.AreChosen}
+use Rattle.sixel_palette.specs.Undithered.{IsChosen, Undithered, cheaper, cheapest, cost}
 use Rattle.sixel_palette.specs.Undithered.{entry_above, entry_after, entry_before, has_entry}
 use Rattle.sixel_palette.specs.Undithered.{lacking_after, lacking_before, pixel_of, top_of}
 use Rattle.sixel_palette.specs.inside.Mapped.{AreEntries}

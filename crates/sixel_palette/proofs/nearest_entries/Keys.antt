@@ -1,16 +1,14 @@
 -- The least key of some entries, and lists of entries of a search.
 use Rattle.std.proofs.Common.{◌≡◌, ℕ, zero, suc, ◌+◌, ◌*◌, ◌/◌, ◌%◌, ◌<◌, ◌≤◌, min, List, [], ◌∷◌}
 use Rattle.std.proofs.Common.{◌++◌, length, get_or, take, refl, ap, ◌∙◌, append_assoc, arith}
-use Rattle.std.proofs.lemmas.List.{take_more, take_all, length-take-le}
-use Rattle.sixel_palette.specs.declared.palette.nearest.cube.Cube.{Cube}
-use Rattle.sixel_palette.specs.declared.palette.nearest.Span.{Span}
+use Rattle.std.proofs.lemmas.{Bool.Decides.nat_tests, List.{take_more, take_all, length-take-le}}
+use Rattle.sixel_palette.specs.declared.{palette.nearest.Span.Span, palette.nearest.cube.Cube.Cube}
 use Rattle.sixel_palette.specs.declared.palette.nearest_entry.Entry.{Entry}
 use Rattle.sixel_palette.specs.declared.palette.nearest_entry.NearestEntry.{NearestEntry}
 use Rattle.sixel_palette.specs.Palette.{distance, no_entry}
-use Rattle.sixel_palette.specs.inside.Nearest.{IsNearestEntry}
 use Rattle.sixel_palette.specs.inside.Keys.{key_of, least_key, AreNumbered, IsInCube}
+use Rattle.sixel_palette.specs.inside.Nearest.{IsNearestEntry}
 use Rattle.sixel_palette.proofs.nearest_entries.NearestEntry.{near_none, near_taken, near_kept}
-use Rattle.std.proofs.lemmas.Bool.Decides.{nat_tests}
 
 -- what stands past the end of a list of entries
 abbrev pub none : Entry

@@ -1,7 +1,6 @@
 -- How the distance to the nearest entry changes with the entries.
 use Rattle.std.proofs.Common.{◌≡◌, ℕ, zero, suc, ◌<◌, ◌≤◌, min, List, [], ◌∷◌, ◌++◌, length, get_or}
-use Rattle.std.proofs.Common.{take, refl, ⊎_elim, arith}
-use Rattle.std.proofs.lemmas.Bool.{cases_lt}
+use Rattle.std.proofs.{Common.{take, refl, ⊎_elim, arith}, lemmas.Bool.cases_lt}
 use Rattle.sixel_palette.specs.Palette.{distance, nearest, no_entry}
 
 -- with no entry it is above every distance of byte colors

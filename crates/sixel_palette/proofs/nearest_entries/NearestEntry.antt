@@ -1,12 +1,11 @@
 -- A color's nearest entry, with no entry and with one more.
 use Rattle.std.proofs.Common.{◌≡◌, ℕ, ◌+◌, ◌<◌, ◌≤◌, List, [], ◌∷◌, ◌++◌, length, get_or, arith}
-use Rattle.std.proofs.lemmas.List.{get_or_append_left, get_or_at, get_or_push, length_push}
+use Rattle.std.proofs.{lemmas.Bool.Decides.nat_tests, lemmas.List.{get_or_append_left, get_or_at}}
+use Rattle.std.proofs.lemmas.List.{get_or_push, length_push}
 use Rattle.sixel_palette.specs.declared.palette.nearest_entry.NearestEntry.{NearestEntry}
-use Rattle.sixel_palette.specs.Palette.{distance, no_entry}
-use Rattle.sixel_palette.specs.inside.Codes.{color_of}
+use Rattle.sixel_palette.specs.{Palette.{distance, no_entry}, inside.Codes.color_of}
 use Rattle.sixel_palette.specs.inside.Nearest.{IsNearestEntry, AreNearest, nearest_at}
 use Rattle.sixel_palette.proofs.nearest_entries.Nearest.{nearest-nil, nearest-push, nearest-le}
-use Rattle.std.proofs.lemmas.Bool.Decides.{nat_tests}
 
 -- a nearer entry replaces it
 pub near_taken : (entries : List (List ℕ)) (p c : List ℕ) (squared index : ℕ) (near : NearestEntry)

@@ -2,23 +2,18 @@
 use Rattle.std.proofs.Common.{◌≡◌, ◌⊎◌, ℕ, ◌+◌, ◌-◌, ◌*◌, ◌/◌, ◌%◌, ◌^◌, ◌<◌, ◌≤◌, List, [], ◌∷◌}
 use Rattle.std.proofs.Common.{false, cond, length, map, get_or, replicate, min, refl, ap, sym, inl}
 use Rattle.std.proofs.Common.{inr, nat_lt, w8, w32, Fits, zero, suc, ◌∙◌, arith}
-use Rattle.std.specs.Int.{abs_diff}
-use Rattle.std.specs.Prelude.{Option, Some, None, slice_index, slice_index_or}
-use Rattle.std.proofs.lemmas.Bool.{cases_lt}
-use Rattle.std.proofs.lemmas.Bool.Decides.{nat_tests}
-use Rattle.std.proofs.lemmas.List.{length-map}
-use Rattle.std.proofs.lemmas.Nat.{mul-le}
-use Rattle.std.proofs.lemmas.Simd.{get_or-replicate, get_or-zip2}
-use Rattle.std.proofs.lemmas.Simd.{length-sel_l, length-zip2, get_or-sel_l, tops_compared}
+use Rattle.std.specs.{Int.abs_diff, Prelude.{Option, Some, None, slice_index, slice_index_or}}
+use Rattle.std.proofs.lemmas.{Bool.cases_lt, Bool.Decides.nat_tests, List.length-map, Nat.mul-le}
+use Rattle.std.proofs.lemmas.Simd.{get_or-replicate, get_or-zip2, length-sel_l, length-zip2}
+use Rattle.std.proofs.lemmas.Simd.{get_or-sel_l, tops_compared}
 use lib.Lanes.{Each1, sel_l, top, zip2}
-use Rattle.sixel_palette.specs.Palette.{distance, entry_distance, no_entry, square_gap}
+use Rattle.sixel_palette.specs.{Dithering.{IsIndex, Mapped, nearer_entry}, Palette.distance}
+use Rattle.sixel_palette.specs.Palette.{entry_distance, no_entry, square_gap}
 use Rattle.sixel_palette.proofs.colors.Distance.{below_three, square-le}
 use Rattle.sixel_palette.proofs.nearest_entries.Nearest.{nearest-le, nearest-reached}
-use Rattle.sixel_palette.specs.Dithering.{IsIndex, Mapped, nearer_entry}
 use Rattle.sixel_palette.specs.declared.dithering.sixteen_entries.SixteenEntries.{SixteenEntries}
-use Rattle.sixel_palette.specs.inside.Diffusion.{channels}
-use Rattle.sixel_palette.specs.inside.SixteenEntries.{AreSixteen, added, beside, fixed_key}
-use Rattle.sixel_palette.specs.inside.SixteenEntries.{lane_key, lane_of}
+use Rattle.sixel_palette.specs.inside.{Diffusion.channels, SixteenEntries.{AreSixteen, added}}
+use Rattle.sixel_palette.specs.inside.SixteenEntries.{beside, fixed_key, lane_key, lane_of}
 
 -- ---- colors
 

@@ -2,17 +2,12 @@
 use Rattle.std.proofs.Common.{◌≡◌, ℕ, zero, suc, ◌+◌, ◌-◌, ◌<◌, ◌≤◌, true, false, cond, List, []}
 use Rattle.std.proofs.Common.{◌∷◌, length, get_or, refl, ap, sym, ⊎_elim, ◌∙◌, arith}
 use Rattle.std.specs.Prelude.{◌⊎◌, nat_lt}
-use Rattle.std.proofs.lemmas.Bool.{cases_lt}
-use Rattle.std.proofs.lemmas.Bool.Decides.{nat_tests}
-use Rattle.std.proofs.lemmas.List.{take_all}
-use Rattle.sixel_palette.specs.declared.palette.bins.Bin.{Bin}
-use Rattle.sixel_palette.specs.declared.palette.gain_cut.ColorBox.{ColorBox}
+use Rattle.std.proofs.lemmas.{Bool.cases_lt, Bool.Decides.nat_tests, List.take_all}
+use Rattle.sixel_palette.specs.declared.{palette.bins.Bin.Bin, palette.gain_cut.ColorBox.ColorBox}
 use Rattle.sixel_palette.specs.declared.palette.gain_cut.Cut.{Cut}
-use Rattle.sixel_palette.specs.ColorSums.{Pixels}
-use Rattle.sixel_palette.specs.GainCut.{Box, best_box, best_cut, box_at, boxes_after, cut_at}
-use Rattle.sixel_palette.specs.GainCut.{first_greatest, gain_at, is_final}
-use Rattle.sixel_palette.specs.inside.Boxes.{AreBoxes, range_of}
-use Rattle.sixel_palette.specs.inside.Sums.{AreBinsOf}
+use Rattle.sixel_palette.specs.{ColorSums.Pixels, GainCut.{Box, best_box, best_cut, box_at}}
+use Rattle.sixel_palette.specs.GainCut.{boxes_after, cut_at, first_greatest, gain_at, is_final}
+use Rattle.sixel_palette.specs.inside.{Boxes.{AreBoxes, range_of}, Sums.AreBinsOf}
 
 -- ---- the greatest gain
 

@@ -1,23 +1,16 @@
 -- The table of bins: a bin with more pixels, and one bin more.
 use Rattle.std.proofs.Common.{◌≡◌, ℕ, zero, suc, ◌+◌, ◌*◌, ◌<◌, ◌≤◌, Bool, true, false, List, []}
 use Rattle.std.proofs.Common.{◌∷◌, ◌++◌, length, get_or, set, map, cond, refl, ap, sym, ◌∙◌, arith}
-use Rattle.std.specs.List.{All, sum_by}
-use Rattle.std.specs.Prelude.{◌/◌, ◌≢◌}
-use Rattle.std.proofs.lemmas.Bool.Decides.{nat_tests}
-use Rattle.std.proofs.lemmas.List.{get_or-set_same, get_or-set_other, get_or_append_left, get_or_at}
-use Rattle.std.proofs.lemmas.List.{length_push, get_or-map, length-map}
-use Rattle.std.specs.List.Sorted.{IsStrictlyIncreasing}
-use Rattle.std.proofs.lemmas.List.Kept.{AllPairs-from_increasing}
-use Rattle.std.proofs.lemmas.List.Sums.{get_or-le-sum_by, sum_by-cons, sum_by-set}
-use Rattle.std.proofs.lemmas.List.Sums.{sum_by-take-le, sum_by_more_le}
-use Rattle.sixel_palette.specs.declared.palette.bins.Bin.{Bin}
+use Rattle.std.proofs.{lemmas.Bool.Decides.nat_tests, lemmas.List.get_or-set_same}
+use Rattle.std.proofs.lemmas.List.{get_or-set_other, get_or_append_left, get_or_at, length_push}
+use Rattle.std.proofs.lemmas.List.{get_or-map, length-map}
+use Rattle.std.proofs.{lemmas.List.Kept.AllPairs-from_increasing, lemmas.List.Sums.get_or-le-sum_by}
+use Rattle.std.proofs.lemmas.List.Sums.{sum_by-cons, sum_by-set, sum_by-take-le, sum_by_more_le}
+use Rattle.std.specs.{List.{All, sum_by}, List.Sorted.IsStrictlyIncreasing, Prelude.{◌/◌, ◌≢◌}}
+use Rattle.sixel_palette.specs.{ColorSums.{Pixels, share, sums_of}, GainCut.corner, Lloyd.is_corner}
+use Rattle.sixel_palette.specs.{Refined.sum_to, declared.palette.bins.Bin.Bin}
 use Rattle.sixel_palette.specs.declared.palette.color_sums.ColorSums.{ColorSums}
-use Rattle.sixel_palette.specs.ColorSums.{Pixels, share, sums_of}
-use Rattle.sixel_palette.specs.GainCut.{corner}
-use Rattle.sixel_palette.specs.Lloyd.{is_corner}
-use Rattle.sixel_palette.specs.Refined.{sum_to}
-use Rattle.sixel_palette.specs.inside.Bins.{IsTable, slot, corners_of}
-use Rattle.sixel_palette.specs.inside.Codes.{color_of}
+use Rattle.sixel_palette.specs.{inside.Bins.{IsTable, slot, corners_of}, inside.Codes.color_of}
 use Rattle.sixel_palette.specs.inside.Sums.{AreBinsOf, IsWholeBin, binned_sums, channels}
 use Rattle.sixel_palette.specs.inside.Sums.{first_counted, total}
 use Rattle.sixel_palette.proofs.refinement.Sums.{sum_by_zero, sum_to-more}

@@ -1,28 +1,21 @@
 -- Sums over codes and over pixels.
 use Rattle.std.proofs.Common.{◌≡◌, ℕ, zero, suc, ◌+◌, ◌*◌, ◌/◌, ◌%◌, ◌<◌, ◌≤◌, List, length, get_or}
 use Rattle.std.proofs.Common.{take, set, replicate, refl, ap, arith, ◌∙◌}
-use Rattle.std.proofs.Math.Nat.{mul-le-mul_left}
-use Rattle.std.proofs.lemmas.List.{length-set, length-replicate, get_or-replicate}
-use Rattle.std.proofs.lemmas.List.{get_or-set_same, get_or-set_other, take_all}
-use Rattle.std.proofs.lemmas.List.Sums.{sum_by_more}
+use Rattle.std.proofs.{Math.Nat.mul-le-mul_left, lemmas.Bool.Decides.nat_tests}
+use Rattle.std.proofs.lemmas.List.{length-set, length-replicate, get_or-replicate, get_or-set_same}
+use Rattle.std.proofs.{lemmas.List.{get_or-set_other, take_all}, lemmas.List.Sums.sum_by_more}
 use Rattle.std.specs.List.{sum}
 use Rattle.sixel_base.specs.Limits.{area_limit}
-use Rattle.sixel_palette.specs.Palette.{nearest, color_at, no_entry, IsShown}
+use Rattle.sixel_palette.specs.{GainCut.bin_step, Palette.{nearest, color_at, no_entry, IsShown}}
 use Rattle.sixel_palette.specs.Refined.{sum_to, pixel_error, opaque_bins, opaque_number}
-use Rattle.sixel_palette.specs.Refined.{summed_error}
-use Rattle.sixel_palette.specs.GainCut.{bin_step}
-use Rattle.sixel_palette.specs.inside.Codes.{color_of, IsPixelWord}
-use Rattle.sixel_palette.specs.inside.Sums.{counted_pixels}
+use Rattle.sixel_palette.specs.{Refined.summed_error, Spread.near_number}
+use Rattle.sixel_palette.specs.{inside.Assignment.IsWeighed, inside.Codes.{color_of, IsPixelWord}}
 use Rattle.sixel_palette.specs.inside.Counts.{dot, AreCounts, counted_error}
-use Rattle.sixel_palette.specs.Spread.{near_number}
-use Rattle.sixel_palette.specs.inside.Assignment.{IsWeighed}
-use Rattle.sixel_palette.specs.inside.Refinement.{near_count}
-use Rattle.sixel_palette.specs.inside.Nearest.{AreNearest}
-use Rattle.sixel_palette.proofs.nearest_entries.Nearest.{nearest-cap}
+use Rattle.sixel_palette.specs.{inside.Nearest.AreNearest, inside.Refinement.near_count}
+use Rattle.sixel_palette.specs.inside.Sums.{counted_pixels}
+use Rattle.sixel_palette.proofs.{nearest_entries.Nearest.nearest-cap, refinement.Sums.sum_to-part}
+use Rattle.sixel_palette.proofs.refinement.Sums.{sum_to-run, sum_to-same, sum_to-set, sum_to-zero}
 pub use Rattle.sixel_palette.proofs.refinement.Sums.{sum_to-more}
-use Rattle.sixel_palette.proofs.refinement.Sums.{sum_to-part, sum_to-run, sum_to-same, sum_to-set}
-use Rattle.sixel_palette.proofs.refinement.Sums.{sum_to-zero}
-use Rattle.std.proofs.lemmas.Bool.Decides.{nat_tests}
 
 -- as many as the number of pixels are opaque, at most
 opaque-le : (pixels : List ℕ) (n : ℕ) → sum_to (opaque_number (λ _. 1) pixels) n ≤ n

@@ -1,22 +1,19 @@
 -- Boxes of bins, and a box that is cut in two.
-use Rattle.std.proofs.Common.{◌≡◌, ℕ, ◌+◌, ◌-◌, ◌<◌, ◌≤◌, Bool, true, cond, List}
-use Rattle.std.proofs.Common.{[], ◌∷◌, ◌++◌, length, get_or, set, take, drop, refl, ap}
-use Rattle.std.proofs.Common.{sym, ⊎_elim, subst, ◌∙◌, arith}
-use Rattle.std.specs.Prelude.{◌≢◌, ◌⊎◌, ◌&&◌, nat_le, nat_lt}
-use Rattle.std.specs.List.{sum_by}
-use Rattle.std.proofs.lemmas.List.{drop-drop, get_or-drop, get_or_default, get_or-set_other}
-use Rattle.std.proofs.lemmas.List.{get_or-set_same, get_or-take, get_or_append_left, get_or_at}
-use Rattle.std.proofs.lemmas.List.{length-drop, same_lists, length-set, length-take, length_push}
-use Rattle.sixel_palette.specs.declared.palette.bins.Bin.{Bin}
+use Rattle.std.proofs.Common.{◌≡◌, ℕ, ◌+◌, ◌-◌, ◌<◌, ◌≤◌, Bool, true, cond, List, [], ◌∷◌, ◌++◌}
+use Rattle.std.proofs.Common.{length, get_or, set, take, drop, refl, ap, sym, ⊎_elim, subst, ◌∙◌}
+use Rattle.std.proofs.{Common.arith, lemmas.Bool.Decides.nat_tests, lemmas.List.drop-drop}
+use Rattle.std.proofs.lemmas.List.{get_or-drop, get_or_default, get_or-set_other, get_or-set_same}
+use Rattle.std.proofs.lemmas.List.{get_or-take, get_or_append_left, get_or_at, length-drop}
+use Rattle.std.proofs.lemmas.List.{same_lists, length-set, length-take, length_push}
+use Rattle.std.specs.{List.sum_by, Prelude.{◌≢◌, ◌⊎◌, ◌&&◌, nat_le, nat_lt}}
+use Rattle.sixel_palette.specs.{ColorSums.Pixels, GainCut.{Box, above, below, best_cut, box_at}}
+use Rattle.sixel_palette.specs.{GainCut.{cut_at, side}, declared.palette.bins.Bin.Bin}
 use Rattle.sixel_palette.specs.declared.palette.gain_cut.Channel.{Channel}
 use Rattle.sixel_palette.specs.declared.palette.gain_cut.ColorBox.{ColorBox}
-use Rattle.sixel_palette.specs.declared.palette.gain_cut.Cut.{Cut}
-use Rattle.sixel_palette.specs.ColorSums.{Pixels}
-use Rattle.sixel_palette.specs.GainCut.{Box, above, below, best_cut, box_at, cut_at, side}
-use Rattle.sixel_palette.specs.inside.Boxes.{AreBoxes, IsRange, high_part, low_part, range_of}
-use Rattle.sixel_palette.specs.inside.Sums.{AreBinsOf, channels, total}
+use Rattle.sixel_palette.specs.{declared.palette.gain_cut.Cut.Cut, inside.Boxes.{AreBoxes, IsRange}}
+use Rattle.sixel_palette.specs.{inside.Boxes.{high_part, low_part, range_of}, inside.Sums.AreBinsOf}
+use Rattle.sixel_palette.specs.inside.Sums.{channels, total}
 use Rattle.sixel_palette.proofs.refinement.Cuts.{side-channels}
-use Rattle.std.proofs.lemmas.Bool.Decides.{nat_tests}
 
 -- ---- a list with one element replaced and one more
 

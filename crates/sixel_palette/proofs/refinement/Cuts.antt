@@ -1,26 +1,21 @@
 -- The best cut of some bins along a channel, by the sums at each value.
 use Rattle.std.proofs.Common.{◌≡◌, ℕ, zero, suc, ◌+◌, ◌-◌, ◌<◌, ◌≤◌, cond, List, [], ◌∷◌, length}
 use Rattle.std.proofs.Common.{get_or, set, inl, inr, refl, sym, ⊎_elim, ◌∙◌, arith}
-use Rattle.std.specs.Prelude.{nat_le, nat_lt}
-use Rattle.std.specs.List.{sum_by}
-use Rattle.std.proofs.Math.Seq.{take-set-lt}
-use Rattle.std.proofs.lemmas.Bool.{cases_lt}
-use Rattle.std.proofs.lemmas.Bool.Decides.{nat_tests}
+use Rattle.std.{specs.Prelude.{nat_le, nat_lt}, specs.List.sum_by, proofs.Math.Seq.take-set-lt}
+use Rattle.std.{proofs.lemmas.Bool.cases_lt, proofs.lemmas.Bool.Decides.nat_tests}
 use Rattle.std.proofs.lemmas.List.{get_or-take, length-set, length-take, take-set-le, take_all}
 use Rattle.std.proofs.lemmas.List.Sums.{sum_by-drop_more, sum_by-set, sum_by-take-drop}
 use Rattle.std.proofs.lemmas.List.Sums.{get_or-le-sum_by, sum_by_more, sum_by_more_le}
-use Rattle.sixel_palette.specs.declared.palette.bins.Bin.{Bin}
+use Rattle.sixel_palette.proofs.refinement.Divide.{low_above, low_below, parts_of, sums_of_parts}
+use Rattle.sixel_palette.{proofs.refinement.Sums.{gain-none, sum_by_zero}, specs.ColorSums.Pixels}
+use Rattle.sixel_palette.specs.GainCut.{Box, above, below, best_to, better, box_sums, cut_gain}
+use Rattle.sixel_palette.{specs.GainCut.{gain, side}, specs.declared.palette.bins.Bin.Bin}
 use Rattle.sixel_palette.specs.declared.palette.color_sums.ColorSums.{ColorSums}
 use Rattle.sixel_palette.specs.declared.palette.gain_cut.Channel.{Channel}
 use Rattle.sixel_palette.specs.declared.palette.gain_cut.Cut.{Cut}
-use Rattle.sixel_palette.specs.declared.palette.gain_cut.Sides.{Sides}
-use Rattle.sixel_palette.specs.ColorSums.{Pixels}
-use Rattle.sixel_palette.specs.GainCut.{Box, above, below, best_to, better, box_sums, cut_gain}
-use Rattle.sixel_palette.specs.GainCut.{gain, side}
-use Rattle.sixel_palette.specs.inside.Boxes.{AreGains, AreWithin, high_part, low_part}
+use Rattle.sixel_palette.{specs.declared.palette.gain_cut.Sides.Sides, specs.inside.Boxes.AreGains}
+use Rattle.sixel_palette.specs.inside.Boxes.{AreWithin, high_part, low_part}
 use Rattle.sixel_palette.specs.inside.Sums.{AreBinsOf, channels, prefix_sums, suffix_sums, total}
-use Rattle.sixel_palette.proofs.refinement.Divide.{low_above, low_below, parts_of, sums_of_parts}
-use Rattle.sixel_palette.proofs.refinement.Sums.{gain-none, sum_by_zero}
 
 -- ---- the best of cuts
 

@@ -2,15 +2,11 @@
 use Rattle.std.proofs.Common.{◌≡◌, ℕ, ◌+◌, ◌-◌, ◌<◌, ◌≤◌, List, [], ◌∷◌, ◌++◌, length, get_or, set}
 use Rattle.std.proofs.Common.{take, drop, refl, ap, sym, ⊎_elim, ◌∙◌, arith}
 use Rattle.std.specs.List.{sum_by, swap}
-use Rattle.std.proofs.lemmas.Bool.{cases_lt}
-use Rattle.std.proofs.lemmas.Bool.Decides.{nat_tests}
-use Rattle.std.proofs.lemmas.Grind.{take-set_at}
+use Rattle.std.proofs.lemmas.{Bool.cases_lt, Bool.Decides.nat_tests, Grind.take-set_at}
 use Rattle.std.proofs.lemmas.List.{drop-drop, drop-set-lt, take-set-le, take_more_set, get_or-drop}
-use Rattle.std.proofs.lemmas.List.{length-drop, length-set}
-use Rattle.std.proofs.lemmas.List.Edits.{swap_is}
+use Rattle.std.proofs.lemmas.{List.{length-drop, length-set}, List.Edits.swap_is}
 use Rattle.std.proofs.lemmas.List.Sums.{sum_by_more, sum_by_push, sum_by-cons, sum_by-take-drop}
-use Rattle.sixel_palette.specs.declared.palette.bins.Bin.{Bin}
-use Rattle.sixel_palette.specs.declared.palette.gain_cut.Channel.{Channel}
+use Rattle.sixel_palette.specs.declared.{palette.bins.Bin.Bin, palette.gain_cut.Channel.Channel}
 use Rattle.sixel_palette.specs.GainCut.{side}
 use Rattle.sixel_palette.specs.inside.Boxes.{high_part, low_part, range_of}
 

@@ -1,26 +1,21 @@
 -- The rounds of Lloyd's algorithm: the entries of bins, and the means of entries.
-use Rattle.std.proofs.Common.{◌≡◌, ℕ, zero, suc, ◌+◌, ◌<◌, ◌≤◌, true, cond, List, [], ◌∷◌}
-use Rattle.std.proofs.Common.{length, get_or, map, set, take, refl, sym, ◌∙◌, arith}
-use Rattle.std.specs.Prelude.{◌==◌}
-use Rattle.std.specs.List.{All, range_with_len, sum_by}
-use Rattle.std.proofs.lemmas.Bool.Decides.{nat_tests}
-use Rattle.std.proofs.lemmas.List.{get_or-set_other, get_or-set_same, get_or_default, length-map}
-use Rattle.std.proofs.lemmas.List.{length-set, same_lists}
+use Rattle.std.proofs.Common.{◌≡◌, ℕ, zero, suc, ◌+◌, ◌<◌, ◌≤◌, true, cond, List, [], ◌∷◌, length}
+use Rattle.std.proofs.Common.{get_or, map, set, take, refl, sym, ◌∙◌, arith}
+use Rattle.std.specs.{List.{All, range_with_len, sum_by}, Prelude.{◌==◌}}
+use Rattle.std.proofs.lemmas.{Bool.Decides.nat_tests, List.{get_or-set_other, get_or-set_same}}
+use Rattle.std.proofs.lemmas.List.{get_or_default, length-map, length-set, same_lists}
 use Rattle.std.proofs.lemmas.List.FromFn.{get_or-map-range_with_len, length-range_with_len}
 use Rattle.std.proofs.lemmas.List.Sums.{get_or-le-sum_by, sum_by-cons, sum_by-set, sum_by_more}
 use Rattle.std.proofs.lemmas.List.Sums.{sum_by_more_le}
 use Rattle.sixel_palette.specs.declared.palette.bins.Bin.{Bin}
 use Rattle.sixel_palette.specs.declared.palette.color_sums.ColorSums.{ColorSums}
 use Rattle.sixel_palette.specs.declared.palette.nearest_entry.NearestEntry.{NearestEntry}
-use Rattle.sixel_palette.specs.Palette.{distance, nearest, no_entry}
-use Rattle.sixel_palette.specs.ColorSums.{Pixels, mean_or, sums_of}
-use Rattle.sixel_palette.specs.GainCut.{corner}
-use Rattle.sixel_palette.specs.Lloyd.{has_entry, improved_entries, mean_bytes}
-use Rattle.sixel_palette.specs.Lloyd.{moved_entries, nearest_index}
-use Rattle.sixel_palette.specs.inside.Counts.{counted_error}
-use Rattle.sixel_palette.specs.inside.Nearest.{IsNearestEntry}
-use Rattle.sixel_palette.specs.inside.Sums.{AreBinsOf, AreIndicesBy, IsWholeBin}
-use Rattle.sixel_palette.specs.inside.Sums.{counted_pixels, entry_sums, total}
+use Rattle.sixel_palette.specs.{ColorSums.{Pixels, mean_or, sums_of}, GainCut.corner}
+use Rattle.sixel_palette.specs.Lloyd.{has_entry, improved_entries, mean_bytes, moved_entries}
+use Rattle.sixel_palette.specs.{Lloyd.nearest_index, Palette.{distance, nearest, no_entry}}
+use Rattle.sixel_palette.specs.inside.{Counts.counted_error, Nearest.IsNearestEntry, Sums.AreBinsOf}
+use Rattle.sixel_palette.specs.inside.Sums.{AreIndicesBy, IsWholeBin, counted_pixels, entry_sums}
+use Rattle.sixel_palette.specs.inside.Sums.{total}
 use Rattle.sixel_palette.proofs.refinement.Sums.{mean_or-same}
 
 -- ---- the nearest entry

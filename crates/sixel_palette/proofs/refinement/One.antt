@@ -1,22 +1,17 @@
 -- That an image has one refined palette: it follows from the opaque colors and their numbers.
-use Rattle.std.proofs.Common.{◌≡◌, ℕ, suc, ◌<◌, ◌≤◌, List, [], ◌∷◌, ◌++◌, length, get_or}
-use Rattle.std.proofs.Common.{map, take, refl, ap, sym, ⊎_elim, ◌∙◌, arith}
+use Rattle.std.proofs.Common.{◌≡◌, ℕ, suc, ◌<◌, ◌≤◌, List, [], ◌∷◌, ◌++◌, length, get_or, map, take}
+use Rattle.std.proofs.Common.{refl, ap, sym, ⊎_elim, ◌∙◌, arith}
 use Rattle.std.specs.List.{All, AllPairs, Contains}
-use Rattle.std.proofs.lemmas.Bool.{cases_lt}
-use Rattle.std.proofs.lemmas.List.{length-append, length-map, take_all}
-use Rattle.sixel_palette.specs.GainCut.{bin_step}
-use Rattle.sixel_palette.specs.Palette.{AreMembers, IsShown, rank}
-use Rattle.sixel_palette.specs.Refined.{AreOnTop, IsRefined, base_entries, cut_entries}
-use Rattle.sixel_palette.specs.Refined.{opaque_bins, opaque_pixels, register_color}
+use Rattle.std.proofs.lemmas.{Bool.cases_lt, Bool.Decides.nat_tests, List.length-append}
+use Rattle.std.proofs.lemmas.{List.{length-map, take_all}, List.Elements.All-tail}
+use Rattle.sixel_palette.specs.{GainCut.bin_step, Palette.{AreMembers, IsShown, rank}}
+use Rattle.sixel_palette.specs.Refined.{AreOnTop, IsRefined, base_entries, cut_entries, opaque_bins}
+use Rattle.sixel_palette.specs.Refined.{opaque_pixels, register_color}
 use Rattle.sixel_palette.specs.declared.palette.refined.RefinedPalette.{RefinedPalette}
-use Rattle.std.proofs.lemmas.List.Elements.{All-tail}
-use Rattle.sixel_palette.proofs.traversal.Apart.{AllPairs-tail}
-use Rattle.sixel_palette.proofs.traversal.Choices.{IsColor-shown}
+use Rattle.sixel_palette.proofs.traversal.{Apart.AllPairs-tail, Choices.IsColor-shown}
+use Rattle.sixel_palette.proofs.traversal.{Law.byte-get_or, Order.{members_alike, order-take}}
 use Rattle.sixel_palette.proofs.colors.Colors.{IsColor, same_from_rank}
-use Rattle.sixel_palette.proofs.traversal.Law.{byte-get_or}
-use Rattle.sixel_palette.proofs.traversal.Order.{members_alike, order-take}
 use Rattle.sixel_palette.proofs.refinement.Tops.{tops_alike}
-use Rattle.std.proofs.lemmas.Bool.Decides.{nat_tests}
 
 -- ---- the members of a set, in order
 

@@ -1,13 +1,11 @@
 -- The refined palette: colors that registers show, and its certificate.
-use Rattle.std.proofs.Common.{◌≡◌, ℕ, ◌<◌, List, [], length, arith}
+use Rattle.std.proofs.{Common.{◌≡◌, ℕ, ◌<◌, List, [], length, arith}, lemmas.Bool.Decides.nat_tests}
 use Rattle.std.specs.List.{All}
-use Rattle.sixel_palette.specs.Palette.{nearest, IsShown, no_entry}
-use Rattle.sixel_palette.specs.PaletteBound.{AreApart, NoListIsBetter}
-use Rattle.sixel_palette.specs.Refined.{IsRegisterColor, register_color}
-use Rattle.sixel_palette.proofs.traversal.Apart.{far_from_others}
-use Rattle.sixel_palette.proofs.colors.Colors.{IsColor, distance-lt}
-use Rattle.sixel_palette.proofs.nearest_entries.Nearest.{nearest-le}
-use Rattle.std.proofs.lemmas.Bool.Decides.{nat_tests}
+use Rattle.sixel_palette.specs.{Palette.{nearest, IsShown, no_entry}, PaletteBound.AreApart}
+use Rattle.sixel_palette.specs.{PaletteBound.NoListIsBetter, Refined.IsRegisterColor}
+use Rattle.sixel_palette.specs.Refined.{register_color}
+use Rattle.sixel_palette.proofs.{traversal.Apart.far_from_others, colors.Colors.IsColor}
+use Rattle.sixel_palette.proofs.{colors.Colors.distance-lt, nearest_entries.Nearest.nearest-le}
 
 -- a register shows the color that it shows for a color
 pub register_color-shown : (c : List ℕ) → IsRegisterColor (register_color c)

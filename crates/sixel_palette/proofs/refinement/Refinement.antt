@@ -1,13 +1,11 @@
 -- A palette with refined entries is the refined palette, and each color has its nearest entry.
 use Rattle.std.proofs.Common.{◌≡◌, ℕ, zero, suc, ◌+◌, ◌*◌, ◌/◌, ◌<◌, ◌≤◌, List, [], ◌∷◌, ◌++◌}
 use Rattle.std.proofs.Common.{length, get_or, map, ap, subst, sym, ◌∙◌, refl, arith, inl, inr}
-use Rattle.std.proofs.lemmas.Bool.{cases_lt}
+use Rattle.std.proofs.lemmas.{Bool.cases_lt, List.{get_or_append_left, length-append, length-map}}
+use Rattle.std.proofs.lemmas.Simd.{map-map}
 use Rattle.std.proofs.Math.Seq.{get_or-append_seam}
 use Rattle.std.specs.List.{All}
-use Rattle.std.proofs.lemmas.List.{get_or_append_left, length-append, length-map}
-use Rattle.std.proofs.lemmas.Simd.{map-map}
-use Rattle.std.specs.declared.alloc.Global.{Global}
-use Rattle.std.specs.declared.vec.Vec.{Vec}
+use Rattle.std.specs.declared.{alloc.Global.Global, vec.Vec.Vec}
 use Rattle.sixel_palette.specs.declared.palette.refined.RefinedPalette.{RefinedPalette}
 use Rattle.sixel_palette.specs.declared.palette.refined.Refinement.{Refinement}
 use Rattle.sixel_palette.specs.Palette.{AreIndices, IsShown, color_at, nearest, no_entry}
@@ -18,11 +16,10 @@ use Rattle.sixel_palette.specs.inside.Codes.{AreShownCodes, IsListed, color_of}
 use Rattle.sixel_palette.specs.inside.Nearest.{AreIndicesTo, AreNearest, IsIndex}
 use Rattle.sixel_palette.specs.inside.Refinement.{HasEntries, IsRefinement}
 use Rattle.sixel_palette.proofs.traversal.Choices.{members_from_codes, IsColor-shown}
-use Rattle.sixel_palette.proofs.refinement.Counts.{pixels_from_counts}
 use Rattle.sixel_palette.proofs.traversal.Farthest.{nearest_from_entry}
-use Rattle.sixel_palette.proofs.refinement.Refined.{nearest_entry-lt, bound_of_shown}
-use Rattle.sixel_palette.proofs.refinement.Tops.{near_listed, tops_alike, tops_fall}
-use Rattle.sixel_palette.proofs.refinement.Tops.{tops_none, tops_occur}
+use Rattle.sixel_palette.proofs.refinement.{Counts.pixels_from_counts, Refined.nearest_entry-lt}
+use Rattle.sixel_palette.proofs.refinement.{Refined.bound_of_shown, Tops.{near_listed, tops_alike}}
+use Rattle.sixel_palette.proofs.refinement.Tops.{tops_fall, tops_none, tops_occur}
 
 module _ (pixels codes : List ℕ) (entries : List (List ℕ)) (squares color_indices : List ℕ)
     (bytes : (k : ℕ) → get_or pixels k 0 < 256) (are : AreShownCodes pixels codes)

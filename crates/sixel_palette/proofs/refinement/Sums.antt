@@ -1,18 +1,14 @@
 -- Sums over pixels, their gain, and the sums over bins.
 use Rattle.std.proofs.Common.{◌≡◌, ◌≢◌, ◌⊎◌, ℕ, zero, suc, ◌+◌, ◌*◌, ◌/◌, ◌<◌, ◌≤◌, Bool, true}
 use Rattle.std.proofs.Common.{◌&&◌, List, [], ◌∷◌, length, get_or, take, drop, refl, ◌∙◌, ⊎_elim}
-use Rattle.std.proofs.Common.{add-one, add-suc, add-zero, arith}
-use Rattle.std.proofs.lemmas.Bool.{cases_lt}
+use Rattle.std.proofs.{Common.{add-one, add-suc, add-zero, arith}, lemmas.Bool.cases_lt}
+use Rattle.std.proofs.{lemmas.Bool.Decides.nat_tests, lemmas.List.Sums.sum_by-cons}
+use Rattle.std.proofs.lemmas.List.Sums.{sum_by-take-le, sum_by-take-drop}
 use Rattle.std.specs.List.{sum_by}
-use Rattle.std.proofs.lemmas.Bool.Decides.{nat_tests}
-use Rattle.std.proofs.lemmas.List.Sums.{sum_by-cons, sum_by-take-le, sum_by-take-drop}
 use Rattle.sixel_base.specs.Limits.{area_limit}
-use Rattle.sixel_palette.specs.declared.palette.bins.Bin.{Bin}
-use Rattle.sixel_palette.specs.ColorSums.{Pixels, mean_or, sums_of}
-use Rattle.sixel_palette.specs.GainCut.{Box, box_sums, corner, gain, mean_gap}
-use Rattle.sixel_palette.specs.Refined.{sum_to}
-use Rattle.sixel_palette.specs.inside.Boxes.{binned_pixels}
-use Rattle.sixel_palette.specs.inside.Sums.{AreBinsOf, total}
+use Rattle.sixel_palette.specs.{declared.palette.bins.Bin.Bin, ColorSums.{Pixels, mean_or, sums_of}}
+use Rattle.sixel_palette.specs.{GainCut.{Box, box_sums, corner, gain, mean_gap}, Refined.sum_to}
+use Rattle.sixel_palette.specs.{inside.Boxes.binned_pixels, inside.Sums.{AreBinsOf, total}}
 
 -- ---- sums of sequences
 

@@ -1,23 +1,18 @@
 -- Entries on top of others, each for a color that is far off.
 use Rattle.std.proofs.Common.{◌≡◌, ℕ, ◌*◌, ◌<◌, ◌≤◌, List, [], ◌∷◌, ◌++◌, length, get_or, map, take}
-use Rattle.std.proofs.Common.{append-nil, ⊎_elim, arith}
-use Rattle.std.specs.Int.{abs_diff}
-use Rattle.std.proofs.Math.Nat.{mul-le-mul_left}
-use Rattle.std.specs.List.{All}
-use Rattle.std.proofs.lemmas.Bool.{cases_lt}
+use Rattle.std.proofs.{Common.{append-nil, ⊎_elim, arith}, Math.Nat.mul-le-mul_left}
+use Rattle.std.proofs.{lemmas.Bool.cases_lt, lemmas.Bool.Decides.nat_tests}
 use Rattle.std.proofs.lemmas.List.{take-append-le, take_at, get_or_append_left, get_or_at}
 use Rattle.std.proofs.lemmas.List.{length_push, length-append, get_or-map, length-map}
 use Rattle.std.proofs.lemmas.List.Elements.{All-push, All-nil}
+use Rattle.std.specs.{Int.abs_diff, List.All}
 use Rattle.sixel_base.specs.Color.{byte_of}
-use Rattle.sixel_palette.specs.Palette.{distance, nearest, square_gap}
-use Rattle.sixel_palette.specs.Refined.{AreOnTop, IsFarOff, percentage, register_color}
-use Rattle.sixel_palette.specs.inside.Codes.{color_of, IsListed}
-use Rattle.sixel_palette.specs.inside.Counts.{counted_error}
-use Rattle.sixel_palette.proofs.colors.Colors.{IsColor}
-use Rattle.sixel_palette.proofs.refinement.Sums.{sum_to-le}
-use Rattle.sixel_palette.proofs.nearest_entries.Nearest.{nearest-append, nearest-le}
+use Rattle.sixel_palette.specs.{Palette.{distance, nearest, square_gap}, Refined.AreOnTop}
+use Rattle.sixel_palette.specs.Refined.{IsFarOff, percentage, register_color}
+use Rattle.sixel_palette.specs.{inside.Codes.{color_of, IsListed}, inside.Counts.counted_error}
+use Rattle.sixel_palette.proofs.{colors.Colors.IsColor, nearest_entries.Nearest.nearest-append}
+use Rattle.sixel_palette.proofs.{nearest_entries.Nearest.nearest-le, refinement.Sums.sum_to-le}
 use Rattle.sixel_palette.proofs.traversal.Order.{farthest_alike}
-use Rattle.std.proofs.lemmas.Bool.Decides.{nat_tests}
 
 -- one more color that is far off
 pub far_off_more : (Member : List ℕ → Type 0) (base tops : List (List ℕ)) (c : List ℕ)

@@ -2,14 +2,12 @@
 use Rattle.std.proofs.Common.{◌≡◌, ℕ, suc, ◌+◌, ◌*◌, ◌<◌, ◌≤◌, Bool, true, false, leb, List, []}
 use Rattle.std.proofs.Common.{◌∷◌, length, get_or, refl, arith}
 use Rattle.std.specs.List.{All, AllPairs, Contains, filter}
-use Rattle.std.proofs.lemmas.Bool.{cases_Bool, leb-false, leb-true}
-use Rattle.std.proofs.lemmas.List.Elements.{All-contains_itself, All-nil, All-cons}
-use Rattle.std.proofs.lemmas.List.Elements.{All-filter, filter_passes}
-use Rattle.std.proofs.lemmas.List.Kept.{AllPairs-filter}
-use Rattle.sixel_palette.specs.Palette.{distance}
-use Rattle.sixel_palette.specs.PaletteBound.{AreApart, IsLeastApart, NoListIsBetter}
+use Rattle.std.proofs.lemmas.{Bool.{cases_Bool, leb-false, leb-true}, Bool.Decides.nat_tests}
+use Rattle.std.proofs.lemmas.List.Elements.{All-contains_itself, All-nil, All-cons, All-filter}
+use Rattle.std.proofs.lemmas.{List.Elements.filter_passes, List.Kept.AllPairs-filter}
+use Rattle.sixel_palette.specs.{Palette.distance, PaletteBound.{AreApart, IsLeastApart}}
+use Rattle.sixel_palette.specs.PaletteBound.{NoListIsBetter}
 use Rattle.sixel_palette.proofs.colors.Distance.{distance_comm, distance_through}
-use Rattle.std.proofs.lemmas.Bool.Decides.{nat_tests}
 
 -- pairs of a list without its first element
 pub AllPairs-tail : {X : Type 0} (R : X → X → Type 0) (x : X) (xs : List X) → AllPairs R (x ∷ xs)

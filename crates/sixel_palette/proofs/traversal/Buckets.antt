@@ -1,13 +1,11 @@
 -- Buckets: their bounding boxes, and the farthest color of all.
-use Rattle.std.proofs.Common.{◌≡◌, ℕ, ◌+◌, ◌*◌, ◌/◌, ◌<◌, ◌≤◌, min, List}
-use Rattle.std.proofs.Common.{length, get_or, take, drop, arith}
+use Rattle.std.proofs.Common.{◌≡◌, ℕ, ◌+◌, ◌*◌, ◌/◌, ◌<◌, ◌≤◌, min, List, length, get_or, take}
+use Rattle.std.proofs.{Common.{drop, arith}, lemmas.Bool.Decides.nat_tests}
 use Rattle.sixel_palette.specs.declared.palette.buckets.Interval.{Interval}
-use Rattle.sixel_palette.specs.declared.palette.buckets.Bucket.{Bucket}
-use Rattle.sixel_palette.specs.inside.Codes.{color_of, AreColorCodes}
-use Rattle.sixel_palette.specs.inside.Buckets.{channel, IsInInterval, IsInBox, IsInBucket}
-use Rattle.sixel_palette.specs.inside.Buckets.{AreBuckets, IsFirstGreatest}
+use Rattle.sixel_palette.specs.{declared.palette.buckets.Bucket.Bucket, inside.Codes.color_of}
+use Rattle.sixel_palette.specs.{inside.Codes.AreColorCodes, inside.Buckets.{channel, IsInInterval}}
+use Rattle.sixel_palette.specs.inside.Buckets.{IsInBox, IsInBucket, AreBuckets, IsFirstGreatest}
 use Rattle.sixel_palette.proofs.colors.Lists.{part_at, length-part}
-use Rattle.std.proofs.lemmas.Bool.Decides.{nat_tests}
 
 -- an empty bucket
 abbrev pub none : Bucket

@@ -1,26 +1,20 @@
 -- From the listed codes and the entries chosen among them to the palette of the image and its
 -- certificate.
-use Rattle.std.proofs.Common.{◌≡◌, ℕ, ◌<◌, ◌≤◌, List, [], length, get_or, map, refl}
-use Rattle.std.proofs.Common.{◌∙◌, ⊎_elim, arith}
-use Rattle.std.specs.List.{All, Contains}
-use Rattle.std.specs.List.Sorted.{IsStrictlyIncreasing}
-use Rattle.std.proofs.lemmas.Bool.{cases_lt}
-use Rattle.std.proofs.lemmas.List.{get_or-map, length-map, nil_from_length}
-use Rattle.std.proofs.lemmas.List.Kept.{AllPairs-from_increasing}
-use Rattle.std.proofs.lemmas.List.Elements.{All-push, All-nil}
-use Rattle.sixel_palette.specs.declared.palette.PaletteChoice.{PaletteChoice}
+use Rattle.std.proofs.Common.{◌≡◌, ℕ, ◌<◌, ◌≤◌, List, [], length, get_or, map, refl, ◌∙◌, ⊎_elim}
+use Rattle.std.proofs.{Common.arith, lemmas.Bool.cases_lt, lemmas.List.{get_or-map, length-map}}
+use Rattle.std.proofs.{lemmas.List.nil_from_length, lemmas.List.Kept.AllPairs-from_increasing}
+use Rattle.std.proofs.{lemmas.List.Elements.{All-push, All-nil}, lemmas.Bool.Decides.nat_tests}
+use Rattle.std.specs.{List.{All, Contains}, List.Sorted.IsStrictlyIncreasing}
 use Rattle.sixel_palette.specs.Palette.{nearest, IsShown, HasSize, IsFarthest, IsFarthestFirst}
 use Rattle.sixel_palette.specs.Palette.{AreMembers, IsError, AreWitnesses, no_entry}
 use Rattle.sixel_palette.specs.PaletteBound.{AreApart, NoListIsBetter}
-use Rattle.sixel_palette.specs.inside.Codes.{color_of, IsListed}
-use Rattle.sixel_palette.specs.inside.Chosen.{IsChosen}
+use Rattle.sixel_palette.specs.declared.palette.PaletteChoice.{PaletteChoice}
+use Rattle.sixel_palette.specs.{inside.Chosen.IsChosen, inside.Codes.{color_of, IsListed}}
 use Rattle.sixel_palette.proofs.colors.Colors.{IsColor, rank-color_of, distance-lt}
-use Rattle.sixel_palette.proofs.nearest_entries.Nearest.{nearest-le}
-use Rattle.sixel_palette.proofs.colors.Shown.{IsColor-color_at}
+use Rattle.sixel_palette.proofs.{colors.Shown.IsColor-color_at, nearest_entries.Nearest.nearest-le}
 use Rattle.sixel_palette.proofs.traversal.Order.{farthest_alike, order_alike, members_from_order}
 use Rattle.sixel_palette.proofs.traversal.Order.{apart_from_order, bound_from_order}
 use Rattle.sixel_palette.proofs.traversal.Size.{one_size, complete_from_size}
-use Rattle.std.proofs.lemmas.Bool.Decides.{nat_tests}
 
 -- the colors of rising codes are the members of the set that they list
 pub members_from_codes : (M : List ℕ → Type 0) (codes : List ℕ) → IsStrictlyIncreasing codes

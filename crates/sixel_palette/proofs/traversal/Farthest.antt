@@ -1,20 +1,16 @@
 -- From the distances of the colors to the farthest one, and from their palette indices to those of
 -- the pixels.
-use Rattle.std.proofs.Common.{◌≡◌, ℕ, ◌/◌, ◌%◌, ◌<◌, ◌≤◌, List, [], length, get_or, refl}
-use Rattle.std.proofs.Common.{ap, sym, ◌∙◌, arith}
-use Rattle.std.specs.List.{Contains}
-use Rattle.std.specs.List.Sorted.{IsStrictlyIncreasing}
+use Rattle.std.proofs.Common.{◌≡◌, ℕ, ◌/◌, ◌%◌, ◌<◌, ◌≤◌, List, [], length, get_or, refl, ap, sym}
+use Rattle.std.proofs.{Common.{◌∙◌, arith}, lemmas.Bool.Decides.nat_tests}
 use Rattle.std.proofs.lemmas.List.{get_or_default}
+use Rattle.std.specs.{List.Contains, List.Sorted.IsStrictlyIncreasing}
 use Rattle.sixel_palette.specs.declared.palette.nearest_entry.NearestEntry.{NearestEntry}
-use Rattle.sixel_palette.specs.Palette.{nearest, rank, color_at, IsShown, IsFarthest}
-use Rattle.sixel_palette.specs.Palette.{IsNearest, no_entry}
-use Rattle.sixel_palette.specs.inside.Codes.{color_of, IsListed, IsPixelWord}
+use Rattle.sixel_palette.specs.Palette.{nearest, rank, color_at, IsShown, IsFarthest, IsNearest}
+use Rattle.sixel_palette.specs.{Palette.no_entry, inside.Codes.{color_of, IsListed, IsPixelWord}}
 use Rattle.sixel_palette.specs.inside.Nearest.{IsNearestEntry, AreNearest, IsIndexOf, IsIndex}
 use Rattle.sixel_palette.specs.inside.Buckets.{IsFirstGreatest}
-use Rattle.sixel_palette.proofs.colors.Lists.{increasing-le}
+use Rattle.sixel_palette.proofs.{colors.Colors.rank-color_of, colors.Lists.increasing-le}
 use Rattle.sixel_palette.proofs.nearest_entries.Nearest.{nearest-nil, nearest-le}
-use Rattle.sixel_palette.proofs.colors.Colors.{rank-color_of}
-use Rattle.std.proofs.lemmas.Bool.Decides.{nat_tests}
 
 -- an earlier position has a color that is no later in order
 rank-le : (codes : List ℕ) → IsStrictlyIncreasing codes → (i j : ℕ) → i ≤ j → j < length codes

@@ -1,17 +1,14 @@
 -- Eight lanes: the smaller of two numbers, a choice by the same comparison, the greatest of all.
 use Rattle.std.proofs.Common.{◌≡◌, ◌⊎◌, ℕ, ◌+◌, ◌-◌, ◌*◌, ◌%◌, ◌<◌, ◌≤◌, max, Bool, true, false}
-use Rattle.std.proofs.Common.{cond, nat_lt, w32, arith}
-use Rattle.std.proofs.Common.{List, [], ◌∷◌, ◌++◌, length, get_or, map, ap, sym, ◌∙◌, inl, inr}
-use Rattle.std.proofs.lemmas.Bool.{cases_Bool, cases_lt}
-use Rattle.std.proofs.lemmas.Bool.Decides.{nat_tests}
-use Rattle.std.proofs.lemmas.List.{get_or-map, length-map}
+use Rattle.std.proofs.Common.{cond, nat_lt, w32, arith, List, [], ◌∷◌, ◌++◌, length, get_or, map}
+use Rattle.std.proofs.{Common.{ap, sym, ◌∙◌, inl, inr}, lemmas.Bool.{cases_Bool, cases_lt}}
+use Rattle.std.proofs.{lemmas.Bool.Decides.nat_tests, lemmas.List.{get_or-map, length-map}}
 use Rattle.std.proofs.lemmas.Simd.{length-zip2, get_or-zip2, Each1-zip2, Each2-all, length-sel_l}
 use Rattle.std.proofs.lemmas.Simd.{get_or-sel_l, tops_compared, get_or-put_chunk_below}
 use Rattle.std.proofs.lemmas.Simd.{get_or-put_chunk_at, get_or-put_chunk_above}
 use lib.Lanes.{Each1, put_chunk, sel_l, top, zip2}
 use Rattle.sixel_palette.specs.declared.palette.nearest_entry.NearestEntry.{NearestEntry}
-use Rattle.sixel_palette.specs.Palette.{distance}
-use Rattle.sixel_palette.specs.inside.Nearest.{IsNearestEntry, nearest_at}
+use Rattle.sixel_palette.specs.{Palette.distance, inside.Nearest.{IsNearestEntry, nearest_at}}
 use Rattle.sixel_palette.specs.inside.Buckets.{IsGreatestIn}
 use Rattle.sixel_palette.proofs.nearest_entries.NearestEntry.{near_taken, near_kept}
 

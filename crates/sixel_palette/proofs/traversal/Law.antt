@@ -1,12 +1,10 @@
 -- That an image has one palette and a color one nearest entry.
-use Rattle.std.proofs.Common.{◌≡◌, ℕ, ◌<◌, List, length, get_or, arith}
-use Rattle.std.specs.List.{All}
-use Rattle.std.proofs.lemmas.List.{take_all, get_or_past}
-use Rattle.sixel_palette.specs.Palette.{IsShown, HasSize, IsPalette}
+use Rattle.std.{proofs.Common.{◌≡◌, ℕ, ◌<◌, List, length, get_or, arith}, specs.List.All}
+use Rattle.std.{proofs.lemmas.List.{take_all, get_or_past}, proofs.lemmas.Bool.Decides.nat_tests}
 use Rattle.sixel_palette.proofs.traversal.Choices.{IsColor-shown, three_from_shown}
 use Rattle.sixel_palette.proofs.traversal.Order.{members_alike, order-take, order_alike}
-use Rattle.sixel_palette.proofs.traversal.Size.{one_size}
-use Rattle.std.proofs.lemmas.Bool.Decides.{nat_tests}
+use Rattle.sixel_palette.{proofs.traversal.Size.one_size, specs.Palette.{IsShown, HasSize}}
+use Rattle.sixel_palette.specs.Palette.{IsPalette}
 
 -- bytes are bytes also past the end
 pub byte-get_or : (p : List ℕ) → All (λ b. b < 256) p → (k : ℕ) → get_or p k 0 < 256

@@ -1,18 +1,16 @@
 -- Farthest-first lists: with the next color they lie apart, their entries are members, and a set
 -- has one of each length.
 use Rattle.std.proofs.Common.{◌≡◌, ℕ, zero, suc, ◌<◌, ◌≤◌, List, [], ◌∷◌, ◌++◌, length, get_or}
-use Rattle.std.proofs.Common.{take, refl, add-one, arith}
-use Rattle.std.specs.List.{All}
+use Rattle.std.proofs.{Common.{take, refl, add-one, arith}, lemmas.Bool.Decides.nat_tests}
 use Rattle.std.proofs.lemmas.List.{get_or-take, take-append-le, take_at, get_or_append_left}
 use Rattle.std.proofs.lemmas.List.{get_or_at, take_more_same, length-take, length_push}
-use Rattle.std.proofs.lemmas.List.Quantifiers.{all_pairs_push}
-use Rattle.std.proofs.lemmas.List.Elements.{All-push}
+use Rattle.std.proofs.{lemmas.List.Elements.All-push, lemmas.List.Quantifiers.all_pairs_push}
+use Rattle.std.specs.List.{All}
 use Rattle.sixel_palette.specs.Palette.{distance, nearest, AreMembers, IsFarthest, IsFarthestFirst}
 use Rattle.sixel_palette.specs.PaletteBound.{AreApart, NoListIsBetter}
+use Rattle.sixel_palette.proofs.colors.Colors.{IsColor, same_from_rank}
 use Rattle.sixel_palette.proofs.nearest_entries.Nearest.{nearest-le, nearest-take}
 use Rattle.sixel_palette.proofs.traversal.Apart.{far_from_others}
-use Rattle.sixel_palette.proofs.colors.Colors.{IsColor, same_from_rank}
-use Rattle.std.proofs.lemmas.Bool.Decides.{nat_tests}
 
 -- the entries are members
 pub members_from_order : (Member : List ℕ → Type 0) (entries : List (List ℕ))

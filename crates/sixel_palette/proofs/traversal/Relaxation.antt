@@ -1,17 +1,15 @@
 -- Relaxing distances by one more entry: in a bucket, in all buckets, and in one that is too far.
-use Rattle.std.proofs.Common.{◌≡◌, ◌≢◌, ◌⊎◌, inr, ℕ, ◌+◌, ◌*◌, ◌<◌, ◌≤◌, min, max, List, []}
-use Rattle.std.proofs.Common.{◌∷◌, ◌++◌, length, get_or, set, refl, ⊎_elim, arith}
-use Rattle.std.proofs.lemmas.Bool.{cases_lt}
+use Rattle.std.proofs.Common.{◌≡◌, ◌≢◌, ◌⊎◌, inr, ℕ, ◌+◌, ◌*◌, ◌<◌, ◌≤◌, min, max, List, [], ◌∷◌}
+use Rattle.std.proofs.Common.{◌++◌, length, get_or, set, refl, ⊎_elim, arith}
+use Rattle.std.proofs.{lemmas.Bool.cases_lt, lemmas.Bool.Decides.nat_tests}
 use Rattle.std.proofs.lemmas.List.{get_or-set_same, get_or-set_other, length-set}
-use Rattle.sixel_palette.specs.declared.palette.buckets.Bucket.{Bucket}
+use Rattle.sixel_palette.specs.{Palette.distance, declared.palette.buckets.Bucket.Bucket}
 use Rattle.sixel_palette.specs.declared.palette.nearest_entry.NearestEntry.{NearestEntry}
-use Rattle.sixel_palette.specs.Palette.{distance}
-use Rattle.sixel_palette.specs.inside.Codes.{color_of}
-use Rattle.sixel_palette.specs.inside.Nearest.{IsNearestEntry, AreNearest, nearest_at}
 use Rattle.sixel_palette.specs.inside.Buckets.{IsInBox, IsInBucket, IsGreatestIn, IsBucket}
 use Rattle.sixel_palette.specs.inside.Buckets.{AreBuckets, AreNearestIn, IsSameOutside}
+use Rattle.sixel_palette.specs.{inside.Codes.color_of, inside.Nearest.{IsNearestEntry, AreNearest}}
+use Rattle.sixel_palette.specs.inside.Nearest.{nearest_at}
 use Rattle.sixel_palette.proofs.nearest_entries.NearestEntry.{near_kept}
-use Rattle.std.proofs.lemmas.Bool.Decides.{nat_tests}
 
 -- the distances of the colors at these positions are relaxed by the entries
 abbrev pub AreRelaxedIn : List (List ℕ) → List ℕ → List ℕ → List ℕ → ℕ → ℕ → Type 0

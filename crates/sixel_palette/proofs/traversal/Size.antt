@@ -1,13 +1,12 @@
 -- How many members a set has, and when all of them are entries.
 use Rattle.std.proofs.Common.{◌≡◌, ℕ, ◌*◌, ◌<◌, ◌≤◌, List, length, arith}
+use Rattle.std.proofs.lemmas.Bool.Decides.{nat_tests}
 use Rattle.std.specs.List.{All, AllPairs, Contains}
 use Rattle.sixel_palette.specs.Palette.{distance, rank, AreMembers, HasSize, IsFarthestFirst}
 use Rattle.sixel_palette.specs.PaletteBound.{AreApart}
 use Rattle.sixel_palette.proofs.colors.Distance.{distance_self, same_from_distance}
-use Rattle.sixel_palette.proofs.traversal.Apart.{far_from_others}
-use Rattle.sixel_palette.proofs.colors.Colors.{Contains-nearest}
+use Rattle.sixel_palette.proofs.{traversal.Apart.far_from_others, colors.Colors.Contains-nearest}
 use Rattle.sixel_palette.proofs.traversal.Order.{members_from_order, bound_from_order}
-use Rattle.std.proofs.lemmas.Bool.Decides.{nat_tests}
 
 -- a color of a list is not far from all of the list
 pub near_from_contains : (colors : List (List ℕ)) (c : List ℕ) (least : ℕ) → Contains colors c

@@ -1,13 +1,10 @@
 -- The nearest entry of each distinct color, with the summed squared error, and more entries on top.
-use Rattle.std.specs.Prelude.{◌≡◌, ℕ, ◌<◌, ◌≤◌, List, map, length, All}
-use Rattle.std.specs.List.{sum}
+use Rattle.std.specs.{List.sum, Prelude.{◌≡◌, ℕ, ◌<◌, ◌≤◌, List, map, length, All}}
 use Rattle.sixel_base.specs.Limits.{area_limit}
 use Rattle.sixel_palette.specs.declared.palette.assignment.Assignment.{Assignment}
 use Rattle.sixel_palette.specs.declared.palette.refined.Start.{Start}
 use Rattle.sixel_palette.specs.Refined.{IsRegisterColor, base_entries, cut_entries, register_color}
-use Rattle.sixel_palette.specs.inside.Codes.{color_of}
-use Rattle.sixel_palette.specs.inside.Counts.{counted_error}
-use Rattle.sixel_palette.specs.inside.Sums.{counted_pixels}
+use Rattle.sixel_palette.specs.inside.{Codes.color_of, Counts.counted_error, Sums.counted_pixels}
 use Rattle.sixel_palette.specs.inside.Traversal.{IsTraversal, HasRelaxed}
 
 -- each code has a count, and there are no more pixels than the greatest image has

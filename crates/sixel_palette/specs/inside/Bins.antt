@@ -1,8 +1,7 @@
 -- The bins while colors are added, and the table that finds the last one with a green and a blue.
-use Rattle.std.specs.Prelude.{◌≡◌, ℕ, ◌+◌, ◌*◌, ◌<◌, ◌≤◌, false, List, [], map, length}
-use Rattle.std.specs.Prelude.{slice_index, slice_index_or}
-use Rattle.sixel_palette.specs.declared.palette.bins.Bin.{Bin}
-use Rattle.sixel_palette.specs.Lloyd.{is_corner}
+use Rattle.std.specs.Prelude.{◌≡◌, ℕ, ◌+◌, ◌*◌, ◌<◌, ◌≤◌, false, List, [], map, length, slice_index}
+use Rattle.std.specs.Prelude.{slice_index_or}
+use Rattle.sixel_palette.specs.{Lloyd.is_corner, declared.palette.bins.Bin.Bin}
 
 -- the corners of bins
 abbrev pub corners_of : List Bin → List (List ℕ)

@@ -1,14 +1,12 @@
 -- The bins of colors, and the boxes that a gain cut makes of them: each is a range of the bins.
-use Rattle.std.specs.Prelude.{◌≡◌, ℕ, ◌+◌, ◌-◌, ◌<◌, ◌≤◌, List, take, drop, All, nat_le, nat_lt}
-use Rattle.std.specs.Prelude.{◌≢◌, ◌⊎◌, if◌then◌else◌, length, slice_index_or}
-use Rattle.std.specs.List.{sum_by}
+use Rattle.std.specs.{List.sum_by, Prelude.{◌≡◌, ℕ, ◌+◌, ◌-◌, ◌<◌, ◌≤◌, List, take, drop, All}}
+use Rattle.std.specs.Prelude.{nat_le, nat_lt, ◌≢◌, ◌⊎◌, if◌then◌else◌, length, slice_index_or}
 use Rattle.sixel_palette.specs.declared.palette.bins.Bin.{Bin}
 use Rattle.sixel_palette.specs.declared.palette.color_sums.ColorSums.{ColorSums}
 use Rattle.sixel_palette.specs.declared.palette.gain_cut.Channel.{Channel}
 use Rattle.sixel_palette.specs.declared.palette.gain_cut.ColorBox.{ColorBox}
 use Rattle.sixel_palette.specs.declared.palette.gain_cut.Sides.{Sides}
-use Rattle.sixel_palette.specs.ColorSums.{Pixels}
-use Rattle.sixel_palette.specs.GainCut.{Box, best_cut, box_at, gain, side}
+use Rattle.sixel_palette.specs.{ColorSums.Pixels, GainCut.{Box, best_cut, box_at, gain, side}}
 use Rattle.sixel_palette.specs.inside.Sums.{AreBinsOf, prefix_sums, suffix_sums}
 
 -- the number of pixels in some sums

@@ -2,10 +2,9 @@
 -- and their greatest squared distance to a nearest entry. They only save work.
 use Rattle.std.specs.Prelude.{◌≡◌, ◌⊎◌, ℕ, ◌+◌, ◌*◌, ◌/◌, ◌%◌, ◌≤◌, ◌<◌, List, length, slice_index}
 use Rattle.std.specs.Prelude.{slice_index_or}
-use Rattle.sixel_palette.specs.declared.palette.buckets.Interval.{Interval}
 use Rattle.sixel_palette.specs.declared.palette.buckets.Bucket.{Bucket}
-use Rattle.sixel_palette.specs.inside.Codes.{color_of}
-use Rattle.sixel_palette.specs.inside.Nearest.{IsNearestEntry, nearest_at}
+use Rattle.sixel_palette.specs.declared.palette.buckets.Interval.{Interval}
+use Rattle.sixel_palette.specs.inside.{Codes.color_of, Nearest.{IsNearestEntry, nearest_at}}
 
 -- a channel of a code, by the number that one step of it counts
 abbrev pub channel : ℕ → ℕ → ℕ

@@ -1,7 +1,6 @@
 -- Colors as codes of 24 bits: red is the highest byte, blue the lowest.
-use Rattle.std.specs.Prelude.{◌≡◌, ℕ, ◌+◌, ◌*◌, ◌/◌, ◌%◌, ◌<◌, List, [], ◌∷◌, length, All, Contains}
-use Rattle.std.specs.Prelude.{slice_index}
-use Rattle.std.specs.List.Sorted.{IsStrictlyIncreasing}
+use Rattle.std.specs.{List.Sorted.IsStrictlyIncreasing, Prelude.{◌≡◌, ℕ, ◌+◌, ◌*◌, ◌/◌, ◌%◌, ◌<◌}}
+use Rattle.std.specs.Prelude.{List, [], ◌∷◌, length, All, Contains, slice_index}
 use Rattle.sixel_palette.specs.Palette.{rank, color_at, IsOpaque, IsShown}
 
 -- how many codes there are

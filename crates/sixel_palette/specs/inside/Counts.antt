@@ -1,7 +1,6 @@
 -- The distinct colors of an image's opaque pixels, with the number of pixels that have each.
 use Rattle.std.specs.Prelude.{◌≡◌, ℕ, ◌*◌, ◌/◌, ◌%◌, ◌<◌, ◌≤◌, List, length, slice_index}
-use Rattle.sixel_palette.specs.Palette.{nearest}
-use Rattle.sixel_palette.specs.Refined.{opaque_number, sum_to}
+use Rattle.sixel_palette.specs.{Palette.nearest, Refined.{opaque_number, sum_to}}
 use Rattle.sixel_palette.specs.inside.Sums.{counted_pixels}
 
 -- each code has the number of the first pixels that have its color: whatever number each color has,

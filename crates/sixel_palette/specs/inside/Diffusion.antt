@@ -2,16 +2,15 @@
 -- the latest errors, one a column. It only saves space: the definitions list all errors.
 use Rattle.std.specs.Prelude.{◌≡◌, ◌≢◌, ℕ, ◌+◌, ◌-◌, ◌*◌, ◌%◌, ◌<◌, ◌≤◌, ◌==◌, if◌then◌else◌, List}
 use Rattle.std.specs.Prelude.{[], ◌∷◌, length, slice_index, slice_index_or, Some}
-use Rattle.sixel_palette.specs.declared.dithering.mapped.MappedImage.{MappedImage}
-use Rattle.sixel_palette.specs.inside.Keys.{IsSearchOf}
 use Rattle.sixel_palette.specs.declared.dithering.diffusion.Entries.{Entries}
 use Rattle.sixel_palette.specs.declared.dithering.diffusion.Neighbors.{Neighbors}
+use Rattle.sixel_palette.specs.declared.dithering.mapped.MappedImage.{MappedImage}
 use Rattle.sixel_palette.specs.declared.dithering.sixteen_entries.SixteenEntries.{SixteenEntries}
+use Rattle.sixel_palette.specs.inside.{Keys.IsSearchOf, SixteenEntries.AreSixteen}
 use Rattle.sixel_palette.specs.Dithering.{Mapped, HasTarget, before_share, below_share}
 use Rattle.sixel_palette.specs.Dithering.{column_of_step, error_back, next_share, passed_on}
 use Rattle.sixel_palette.specs.Dithering.{received, rest_share, rounded_sixteenths, serpentine}
 use Rattle.sixel_palette.specs.Dithering.{target_of_visit, visit_error, with_received}
-use Rattle.sixel_palette.specs.inside.SixteenEntries.{AreSixteen}
 
 -- there are four lanes, and each is that of the function
 pub record AreLanes (lanes : List ℕ) (f : ℕ → ℕ) : Type 0 where

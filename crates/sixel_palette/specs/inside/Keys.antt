@@ -3,14 +3,11 @@
 -- first of those.
 use Rattle.std.specs.Prelude.{◌≡◌, ℕ, ◌+◌, ◌-◌, ◌*◌, ◌/◌, ◌%◌, ◌<◌, ◌≤◌, min, List, [], ◌∷◌, ◌++◌}
 use Rattle.std.specs.Prelude.{length, take, drop, slice_index, slice_index_or}
-use Rattle.sixel_palette.specs.declared.palette.nearest.cube.Cube.{Cube}
-use Rattle.sixel_palette.specs.declared.palette.nearest.Lists.{Lists}
-use Rattle.sixel_palette.specs.declared.palette.nearest.Search.{Search}
-use Rattle.sixel_palette.specs.declared.palette.nearest.Span.{Span}
+use Rattle.sixel_palette.specs.declared.{palette.nearest.Lists.Lists, palette.nearest.Search.Search}
+use Rattle.sixel_palette.specs.declared.{palette.nearest.Span.Span, palette.nearest.cube.Cube.Cube}
 use Rattle.sixel_palette.specs.declared.palette.nearest_entry.Entry.{Entry}
 use Rattle.sixel_palette.specs.Palette.{distance, nearest, no_entry}
-use Rattle.sixel_palette.specs.inside.Buckets.{IsInInterval}
-use Rattle.sixel_palette.specs.inside.Codes.{color_of, code_count}
+use Rattle.sixel_palette.specs.inside.{Buckets.IsInInterval, Codes.{color_of, code_count}}
 
 -- the key of an entry for a color
 unfoldable pub key_of : Entry → List ℕ → ℕ

@@ -3,8 +3,7 @@
 use Rattle.std.specs.Prelude.{◌≡◌, ℕ, ◌<◌, List, length}
 use Rattle.sixel_palette.specs.declared.palette.indices.LookUp.{LookUp}
 use Rattle.sixel_palette.specs.Palette.{nearest, IsShown, no_entry}
-use Rattle.sixel_palette.specs.inside.Ranks.{IsColorSetOf}
-use Rattle.sixel_palette.specs.inside.Nearest.{AreNearest}
+use Rattle.sixel_palette.specs.inside.{Nearest.AreNearest, Ranks.IsColorSetOf}
 
 -- each color of the image's opaque pixels has a palette index
 pub record HasColorsOf (pixels : List ℕ) (look_up : LookUp) : Type 0 where

@@ -1,21 +1,16 @@
 -- A refined palette whose pixels have no indices yet, by the codes of the image's colors and their
 -- counts.
-use Rattle.std.specs.Prelude.{◌≡◌, ℕ, ◌*◌, ◌/◌, ◌<◌, ◌≤◌, nat_le, if◌then◌else◌, List, map, length}
-use Rattle.std.specs.Prelude.{All, slice_index}
-use Rattle.std.specs.List.{sum}
+use Rattle.std.specs.{List.sum, Prelude.{◌≡◌, ℕ, ◌*◌, ◌/◌, ◌<◌, ◌≤◌, nat_le, if◌then◌else◌, List}}
+use Rattle.std.specs.Prelude.{map, length, All, slice_index}
 use Rattle.sixel_base.specs.Limits.{area_limit}
 use Rattle.sixel_palette.specs.declared.palette.refined.RefinedEntries.{RefinedEntries}
 use Rattle.sixel_palette.specs.declared.palette.refined.RefinedPalette.{RefinedPalette}
 use Rattle.sixel_palette.specs.declared.palette.refined.Refinement.{Refinement}
-use Rattle.sixel_palette.specs.PaletteBound.{IsLeastApart}
-use Rattle.sixel_palette.specs.Refined.{AreOnTop, IsRegisterColor, base_entries, cut_entries}
-use Rattle.sixel_palette.specs.Refined.{register_color}
-use Rattle.sixel_palette.specs.Spread.{is_flat, spread_entries}
-use Rattle.sixel_palette.specs.inside.Codes.{IsListed, color_of}
-use Rattle.sixel_palette.specs.inside.Counts.{AreCounts, counted_error}
-use Rattle.sixel_palette.specs.inside.Nearest.{AreNearest}
-use Rattle.sixel_palette.specs.inside.Ranks.{IsColorSetOf}
-use Rattle.sixel_palette.specs.inside.Sums.{counted_pixels}
+use Rattle.sixel_palette.specs.{PaletteBound.IsLeastApart, Refined.{AreOnTop, IsRegisterColor}}
+use Rattle.sixel_palette.specs.{Refined.{base_entries, cut_entries, register_color}, Spread.is_flat}
+use Rattle.sixel_palette.specs.{Spread.spread_entries, inside.Codes.{IsListed, color_of}}
+use Rattle.sixel_palette.specs.{inside.Counts.{AreCounts, counted_error}, inside.Nearest.AreNearest}
+use Rattle.sixel_palette.specs.{inside.Ranks.IsColorSetOf, inside.Sums.counted_pixels}
 
 -- the entries are refined for these codes and counts
 pub record AreRefinedEntries (codes counts : List ℕ) (room : ℕ) (entries : RefinedEntries)

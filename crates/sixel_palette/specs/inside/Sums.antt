@@ -1,13 +1,10 @@
 -- The sums that the code stores, over bins and over colors with counts.
-use Rattle.std.specs.Prelude.{◌≡◌, ℕ, ◌*◌, zero, suc, Bool, List, [], ◌∷◌, length, take, drop}
-use Rattle.std.specs.Prelude.{slice_index, ◌<◌, ◌==◌, slice_index_or, ◌&&◌, if◌then◌else◌}
-use Rattle.std.specs.List.{sum_by}
-use Rattle.sixel_palette.specs.declared.palette.bins.Bin.{Bin}
+use Rattle.std.specs.{List.sum_by, Prelude.{◌≡◌, ℕ, ◌*◌, zero, suc, Bool, List, [], ◌∷◌, length}}
+use Rattle.std.specs.Prelude.{take, drop, slice_index, ◌<◌, ◌==◌, slice_index_or, ◌&&◌}
+use Rattle.std.specs.Prelude.{if◌then◌else◌}
+use Rattle.sixel_palette.specs.{ColorSums.{Pixels, sums_of}, GainCut.{Box, bin_step, corner}}
+use Rattle.sixel_palette.specs.{Lloyd.is_corner, Refined.sum_to, declared.palette.bins.Bin.Bin}
 use Rattle.sixel_palette.specs.declared.palette.color_sums.ColorSums.{ColorSums}
-use Rattle.sixel_palette.specs.ColorSums.{Pixels, sums_of}
-use Rattle.sixel_palette.specs.GainCut.{Box, bin_step, corner}
-use Rattle.sixel_palette.specs.Lloyd.{is_corner}
-use Rattle.sixel_palette.specs.Refined.{sum_to}
 use Rattle.sixel_palette.specs.inside.Codes.{color_of}
 
 -- the sums as a sequence

@@ -1,8 +1,7 @@
 -- The state of a farthest-first traversal: the nearest entries so far, and the buckets.
 use Rattle.std.specs.Prelude.{◌≡◌, ℕ, List, length}
 use Rattle.sixel_palette.specs.declared.palette.farthest.Traversal.{Traversal}
-use Rattle.sixel_palette.specs.inside.Nearest.{AreNearest}
-use Rattle.sixel_palette.specs.inside.Buckets.{AreBuckets}
+use Rattle.sixel_palette.specs.inside.{Buckets.AreBuckets, Nearest.AreNearest}
 
 -- each code has its distance and palette index, and the buckets are those of the codes
 pub record IsTraversal (codes : List ℕ) (traversal : Traversal) : Type 0 where

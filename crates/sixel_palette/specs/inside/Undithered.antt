@@ -1,7 +1,6 @@
 -- How code sees the pixel of an undithered image whose entry is chosen.
 use Rattle.std.specs.Prelude.{◌≡◌, ℕ, ◌+◌, ◌*◌, ◌/◌, ◌<◌, ◌≤◌, length}
-use Rattle.sixel_palette.specs.Palette.{AreIndices}
-use Rattle.sixel_palette.specs.Undithered.{Undithered, cost}
+use Rattle.sixel_palette.specs.{Palette.AreIndices, Undithered.{Undithered, cost}}
 use Rattle.sixel_palette.specs.declared.dithering.undithered.Choice.{Choice}
 use Rattle.sixel_palette.specs.declared.dithering.undithered.Priced.{Priced}
 use Rattle.sixel_palette.specs.inside.Mapped.{AreEntries}

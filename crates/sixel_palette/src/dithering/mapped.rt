@@ -1,13 +1,12 @@
 //! An image that is mapped to a palette, and the entries of neighbors that its pixels may keep.
 
-ghost use Rattle.std.specs.Prelude.{◌≡◌, ◌+◌, ◌*◌, ◌/◌, ◌<◌, ◌≤◌, ℕ, IfOk, OnOk, Option};
-ghost use Rattle.std.specs.Prelude.{Some, length};
-ghost use Rattle.sixel_palette.specs.Palette.{color_at, entry_of};
-ghost use Rattle.sixel_palette.specs.inside.Keys.{IsSearchOf};
-ghost use Rattle.sixel_palette.specs.Dithering.{IsIndex, column_of_step, entry_above};
-ghost use Rattle.sixel_palette.specs.Dithering.{entry_before, neighbor_of};
-ghost use Rattle.sixel_palette.specs.inside.Mapped.{AreEntries, IsInside, IsKept, IsMappable};
-ghost use Rattle.sixel_palette.specs.inside.Mapped.{IsPlace, kept_value, mapped_value};
+ghost use Rattle.std.specs.Prelude.{◌≡◌, ◌+◌, ◌*◌, ◌/◌, ◌<◌, ◌≤◌, ℕ, IfOk, OnOk, Option, Some};
+ghost use Rattle.std.specs.Prelude.{length};
+ghost use Rattle.sixel_palette.specs.Dithering.{IsIndex, column_of_step, entry_above, entry_before};
+ghost use Rattle.sixel_palette.specs.{Dithering.neighbor_of, Palette.{color_at, entry_of}};
+ghost use Rattle.sixel_palette.specs.inside.{Keys.IsSearchOf, Mapped.{AreEntries, IsInside}};
+ghost use Rattle.sixel_palette.specs.inside.Mapped.{IsKept, IsMappable, IsPlace, kept_value};
+ghost use Rattle.sixel_palette.specs.inside.Mapped.{mapped_value};
 
 use crate::palette::colors::is_opaque;
 use crate::palette::distance::distance;

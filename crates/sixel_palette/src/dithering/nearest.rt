@@ -1,8 +1,7 @@
 //! The nearest entries of an image's pixels: found, or looked up when they are needed.
 
 ghost use Rattle.std.specs.Prelude.{IfOk};
-ghost use Rattle.sixel_palette.specs.Palette.{AreIndices};
-ghost use Rattle.sixel_palette.specs.inside.Error.{HasNearest};
+ghost use Rattle.sixel_palette.specs.{Palette.AreIndices, inside.Error.HasNearest};
 
 use crate::dithering::mapped::MappedImage;
 use crate::palette::indices::indices_of;

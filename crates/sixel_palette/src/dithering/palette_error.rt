@@ -1,12 +1,10 @@
 //! The summed squared error of a palette, and the tolerance and the amplitude that follow from it.
 
 ghost use Rattle.std.specs.Prelude.{◌≡◌, ◌*◌, ◌/◌, ◌≤◌, IfOk, max};
-ghost use Rattle.sixel_palette.specs.Palette.{AreIndices, no_entry};
-ghost use Rattle.sixel_palette.specs.Refined.{opaque_pixels, summed_error};
 ghost use Rattle.sixel_palette.specs.Dithering.{amplitude_of, refined_dither, root, tolerance_of};
-ghost use Rattle.sixel_palette.specs.Gray.{measured_pixels};
-ghost use Rattle.sixel_palette.specs.inside.Mapped.{IsMappable};
-ghost use Rattle.sixel_palette.specs.inside.Error.{HasNearest, IsErrorOf};
+ghost use Rattle.sixel_palette.specs.{Gray.measured_pixels, Palette.{AreIndices, no_entry}};
+ghost use Rattle.sixel_palette.specs.Refined.{opaque_pixels, summed_error};
+ghost use Rattle.sixel_palette.specs.inside.{Error.{HasNearest, IsErrorOf}, Mapped.IsMappable};
 
 use crate::dither::{Amplitude, Dither};
 use crate::dithering::gray::{are_gray, gray_pixels};

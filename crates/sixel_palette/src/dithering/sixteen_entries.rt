@@ -3,11 +3,10 @@
 //! The square of a difference is the sum of two squares less twice the product. So the key of an
 //! entry is a number of its own less its product with the target.
 
-ghost use Rattle.std.specs.Prelude.{◌≡◌, ◌+◌, ◌*◌, ◌/◌, ◌%◌, ◌^◌, ◌<◌, ◌≤◌, ℕ, List};
-ghost use Rattle.std.specs.Prelude.{Option, Some, length, slice_index, true};
+ghost use Rattle.std.specs.Prelude.{◌≡◌, ◌+◌, ◌*◌, ◌/◌, ◌%◌, ◌^◌, ◌<◌, ◌≤◌, ℕ, List, Option, Some};
+ghost use Rattle.std.specs.Prelude.{length, slice_index, true};
 ghost use Rattle.sixel_palette.specs.Dithering.{IsIndex, Mapped, nearer_entry};
-ghost use Rattle.sixel_palette.specs.Palette.{entry_distance};
-ghost use Rattle.sixel_palette.specs.inside.Diffusion.{channels};
+ghost use Rattle.sixel_palette.specs.{Palette.entry_distance, inside.Diffusion.channels};
 ghost use Rattle.sixel_palette.specs.inside.SixteenEntries.{AreSixteen, lane_key, lane_of};
 
 use crate::palette::distance::distance;

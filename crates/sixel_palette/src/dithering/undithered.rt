@@ -2,13 +2,11 @@
 
 ghost use Rattle.std.specs.Prelude.{◌≡◌, ℕ, ◌+◌, ◌*◌, ◌/◌, ◌<◌, ◌≤◌, IfOk, Some, length};
 ghost use Rattle.std.specs.Prelude.{slice_index};
-ghost use Rattle.sixel_palette.specs.Palette.{AreIndices, IsOpaque, entry_distance, entry_of};
-ghost use Rattle.sixel_palette.specs.Palette.{color_at};
-ghost use Rattle.sixel_palette.specs.Dithering.{HaveChoice};
-ghost use Rattle.sixel_palette.specs.Undithered.{cheaper, cheapest, entry_above};
-ghost use Rattle.sixel_palette.specs.Undithered.{entry_after, entry_before, is_entry, lacking};
-ghost use Rattle.sixel_palette.specs.Undithered.{lacking_after, lacking_before, lacking_below};
-ghost use Rattle.sixel_palette.specs.Undithered.{pixel_of, top_of};
+ghost use Rattle.sixel_palette.specs.{Dithering.HaveChoice, Palette.{AreIndices, IsOpaque}};
+ghost use Rattle.sixel_palette.specs.Palette.{entry_distance, entry_of, color_at};
+ghost use Rattle.sixel_palette.specs.Undithered.{cheaper, cheapest, entry_above, entry_after};
+ghost use Rattle.sixel_palette.specs.Undithered.{entry_before, is_entry, lacking, lacking_after};
+ghost use Rattle.sixel_palette.specs.Undithered.{lacking_before, lacking_below, pixel_of, top_of};
 ghost use Rattle.sixel_palette.specs.inside.Mapped.{IsMappable, mapped_value};
 ghost use Rattle.sixel_palette.specs.inside.Undithered.{IsChoice, IsPriced, choice_value};
 

@@ -1,9 +1,8 @@
 //! The nearest entry of each color: the assignment step of Lloyd's algorithm.
 
 ghost use Rattle.std.specs.Prelude.{◌≡◌, ◌+◌, ◌*◌, ◌<◌, ◌≤◌, length, IfOk};
-ghost use Rattle.sixel_palette.specs.inside.Codes.{AreColorCodes};
-ghost use Rattle.sixel_palette.specs.inside.Counts.{dot, counted_error};
 ghost use Rattle.sixel_palette.specs.inside.Assignment.{IsAssignment, IsWeighed};
+ghost use Rattle.sixel_palette.specs.inside.{Codes.AreColorCodes, Counts.{dot, counted_error}};
 ghost use Rattle.sixel_palette.specs.inside.Traversal.{IsTraversal, HasRelaxed};
 
 use crate::palette::farthest::Traversal;

@@ -1,17 +1,14 @@
 //! Colors with their pixels in bins: one of each color, or a histogram of many colors.
 
-ghost use Rattle.std.specs.Prelude.{◌≡◌, ◌+◌, ◌*◌, ◌/◌, ◌<◌, ◌≤◌, ℕ, List, length, All, IfOk};
-ghost use Rattle.std.specs.Prelude.{OnOk, Bool, true, slice_index, if◌then◌else◌};
+ghost use Rattle.std.specs.Prelude.{◌≡◌, ◌+◌, ◌*◌, ◌/◌, ◌<◌, ◌≤◌, ℕ, List, length, All, IfOk, OnOk};
+ghost use Rattle.std.specs.Prelude.{Bool, true, slice_index, if◌then◌else◌};
 ghost use Rattle.std.specs.List.Sorted.{IsStrictlyIncreasing};
 ghost use Rattle.sixel_base.specs.Limits.{area_limit};
-ghost use Rattle.sixel_palette.specs.inside.Assignment.{IsWeighed};
-ghost use Rattle.sixel_palette.specs.inside.Boxes.{binned_pixels};
-ghost use Rattle.sixel_palette.specs.GainCut.{corner};
-ghost use Rattle.sixel_palette.specs.Lloyd.{is_corner};
-ghost use Rattle.sixel_palette.specs.inside.Bins.{IsTable, corners_of};
-ghost use Rattle.sixel_palette.specs.inside.Codes.{AreColorCodes};
+ghost use Rattle.sixel_palette.specs.inside.{Assignment.IsWeighed, Bins.{IsTable, corners_of}};
+ghost use Rattle.sixel_palette.specs.inside.{Boxes.binned_pixels, Codes.AreColorCodes};
 ghost use Rattle.sixel_palette.specs.inside.Sums.{AreBinsOf, IsWholeBin, binned_sums};
 ghost use Rattle.sixel_palette.specs.inside.Sums.{counted_pixels, first_counted, total};
+ghost use Rattle.sixel_palette.specs.{GainCut.corner, Lloyd.is_corner};
 
 use crate::palette::color_sums::ColorSums;
 use crate::palette::colors::color_of;

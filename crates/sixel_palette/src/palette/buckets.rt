@@ -5,14 +5,12 @@
 //! "A branch and bound algorithm for computing k-nearest neighbors", IEEE Transactions on Computers
 //! C-24 (1975), 750-753.
 
-ghost use Rattle.std.specs.Prelude.{◌≡◌, ◌<◌, ◌≤◌, ◌*◌, ℕ, List, [], ◌∷◌, ◌++◌, length};
-ghost use Rattle.std.specs.Prelude.{IfOk, IsTrue, slice_index};
-ghost use Rattle.std.specs.Int.{abs_diff};
+ghost use Rattle.std.specs.{Int.abs_diff, Prelude.{◌≡◌, ◌<◌, ◌≤◌, ◌*◌, ℕ, List, [], ◌∷◌, ◌++◌}};
+ghost use Rattle.std.specs.Prelude.{length, IfOk, IsTrue, slice_index};
 ghost use Rattle.sixel_palette.specs.Palette.{distance};
-ghost use Rattle.sixel_palette.specs.inside.Nearest.{AreNearest};
 ghost use Rattle.sixel_palette.specs.inside.Buckets.{IsInInterval, IsInBox, IsBucket, AreBuckets};
 ghost use Rattle.sixel_palette.specs.inside.Buckets.{IsGreatestIn, IsFirstGreatest, channel};
-ghost use Rattle.sixel_palette.specs.inside.Codes.{AreColorCodes};
+ghost use Rattle.sixel_palette.specs.inside.{Codes.AreColorCodes, Nearest.AreNearest};
 
 use crate::palette::distance::wrapped_gap;
 use crate::palette::nearest_entry::Entry;

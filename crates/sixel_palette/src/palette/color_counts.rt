@@ -1,10 +1,8 @@
 //! The number of an image's pixels that have each of its distinct colors.
 
-ghost use Rattle.std.specs.Prelude.{◌≡◌, ◌+◌, ◌*◌, ◌/◌, ◌<◌, ◌≤◌, length, IfOk};
-ghost use Rattle.std.specs.List.{sum};
+ghost use Rattle.std.specs.{List.sum, Prelude.{◌≡◌, ◌+◌, ◌*◌, ◌/◌, ◌<◌, ◌≤◌, length, IfOk}};
 ghost use Rattle.sixel_base.specs.Limits.{area_limit};
-ghost use Rattle.sixel_palette.specs.inside.Codes.{IsPixelWord};
-ghost use Rattle.sixel_palette.specs.inside.Counts.{AreCounts, HasPosition};
+ghost use Rattle.sixel_palette.specs.inside.{Codes.IsPixelWord, Counts.{AreCounts, HasPosition}};
 ghost use Rattle.sixel_palette.specs.inside.Ranks.{IsColorSetOf};
 
 use crate::palette::color_set::ColorSet;

@@ -2,11 +2,9 @@
 
 ghost use Rattle.std.specs.Prelude.{◌≡◌, ◌+◌, ◌*◌, ◌/◌, ◌<◌, ◌≤◌, ℕ};
 ghost use Rattle.sixel_base.specs.Limits.{area_limit};
-ghost use Rattle.sixel_palette.specs.ColorSums.{share, mean_or, mean_percent};
-ghost use Rattle.sixel_palette.specs.GainCut.{fine_mean, gain, mean_gap};
-ghost use Rattle.sixel_palette.specs.Lloyd.{mean_bytes};
-ghost use Rattle.sixel_palette.specs.Refined.{IsRegisterColor};
-ghost use Rattle.sixel_palette.specs.inside.Codes.{code_count, color_of};
+ghost use Rattle.sixel_palette.specs.{ColorSums.{share, mean_or, mean_percent}, GainCut.fine_mean};
+ghost use Rattle.sixel_palette.specs.{GainCut.{gain, mean_gap}, Lloyd.mean_bytes};
+ghost use Rattle.sixel_palette.specs.{Refined.IsRegisterColor, inside.Codes.{code_count, color_of}};
 
 use crate::palette::register_color::percent_color;
 

@@ -1,7 +1,6 @@
 //! Squared distances of colors: sums of the squared differences of their channels.
 
-ghost use Rattle.std.specs.Prelude.{◌≡◌, ◌*◌, ◌<◌, ◌≤◌};
-ghost use Rattle.std.specs.Int.{abs_diff};
+ghost use Rattle.std.specs.{Int.abs_diff, Prelude.{◌≡◌, ◌*◌, ◌<◌, ◌≤◌}};
 ghost use Rattle.sixel_palette.specs.Palette.{distance, no_entry};
 ghost use Rattle.sixel_palette.specs.inside.Codes.{color_of, code_count};
 

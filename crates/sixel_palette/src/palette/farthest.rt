@@ -4,13 +4,11 @@
 //! four times the least squared one. T. F. Gonzalez, "Clustering to minimize the maximum
 //! intercluster distance", Theoretical Computer Science 38 (1985), 293-306.
 
-ghost use Rattle.std.specs.Prelude.{◌≡◌, ◌<◌, ◌≤◌, min, ℕ, List, [], ◌∷◌, ◌++◌, length};
-ghost use Rattle.std.specs.Prelude.{IfOk, slice_index};
-ghost use Rattle.std.specs.List.Sorted.{IsStrictlyIncreasing};
+ghost use Rattle.std.specs.{List.Sorted.IsStrictlyIncreasing, Prelude.{◌≡◌, ◌<◌, ◌≤◌, min, ℕ}};
+ghost use Rattle.std.specs.Prelude.{List, [], ◌∷◌, ◌++◌, length, IfOk, slice_index};
 ghost use Rattle.sixel_palette.specs.Palette.{nearest, IsFarthest, IsFarthestFirst};
 ghost use Rattle.sixel_palette.specs.inside.Codes.{color_of, IsListed, AreColorCodes};
-ghost use Rattle.sixel_palette.specs.inside.Nearest.{AreNearest};
-ghost use Rattle.sixel_palette.specs.inside.Buckets.{IsFirstGreatest};
+ghost use Rattle.sixel_palette.specs.{inside.Nearest.AreNearest, inside.Buckets.IsFirstGreatest};
 ghost use Rattle.sixel_palette.specs.inside.Traversal.{IsTraversal, HasRelaxed};
 
 use crate::palette::buckets::{Bucket, buckets_of, farthest_of, relax_buckets};

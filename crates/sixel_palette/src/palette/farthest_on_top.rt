@@ -3,9 +3,8 @@
 ghost use Rattle.std.specs.Prelude.{◌≡◌, ◌<◌, ◌≤◌, ◌++◌, ◌∷◌, [], length, All, IfOk};
 ghost use Rattle.std.specs.List.Sorted.{IsStrictlyIncreasing};
 ghost use Rattle.sixel_palette.specs.Refined.{IsRegisterColor, AreOnTop};
-ghost use Rattle.sixel_palette.specs.inside.Codes.{AreColorCodes, IsListed};
-ghost use Rattle.sixel_palette.specs.inside.Assignment.{IsAssignment};
-ghost use Rattle.sixel_palette.specs.inside.Traversal.{IsTraversal, HasRelaxed};
+ghost use Rattle.sixel_palette.specs.inside.{Assignment.IsAssignment, Codes.AreColorCodes};
+ghost use Rattle.sixel_palette.specs.inside.{Codes.IsListed, Traversal.{IsTraversal, HasRelaxed}};
 
 use crate::palette::assignment::Assignment;
 use crate::palette::buckets::farthest_of;

@@ -3,24 +3,20 @@
 //! X. Wu, "Color quantization by dynamic programming and principal analysis", ACM Transactions on
 //! Graphics 11 (1992), 348-372, cuts boxes in this way.
 
-ghost use Rattle.std.specs.Prelude.{◌≡◌, ◌+◌, ◌-◌, ◌/◌, ◌%◌, ◌<◌, ◌≤◌, ℕ, List, true, length};
-ghost use Rattle.std.specs.Prelude.{All, IfOk, OnOk, slice_index_or, take, drop};
-ghost use Rattle.std.specs.List.{sum_by};
-ghost use Rattle.std.specs.List.Sorted.{IsPermutation};
-ghost use Rattle.sixel_base.specs.Limits.{area_limit};
-ghost use Rattle.sixel_palette.specs.declared.palette.bins.Bin.{Bin};
-ghost use Rattle.sixel_palette.specs.Refined.{IsRegisterColor};
+ghost use Rattle.std.specs.{List.sum_by, List.Sorted.IsPermutation, Prelude.{◌≡◌, ◌+◌, ◌-◌, ◌/◌}};
+ghost use Rattle.std.specs.Prelude.{◌%◌, ◌<◌, ◌≤◌, ℕ, List, true, length, All, IfOk, OnOk};
+ghost use Rattle.std.specs.Prelude.{slice_index_or, take, drop};
+ghost use Rattle.sixel_base.specs.{Color.rgb, Limits.area_limit};
+ghost use Rattle.sixel_palette.specs.{ColorSums.{Pixels, mean_or}, GainCut.{Box, best_along}};
+ghost use Rattle.sixel_palette.specs.GainCut.{best_cut, best_to, box_at, box_colors, box_sums};
+ghost use Rattle.sixel_palette.specs.GainCut.{boxes_after, cut_at, first_greatest, is_final, side};
+ghost use Rattle.sixel_palette.specs.{Refined.IsRegisterColor, declared.palette.bins.Bin.Bin};
+ghost use Rattle.sixel_palette.specs.declared.palette.color_sums.ColorSums.{ColorSums};
+ghost use Rattle.sixel_palette.specs.declared.palette.gain_cut.ColorBox.{ColorBox};
 ghost use Rattle.sixel_palette.specs.inside.Boxes.{AreRanges, AreWithin, binned_pixels, high_part};
 ghost use Rattle.sixel_palette.specs.inside.Boxes.{low_part, range_of, summed_pixels, AreBoxes};
-ghost use Rattle.sixel_palette.specs.inside.Boxes.{AreGains};
-ghost use Rattle.sixel_base.specs.Color.{rgb};
-ghost use Rattle.sixel_palette.specs.ColorSums.{Pixels, mean_or};
-ghost use Rattle.sixel_palette.specs.GainCut.{Box, best_along, best_cut, best_to, box_at};
-ghost use Rattle.sixel_palette.specs.GainCut.{box_colors, box_sums, boxes_after};
-ghost use Rattle.sixel_palette.specs.GainCut.{cut_at, first_greatest, is_final, side};
-ghost use Rattle.sixel_palette.specs.declared.palette.gain_cut.ColorBox.{ColorBox};
-ghost use Rattle.sixel_palette.specs.declared.palette.color_sums.ColorSums.{ColorSums};
-ghost use Rattle.sixel_palette.specs.inside.Sums.{AreBinsOf, prefix_sums, suffix_sums, total};
+ghost use Rattle.sixel_palette.specs.{inside.Boxes.AreGains, inside.Sums.{AreBinsOf, prefix_sums}};
+ghost use Rattle.sixel_palette.specs.inside.Sums.{suffix_sums, total};
 
 use crate::palette::bins::Bin;
 use crate::palette::color_sums::ColorSums;

@@ -3,18 +3,16 @@
 //! S. P. Lloyd, "Least squares quantization in PCM", IEEE Transactions on Information Theory 28
 //! (1982), 129-137. Here all pixels of a bin have the entry that is nearest to their mean.
 
-ghost use Rattle.std.specs.Prelude.{◌≡◌, ◌<◌, ◌≤◌, ℕ, [], true, length, All, IfOk};
-ghost use Rattle.std.specs.Prelude.{slice_index, slice_index_or};
+ghost use Rattle.std.specs.Prelude.{◌≡◌, ◌<◌, ◌≤◌, ℕ, [], true, length, All, IfOk, slice_index};
+ghost use Rattle.std.specs.Prelude.{slice_index_or};
 ghost use Rattle.sixel_base.specs.Limits.{area_limit};
 ghost use Rattle.sixel_palette.specs.declared.palette.bins.Bin.{Bin};
 ghost use Rattle.sixel_palette.specs.declared.palette.color_sums.ColorSums.{ColorSums};
-ghost use Rattle.sixel_palette.specs.ColorSums.{Pixels, mean_or};
-ghost use Rattle.sixel_palette.specs.Lloyd.{improved_entries, mean_bytes, moved_entries};
-ghost use Rattle.sixel_palette.specs.Refined.{IsRegisterColor};
-ghost use Rattle.sixel_palette.specs.inside.Boxes.{binned_pixels, summed_pixels};
-ghost use Rattle.sixel_palette.specs.inside.Codes.{AreColorCodes, color_of};
-ghost use Rattle.sixel_palette.specs.inside.Counts.{counted_error};
+ghost use Rattle.sixel_palette.specs.{ColorSums.{Pixels, mean_or}, Lloyd.improved_entries};
+ghost use Rattle.sixel_palette.specs.{Lloyd.{mean_bytes, moved_entries}, Refined.IsRegisterColor};
 ghost use Rattle.sixel_palette.specs.inside.Assignment.{IsAssignment, IsWeighed};
+ghost use Rattle.sixel_palette.specs.inside.Boxes.{binned_pixels, summed_pixels};
+ghost use Rattle.sixel_palette.specs.inside.{Codes.{AreColorCodes, color_of}, Counts.counted_error};
 ghost use Rattle.sixel_palette.specs.inside.Sums.{AreBinsOf, AreIndicesBy, IsWholeBin};
 ghost use Rattle.sixel_palette.specs.inside.Sums.{counted_pixels, entry_sums, total};
 

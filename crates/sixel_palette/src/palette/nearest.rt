@@ -4,15 +4,14 @@
 //! branch and bound, as in [`buckets`](crate::palette::buckets). A cube's entries are listed when
 //! the first of its colors is looked up.
 
-ghost use Rattle.std.specs.Prelude.{◌≡◌, ◌+◌, ◌*◌, ◌/◌, ◌%◌, ◌<◌, ◌≤◌, ℕ, List, [], length};
+ghost use Rattle.std.specs.Prelude.{◌≡◌, ◌+◌, ◌*◌, ◌/◌, ◌%◌, ◌<◌, ◌≤◌, ℕ, List, [], length, IfOk};
+ghost use Rattle.std.specs.Prelude.{OnOk};
 ghost use Rattle.sixel_palette.specs.declared.palette.nearest_entry.Entry.{Entry};
-ghost use Rattle.std.specs.Prelude.{IfOk, OnOk};
 ghost use Rattle.sixel_palette.specs.Palette.{IsNearest, nearest};
-ghost use Rattle.sixel_palette.specs.inside.Codes.{color_of, code_count};
-ghost use Rattle.sixel_palette.specs.inside.Nearest.{IsNearestEntry};
-ghost use Rattle.sixel_palette.specs.inside.Keys.{least_key, IsInCube, Appends, AreNumbered};
-ghost use Rattle.sixel_palette.specs.inside.Keys.{HasNearest, AreLists, IsSearch, IsSearchOf};
-ghost use Rattle.sixel_palette.specs.inside.Keys.{cube_position, group_position};
+ghost use Rattle.sixel_palette.specs.inside.{Codes.{color_of, code_count}, Keys.least_key};
+ghost use Rattle.sixel_palette.specs.inside.Keys.{IsInCube, Appends, AreNumbered, HasNearest};
+ghost use Rattle.sixel_palette.specs.inside.Keys.{AreLists, IsSearch, IsSearchOf, cube_position};
+ghost use Rattle.sixel_palette.specs.inside.{Keys.group_position, Nearest.IsNearestEntry};
 
 mod cube;
 

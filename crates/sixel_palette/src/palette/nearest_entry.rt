@@ -1,8 +1,7 @@
 //! The nearest entry of a color: its palette index and its squared distance.
 
 ghost use Rattle.std.specs.Prelude.{◌≡◌, ℕ, List, [], ◌∷◌, ◌++◌, length};
-ghost use Rattle.sixel_palette.specs.Palette.{distance, nearest};
-ghost use Rattle.sixel_palette.specs.inside.Nearest.{IsNearestEntry};
+ghost use Rattle.sixel_palette.specs.{Palette.{distance, nearest}, inside.Nearest.IsNearestEntry};
 
 use crate::palette::distance::distance;
 

@@ -1,18 +1,16 @@
 //! The refined palette of an image: register colors with a small summed error.
 
-ghost use Rattle.std.specs.Prelude.{◌≡◌, ◌≢◌, ◌-◌, ◌%◌, ◌<◌, ◌≤◌, ◌/◌, true, map, length};
-ghost use Rattle.std.specs.Prelude.{All, Some, None, OnOk, IfOk, MatchResult};
+ghost use Rattle.std.specs.Prelude.{◌≡◌, ◌≢◌, ◌-◌, ◌%◌, ◌<◌, ◌≤◌, ◌/◌, true, map, length, All};
+ghost use Rattle.std.specs.Prelude.{Some, None, OnOk, IfOk, MatchResult};
 ghost use Rattle.std.specs.List.Sorted.{IsStrictlyIncreasing};
-ghost use Rattle.sixel_base.specs.Limits.{area_limit};
 ghost use Rattle.sixel_base.specs.CallFault.{FailsBy, ColorCount, color_count_fault};
-ghost use Rattle.sixel_base.specs.Fault.{IsFault, TooLarge};
-ghost use Rattle.sixel_palette.specs.PaletteBound.{IsLeastApart};
-ghost use Rattle.sixel_palette.specs.Refined.{IsRegisterColor, register_color, IsRefined};
-ghost use Rattle.sixel_palette.specs.inside.Assignment.{IsStart, IsWeighed};
-ghost use Rattle.sixel_palette.specs.inside.Boxes.{binned_pixels};
-ghost use Rattle.sixel_palette.specs.inside.Sums.{AreBinsOf, IsWholeBin, counted_pixels};
+ghost use Rattle.sixel_base.specs.{Fault.{IsFault, TooLarge}, Limits.area_limit};
+ghost use Rattle.sixel_palette.specs.{PaletteBound.IsLeastApart, Refined.IsRegisterColor};
+ghost use Rattle.sixel_palette.specs.Refined.{register_color, IsRefined};
+ghost use Rattle.sixel_palette.specs.inside.{Assignment.{IsStart, IsWeighed}, Boxes.binned_pixels};
 ghost use Rattle.sixel_palette.specs.inside.Codes.{color_of, AreColorCodes};
 ghost use Rattle.sixel_palette.specs.inside.Refinement.{AreRefinedEntries, IsRefinement};
+ghost use Rattle.sixel_palette.specs.inside.Sums.{AreBinsOf, IsWholeBin, counted_pixels};
 
 use crate::palette::assignment::{Assignment, assign, summed};
 use crate::palette::bins::{Bin, bins_of};

@@ -1,16 +1,12 @@
 //! Entries of a refined palette moved away from the mean color of an image, for error diffusion.
 
-ghost use Rattle.std.specs.Prelude.{◌≡◌, ◌≤◌, ℕ, List, IfOk, length, map, slice_index};
-ghost use Rattle.std.specs.List.{sum};
+ghost use Rattle.std.specs.{List.sum, Prelude.{◌≡◌, ◌≤◌, ℕ, List, IfOk, length, map, slice_index}};
 ghost use Rattle.sixel_base.specs.Limits.{area_limit};
-ghost use Rattle.sixel_palette.specs.ColorSums.{share};
-ghost use Rattle.sixel_palette.specs.Refined.{sum_to};
-ghost use Rattle.sixel_palette.specs.Spread.{is_flat, spread_amount, spread_channel, spread_color};
-ghost use Rattle.sixel_palette.specs.inside.Assignment.{IsWeighed};
-ghost use Rattle.sixel_palette.specs.inside.Codes.{AreColorCodes};
-ghost use Rattle.sixel_palette.specs.inside.Nearest.{AreNearest};
-ghost use Rattle.sixel_palette.specs.inside.Refinement.{AreRefinedEntries, AreSpreadEntries};
-ghost use Rattle.sixel_palette.specs.inside.Refinement.{near_count};
+ghost use Rattle.sixel_palette.specs.{ColorSums.share, Refined.sum_to, Spread.is_flat};
+ghost use Rattle.sixel_palette.specs.Spread.{spread_amount, spread_channel, spread_color};
+ghost use Rattle.sixel_palette.specs.inside.{Assignment.IsWeighed, Codes.AreColorCodes};
+ghost use Rattle.sixel_palette.specs.inside.{Nearest.AreNearest, Refinement.AreRefinedEntries};
+ghost use Rattle.sixel_palette.specs.inside.Refinement.{AreSpreadEntries, near_count};
 ghost use Rattle.sixel_palette.specs.inside.Sums.{counted_pixels, total};
 
 use crate::dither::Dither;

@@ -1,5 +1,4 @@
-use Rattle.std.proofs.Common.{◌≡◌, ◌≤◌, length, take}
-use Rattle.std.specs.Vec.{vec_len, vec_capacity}
+use Rattle.std.{proofs.Common.{◌≡◌, ◌≤◌, length, take}, specs.Vec.{vec_len, vec_capacity}}
 use Rattle.icy_sixel.specs.Script.{AreOutcomes}
 use Rattle.icy_sixel.proofs.script.take_steps.Given as goal
 

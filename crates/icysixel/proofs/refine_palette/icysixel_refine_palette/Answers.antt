@@ -1,5 +1,4 @@
-use Rattle.std.proofs.Common.{◌∙◌, ap, sym, take, arith}
-use Rattle.std.proofs.lemmas.Bool.Decides.{nat_tests}
+use Rattle.std.proofs.{Common.{◌∙◌, ap, sym, take, arith}, lemmas.Bool.Decides.nat_tests}
 use Rattle.sixel_base.specs.CallFault.{ColorCount}
 use Rattle.icysixel.proofs.refine_palette.icysixel_refine_palette.Goals as goal
 

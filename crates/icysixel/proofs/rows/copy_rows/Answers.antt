@@ -1,10 +1,9 @@
 use Rattle.std.proofs.Common.{◌≡◌, ℕ, List, Option, refl, Ok, Err, Result, arith, unwrap_or}
-use Rattle.sixel_base.specs.declared.error.SixelError.{SixelError}
-use Rattle.icy_sixel.specs.ReceivedRows.{AreRowsCopied, RowLayout}
-use Rattle.icy_sixel.specs.{Receiver.Reception, ReceiverCalls.IsSizeSoFar}
-use Rattle.icysixel.specs.RowCopies.{columns_so_far, layout_of}
-use Rattle.icysixel.specs.declared.layout.Layout.{Layout}
 use Rattle.std.proofs.lemmas.Bool.Decides.{nat_tests}
+use Rattle.sixel_base.specs.declared.error.SixelError.{SixelError}
+use Rattle.icy_sixel.specs.{ReceivedRows.{AreRowsCopied, RowLayout}, Receiver.Reception}
+use Rattle.icy_sixel.specs.ReceiverCalls.{IsSizeSoFar}
+use Rattle.icysixel.specs.{RowCopies.{columns_so_far, layout_of}, declared.layout.Layout.Layout}
 use Rattle.icysixel.proofs.rows.copy_rows.Goals as goal
 
 -- so the layout is that of all columns so far

@@ -1,8 +1,7 @@
 use Rattle.std.proofs.Common.{◌≡◌, ◌∙◌, ℕ, List, [], ◌∷◌, length, refl, ap, subst, arith, rules}
-use Rattle.std.specs.Prelude.{slice_index}
+use Rattle.std.{proofs.lemmas.Bool.Decides.nat_tests, specs.Prelude.slice_index}
 use Rattle.icy_sixel.specs.Receiver.{Receiver}
-use Rattle.icysixel.specs.{Feed.IsFed, declared.state.State.State}
-use Rattle.std.proofs.lemmas.Bool.Decides.{nat_tests}
+use Rattle.icysixel.{specs.Feed.IsFed, specs.declared.state.State.State}
 use Rattle.icysixel.proofs.stream.feed.Goals as goal
 use goal.{else-piece-eq1-via-else-piece-eq1, else-piece-eq1-via-then-piece-eq1+in-None-1}
 

@@ -1,7 +1,5 @@
-use Rattle.std.proofs.Common.{◌∙◌, ap, arith}
-use Rattle.std.proofs.lemmas.Bool.Decides.{nat_tests}
-use Rattle.sixel_base.specs.Decoder.{new_decoder, origin_of}
-use Rattle.sixel_base.specs.Payload.{payload_image}
+use Rattle.std.proofs.{Common.{◌∙◌, ap, arith}, lemmas.Bool.Decides.nat_tests}
+use Rattle.sixel_base.specs.{Decoder.{new_decoder, origin_of}, Payload.payload_image}
 use Rattle.sixel.proofs.Outputs.{Serves-image, Serves-whole}
 use Rattle.sixel.proofs.engine.run.Goals as goal
 

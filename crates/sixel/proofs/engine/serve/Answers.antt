@@ -1,6 +1,4 @@
-use Rattle.std.proofs.Common.{arith}
-use Rattle.std.proofs.KnownBytes.{Appends-nil}
-use Rattle.std.proofs.lemmas.Bool.Decides.{nat_tests}
+use Rattle.std.proofs.{Common.arith, KnownBytes.Appends-nil, lemmas.Bool.Decides.nat_tests}
 use Rattle.sixel.proofs.Outputs.{wanting}
 use Rattle.sixel.proofs.engine.serve.Goals as goal
 

@@ -1,7 +1,6 @@
-use Rattle.std.proofs.Common.{append_assoc, arith}
+use Rattle.std.proofs.{Common.{append_assoc, arith}, lemmas.Bool.Decides.nat_tests}
 use Rattle.sixel.proofs.Outputs.{Serves-whole}
 use Rattle.sixel.proofs.image_output.write_image.Goals as goal
-use Rattle.std.proofs.lemmas.Bool.Decides.{nat_tests}
 
 pub returns : goal.returns
 returns g c = grind (arith, nat_tests, append_assoc, Serves-whole)

@@ -1,5 +1,4 @@
-use Rattle.std.proofs.Common.{append-nil, arith}
-use Rattle.std.proofs.lemmas.Bool.Decides.{nat_tests}
+use Rattle.std.proofs.{Common.{append-nil, arith}, lemmas.Bool.Decides.nat_tests}
 use Rattle.sixel.proofs.Outputs.{Serves-whole}
 use Rattle.sixel.proofs.image_output.write_pam.Goals as goal
 

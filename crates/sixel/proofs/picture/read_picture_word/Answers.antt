@@ -1,6 +1,5 @@
 use Rattle.std.proofs.Common.{arith}
-use Rattle.std.proofs.lemmas.Bool.Decides.{Decides-eqb, nat_tests}
-use Rattle.std.proofs.lemmas.Slice.Eq.{slice_eq-Decides}
+use Rattle.std.proofs.lemmas.{Bool.Decides.{Decides-eqb, nat_tests}, Slice.Eq.slice_eq-Decides}
 use Rattle.sixel.proofs.FirstWords.{only_word}
 use Rattle.sixel.proofs.picture.read_picture_word.Goals as goal
 

@@ -1,9 +1,8 @@
 use Rattle.std.proofs.Common.{◌+◌, refl, ap, ◌∙◌, arith, length-append}
-use Rattle.std.proofs.lemmas.Result.{err_from_is_err_and}
+use Rattle.std.proofs.lemmas.{Bool.Decides.nat_tests, Result.err_from_is_err_and}
 use Rattle.icy_sixel.proofs.Chunks.{count_fits}
 use Rattle.sixel.proofs.DcsSequences.{fed_more, refused_early}
 use Rattle.sixel.proofs.sequences.feed_chunks.Goals as goal
-use Rattle.std.proofs.lemmas.Bool.Decides.{nat_tests}
 
 pub returns-in_err-feed-clause-refused : goal.returns-in_err-feed-clause-refused
 returns-in_err-feed-clause-refused c =

@@ -1,12 +1,10 @@
 use Rattle.std.proofs.Common.{◌≡◌, ap, drop, sym, ◌∙◌, arith, rules}
-use Rattle.std.proofs.lemmas.Result.{err_from_is_err_and}
+use Rattle.std.{proofs.lemmas.Bool.Decides.nat_tests, proofs.lemmas.Result.err_from_is_err_and}
 use Rattle.sixel_base.specs.Dcs.{dcs_status}
-use Rattle.icy_sixel.specs.Receiver.{OfString, start_of}
-use Rattle.icy_sixel.proofs.Chunks.{IsSame, count_fits, same}
-use Rattle.sixel.specs.Sequences.{rest_by}
+use Rattle.icy_sixel.{proofs.Chunks.{IsSame, count_fits, same}, specs.Receiver.{OfString, start_of}}
 use Rattle.sixel.proofs.DcsSequences.{faultless_by, followed_joined, refused_at_end}
+use Rattle.sixel.specs.Sequences.{rest_by}
 use Rattle.sixel.proofs.sequences.read_sequence.Goals as goal
-use Rattle.std.proofs.lemmas.Bool.Decides.{nat_tests}
 
 pub returns-in_err-image-clause-refused : goal.returns-in_err-image-clause-refused
 returns-in_err-image-clause-refused c =

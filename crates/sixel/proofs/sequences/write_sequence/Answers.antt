@@ -1,10 +1,7 @@
-use Rattle.std.proofs.Common.{[], Bor, List, ℕ}
-use Rattle.std.proofs.KnownBytes.{Appends-nil}
+use Rattle.std.{proofs.Common.{[], Bor, List, ℕ}, proofs.KnownBytes.Appends-nil}
 use Rattle.std.proofs.lemmas.Result.{err_from_is_err_and}
-use Rattle.icy_sixel.specs.ImageView.{image_value}
-use Rattle.icy_sixel.specs.Receiver.{start_of}
-use Rattle.sixel.specs.Sequences.{Broken, HasEnded}
-use Rattle.sixel.proofs.ImageSequences.{Serves-broken}
+use Rattle.icy_sixel.{specs.ImageView.image_value, specs.Receiver.start_of}
+use Rattle.sixel.{proofs.ImageSequences.Serves-broken, specs.Sequences.{Broken, HasEnded}}
 use Rattle.sixel.proofs.sequences.write_sequence.Goals as goal
 
 pub returns-in_err-image-clause-stopped : goal.returns-in_err-image-clause-stopped

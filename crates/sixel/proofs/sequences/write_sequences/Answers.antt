@@ -1,8 +1,6 @@
-use Rattle.std.proofs.Common.{arith, Bor, List, ℕ}
-use Rattle.std.proofs.lemmas.Bool.Decides.{nat_tests}
-use Rattle.sixel.proofs.ImageSequences.{Serves-led, leads_first, leads_last, leads_more}
-use Rattle.sixel.proofs.ImageSequences.{rest_smaller}
-use Rattle.sixel.proofs.DcsSequences.{no_bytes, some_bytes}
+use Rattle.std.proofs.{Common.{arith, Bor, List, ℕ}, lemmas.Bool.Decides.nat_tests}
+use Rattle.sixel.proofs.{DcsSequences.{no_bytes, some_bytes}, ImageSequences.Serves-led}
+use Rattle.sixel.proofs.ImageSequences.{leads_first, leads_last, leads_more, rest_smaller}
 use Rattle.sixel.proofs.sequences.write_sequences.Goals as goal
 
 pub sequences-init : goal.sequences-init

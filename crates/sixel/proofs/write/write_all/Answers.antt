@@ -1,7 +1,6 @@
 use Rattle.std.proofs.Common.{arith, drop, length-drop, length-take, refl, rules, take}
 use Rattle.std.proofs.lemmas.List.{take-append-drop}
-use Rattle.sixel.specs.Ending.{Done}
-use Rattle.sixel.proofs.WrittenBytes.{Appends-rest}
+use Rattle.sixel.{proofs.WrittenBytes.Appends-rest, specs.Ending.Done}
 use Rattle.sixel.proofs.write.write_all.Goals as goal
 
 pub writes-preserved : goal.writes-preserved

@@ -1,6 +1,5 @@
 -- The writer holds what it held, and then the bytes that are done.
-use Rattle.std.proofs.Common.{◌≤◌, length, take}
-use Rattle.std.specs.Io.KnownBytes.{Appends}
+use Rattle.std.{proofs.Common.{◌≤◌, length, take}, specs.Io.KnownBytes.Appends}
 use Rattle.sixel.proofs.write.write_all.Given as goal
 
 abbrev pub invariant-writes : goal.invariant-writes

@@ -1,9 +1,7 @@
 use Rattle.std.specs.List.{concat}
 use Rattle.std.proofs.Common.{◌+◌, append_assoc, arith, Bor, List, drop, map, ℕ}
 use Rattle.std.proofs.KnownBytes.{Appends-trans}
-use Rattle.std.proofs.lemmas.Bool.Decides.{nat_tests}
-use Rattle.std.proofs.lemmas.List.{drop_more}
-use Rattle.std.proofs.lemmas.Result.{err_from_is_err_and}
+use Rattle.std.proofs.lemmas.{Bool.Decides.nat_tests, List.drop_more, Result.err_from_is_err_and}
 use Rattle.sixel.proofs.WrittenBytes.{Serves-after}
 use Rattle.sixel.proofs.write.write_parts.Goals as goal
 

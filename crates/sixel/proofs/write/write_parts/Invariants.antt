@@ -1,7 +1,6 @@
 -- The parts so far are written, and the others make up the rest.
 use Rattle.std.proofs.Common.{◌≡◌, ◌++◌, List, drop, map, ℕ}
-use Rattle.std.specs.List.{concat}
-use Rattle.std.specs.Io.KnownBytes.{Appends}
+use Rattle.std.specs.{Io.KnownBytes.Appends, List.concat}
 use Rattle.sixel.proofs.write.write_parts.Given as goal
 
 abbrev pub invariant-parts : goal.invariant-parts

@@ -1,11 +1,9 @@
 use Rattle.std.proofs.Common.{◌≡◌, ◌+◌, ◌-◌, ◌*◌, min, [], ◌∷◌, take, get_or, refl, sym, subst}
-use Rattle.std.proofs.Common.{arith}
-use Rattle.std.proofs.lemmas.List.{take_more}
-use Rattle.sixel_base.specs.Limits.{parameter_limit}
-use Rattle.sixel_base.specs.inside.Parameters.{Parameters, AreRead, IsDigit, Keeps}
+use Rattle.std.proofs.{Common.arith, lemmas.Bool.Decides.nat_tests, lemmas.List.take_more}
+use Rattle.sixel_base.specs.{Limits.parameter_limit, inside.Parameters.{Parameters, AreRead}}
+use Rattle.sixel_base.specs.inside.Parameters.{IsDigit, Keeps}
 use Rattle.sixel_base.proofs.KeptFields.{Keeps-push_digit_kept}
 use Rattle.sixel_base.proofs.parameters.with_digit_at.Goals as goal
-use Rattle.std.proofs.lemmas.Bool.Decides.{nat_tests}
 
 pub returns-then-digit-lt10-clause-read : goal.returns-then-digit-lt10-clause-read
 returns-then-digit-lt10-clause-read c = λ read.

@@ -1,7 +1,5 @@
-use Rattle.std.proofs.Common.{◌≡◌, ℕ, ◌+◌, ◌-◌, ◌*◌, ◌≤◌}
-use Rattle.std.specs.Prelude.{nat_lt, if◌then◌else◌}
-use Rattle.sixel_canvas.specs.inside.Band.{cell}
-use Rattle.sixel_canvas.specs.inside.RowsState.{final}
+use Rattle.std.{proofs.Common.{◌≡◌, ℕ, ◌+◌, ◌-◌, ◌*◌, ◌≤◌}, specs.Prelude.{nat_lt, if◌then◌else◌}}
+use Rattle.sixel_canvas.{specs.inside.Band.cell, specs.inside.RowsState.final}
 use Rattle.sixel_canvas.proofs.band_canvas.append_band.Given as goal
 
 abbrev pub invariant-blank : goal.invariant-blank

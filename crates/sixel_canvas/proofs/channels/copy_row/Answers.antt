@@ -1,6 +1,5 @@
 use Rattle.std.proofs.Common.{length, min, ◌≡◌, ◌+◌, ◌%◌, ◌∙◌, get_or, ap, length-append, arith}
-use Rattle.sixel_canvas.specs.Layout.{in_order}
-use Rattle.sixel_canvas.proofs.PixelBytes.{row_bytes}
+use Rattle.sixel_canvas.{proofs.PixelBytes.row_bytes, specs.Layout.in_order}
 use Rattle.sixel_canvas.proofs.channels.copy_row.Goals as goal
 
 pub returns-clause-copied : goal.returns-clause-copied

@@ -1,5 +1,4 @@
-use Rattle.std.proofs.Common.{◌≡◌, ℕ, ◌*◌, ◌/◌, ◌%◌, ◌<◌, ◌≤◌, length}
-use Rattle.std.specs.Prelude.{slice_index}
+use Rattle.std.{proofs.Common.{◌≡◌, ℕ, ◌*◌, ◌/◌, ◌%◌, ◌<◌, ◌≤◌, length}, specs.Prelude.slice_index}
 use Rattle.sixel_canvas.specs.Layout.{in_order, pixel_at}
 use Rattle.sixel_canvas.proofs.channels.reorder.Given as goal
 

@@ -1,6 +1,5 @@
-use Rattle.std.proofs.Common.{◌≡◌, ℕ, List, ◌+◌, ◌-◌, ◌<◌, length, get_or}
-use Rattle.std.specs.Prelude.{slice_index, nat_le, nat_lt, ◌&&◌, if◌then◌else◌}
-use Rattle.std.specs.Int.{to_le_bytes, w32}
+use Rattle.std.{proofs.Common.{◌≡◌, ℕ, List, ◌+◌, ◌-◌, ◌<◌, length, get_or}, specs.Int.to_le_bytes}
+use Rattle.std.{specs.Int.w32, specs.Prelude.{slice_index, nat_le, nat_lt, ◌&&◌, if◌then◌else◌}}
 use Rattle.sixel_base.specs.Picture.{is_set}
 use Rattle.sixel_canvas.proofs.pixel_row.mix.Given as goal
 

@@ -1,6 +1,5 @@
-use Rattle.std.proofs.Common.{[], length, ap, ◌∙◌, arith}
+use Rattle.std.proofs.{Common.{[], length, ap, ◌∙◌, arith}, lemmas.List.get_or_default}
 use Rattle.sixel_canvas.specs.inside.TaggedRow.{TaggedRowState, empty_tagged_row}
-use Rattle.std.proofs.lemmas.List.{get_or_default}
 use Rattle.sixel_canvas.proofs.row_band.draw_row.Goals as goal
 
 pub returns-clause-held : goal.returns-clause-held

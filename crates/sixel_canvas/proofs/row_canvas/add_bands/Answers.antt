@@ -1,9 +1,7 @@
-use Rattle.std.proofs.Common.{[], ◌∙◌, arith}
+use Rattle.std.{proofs.Common.{[], ◌∙◌, arith}, proofs.lemmas.Grind.common_steps}
 use Rattle.std.proofs.lemmas.List.Elements.{All-push}
-use Rattle.sixel_canvas.specs.inside.RowBand.{IsRowBand}
-use Rattle.sixel_canvas.proofs.RowCosts.{empty_band}
+use Rattle.sixel_canvas.{proofs.RowCosts.empty_band, specs.inside.RowBand.IsRowBand}
 use Rattle.sixel_canvas.proofs.row_canvas.add_bands.Goals as goal
-use Rattle.std.proofs.lemmas.Grind.{common_steps}
 
 pub made-preserved : goal.made-preserved
 made-preserved c =

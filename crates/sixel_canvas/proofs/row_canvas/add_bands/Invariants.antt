@@ -1,5 +1,4 @@
-use Rattle.std.proofs.Common.{◌≡◌, ◌≤◌, ℕ, [], All, get_or, length}
-use Rattle.std.specs.Prelude.{vec_capacity}
+use Rattle.std.{proofs.Common.{◌≡◌, ◌≤◌, ℕ, [], All, get_or, length}, specs.Prelude.vec_capacity}
 use Rattle.sixel_canvas.specs.inside.RowBand.{IsRowBand}
 use Rattle.sixel_canvas.proofs.row_canvas.add_bands.Given as goal
 

@@ -1,7 +1,6 @@
-use Rattle.std.proofs.lemmas.List.{length-set}
+use Rattle.std.proofs.{Common.arith, lemmas.List.length-set}
 use Rattle.sixel_canvas.proofs.BandRows.{set_first, set_more}
 use Rattle.sixel_canvas.proofs.six_rows.draw_one.Goals as goal
-use Rattle.std.proofs.Common.{arith}
 
 pub drawn-init : goal.drawn-init
 drawn-init c = grind (arith, length-set, set_first)

@@ -1,10 +1,8 @@
 use Rattle.std.proofs.Common.{◌≡◌, ◌<◌, [], true, arith}
 use Rattle.sixel_base.specs.Picture.{is_set}
-use Rattle.sixel_canvas.proofs.BandRows.{struck_more}
-use Rattle.sixel_canvas.proofs.BandCopies.{row_above, row_colored}
+use Rattle.sixel_canvas.proofs.{BandCopies.{row_above, row_colored}, BandRows.struck_more}
+use Rattle.std.proofs.lemmas.{Bool.Decides.nat_tests, Nat.row_fits}
 use Rattle.sixel_canvas.proofs.six_rows.fill_rows.Goals as goal
-use Rattle.std.proofs.lemmas.Bool.Decides.{nat_tests}
-use Rattle.std.proofs.lemmas.Nat.{row_fits}
 
 pub drawn-preserved : goal.drawn-preserved
 drawn-preserved c = grind (arith, nat_tests, struck_more)

@@ -1,7 +1,6 @@
 use Rattle.std.proofs.Common.{◌≡◌, ℕ, zero, suc, ◌<◌, true, false, refl, eq-eqb, arith, w8}
 use Rattle.std.proofs.lemmas.Nat.Bits.{bit_at-trailing_zeros, bit_at-zero}
-use Rattle.std.specs.Int.{trailing_zeros}
-use Rattle.std.specs.Int.Count.{count_trailing_zeros}
+use Rattle.std.specs.{Int.trailing_zeros, Int.Count.count_trailing_zeros}
 use Rattle.sixel_base.specs.Picture.{is_set}
 use Rattle.sixel_canvas.proofs.six_rows.first_row.Goals as goal
 

@@ -1,5 +1,4 @@
-use Rattle.std.proofs.Common.{arith}
-use Rattle.std.proofs.lemmas.Bool.{le-ltb}
+use Rattle.std.proofs.{Common.arith, lemmas.Bool.le-ltb}
 use Rattle.sixel_canvas.proofs.Lanes.{lane_is}
 use Rattle.sixel_canvas.proofs.six_rows.repeated.Goals as goal
 

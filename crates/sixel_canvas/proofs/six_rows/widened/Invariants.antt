@@ -1,5 +1,4 @@
-use Rattle.std.proofs.Common.{◌≡◌, ℕ, ◌*◌, ◌<◌, length}
-use Rattle.std.specs.Prelude.{nat_lt, if◌then◌else◌}
+use Rattle.std.{proofs.Common.{◌≡◌, ℕ, ◌*◌, ◌<◌, length}, specs.Prelude.{nat_lt, if◌then◌else◌}}
 use Rattle.sixel_canvas.specs.inside.Band.{stored}
 use Rattle.sixel_canvas.proofs.six_rows.widened.Given as goal
 

@@ -1,5 +1,4 @@
-use Rattle.std.proofs.Common.{arith}
-use Rattle.std.proofs.lemmas.Simd.{length-put_chunk}
+use Rattle.std.proofs.{Common.arith, lemmas.Simd.length-put_chunk}
 use Rattle.sixel_canvas.proofs.Spans.{IsColored-store}
 use Rattle.sixel_canvas.proofs.span.fill_by_fours.Goals as goal
 

@@ -1,13 +1,10 @@
 use Rattle.std.proofs.Common.{◌≡◌, ◌+◌, ◌++◌, List, ℕ, Some, refl, sym, ap, ◌∙◌}
 use Rattle.std.specs.Prelude.{nat_lt}
-use Rattle.sixel_base.specs.declared.error.SixelError.{SixelError}
-use Rattle.sixel_base.specs.Bytes.{count, first_terminator}
-use Rattle.sixel_base.specs.Fault.{Faults}
-use Rattle.sixel_base.specs.Payload.{fed_fault, settled, growths}
-use Rattle.sixel_base.specs.Status.{status_of}
-use Rattle.sixel_decoder.proofs.dcs_sequences.Ends.{ended_at, terminated_by}
-use Rattle.sixel_decoder.proofs.dcs_sequences.Chunks.{payload_follows, payload_refuses}
-use Rattle.sixel_decoder.proofs.chunks.Feeds.{open_follows}
+use Rattle.sixel_base.specs.{declared.error.SixelError.SixelError, Bytes.{count, first_terminator}}
+use Rattle.sixel_base.specs.{Fault.Faults, Payload.{fed_fault, settled, growths}, Status.status_of}
+use Rattle.sixel_decoder.proofs.{chunks.Feeds.open_follows, dcs_sequences.Chunks.payload_follows}
+use Rattle.sixel_decoder.proofs.{dcs_sequences.Chunks.payload_refuses, dcs_sequences.Ends.ended_at}
+use Rattle.sixel_decoder.proofs.dcs_sequences.Ends.{terminated_by}
 use Rattle.sixel_decoder.proofs.dcs_parser.read_payload.Goals as goal
 
 pub returns-in-Err-clause-follows : goal.returns-in-Err-clause-follows

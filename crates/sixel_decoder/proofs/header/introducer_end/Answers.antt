@@ -1,9 +1,8 @@
 use Rattle.std.proofs.Common.{length-drop, arith}
-use Rattle.std.proofs.lemmas.Bool.Decides.{nat_tests}
-use Rattle.std.proofs.lemmas.List.{drop_all}
+use Rattle.std.proofs.lemmas.{Bool.Decides.nat_tests, List.drop_all}
 use Rattle.sixel_decoder.proofs.images.FoundPayloads.{tail_whole, introduced_at_once}
-use Rattle.sixel_decoder.proofs.images.FoundPayloads.{introduced_by_escape}
-use Rattle.sixel_decoder.proofs.images.FoundPayloads.{introduced_at, not_introduced_at}
+use Rattle.sixel_decoder.proofs.images.FoundPayloads.{introduced_by_escape, introduced_at}
+use Rattle.sixel_decoder.proofs.images.FoundPayloads.{not_introduced_at}
 use Rattle.sixel_decoder.proofs.header.introducer_end.Goals as goal
 
 pub returns-in-27-clause-found : goal.returns-in-27-clause-found

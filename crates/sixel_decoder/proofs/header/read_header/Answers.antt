@@ -1,11 +1,10 @@
 use Rattle.std.proofs.Common.{◌≡◌, ◌++◌, ◌∷◌, [], true, false, get_or, refl, rules, arith}
-use Rattle.sixel_base.specs.Bytes.{carrying}
-use Rattle.sixel_base.specs.Header.{is_header, settings_of}
+use Rattle.sixel_base.specs.{Bytes.carrying, Header.{is_header, settings_of}}
 use Rattle.sixel_base.specs.inside.Parameters.{Keeps}
 use Rattle.sixel_decoder.proofs.dcs_sequences.HeaderReads.{reads_on, begins_at, text_at, refused_at}
 use Rattle.sixel_decoder.proofs.dcs_sequences.HeaderReads.{open_at}
-use Rattle.sixel_decoder.proofs.header.read_header.Goals as goal
 use Rattle.std.proofs.lemmas.Bool.Decides.{nat_tests}
+use Rattle.sixel_decoder.proofs.header.read_header.Goals as goal
 
 pub header-init : goal.header-init
 header-init c = record { read = []; keeps = c.new-header.ensures; ahead = refl; rest = refl }

@@ -1,8 +1,7 @@
-use Rattle.std.proofs.Common.{sym, ◌∙◌, arith}
+use Rattle.std.proofs.{Common.{sym, ◌∙◌, arith}, lemmas.Bool.Decides.nat_tests}
 use Rattle.sixel_decoder.proofs.dcs_sequences.Ends.{ended_at, goes_open, terminator_same}
 use Rattle.sixel_decoder.proofs.images.ImageEnds.{first_in, goes_past}
 use Rattle.sixel_decoder.proofs.image_end.add_inside.Goals as goal
-use Rattle.std.proofs.lemmas.Bool.Decides.{nat_tests}
 
 pub returns-in-Some-clause-goes : goal.returns-in-Some-clause-goes
 returns-in-Some-clause-goes c = λ before is.

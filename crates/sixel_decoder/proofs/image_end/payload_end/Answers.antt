@@ -1,9 +1,7 @@
-use Rattle.std.proofs.Common.{◌∙◌, arith}
-use Rattle.std.proofs.lemmas.Bool.Decides.{nat_tests}
+use Rattle.std.proofs.{Common.{◌∙◌, arith}, lemmas.Bool.Decides.nat_tests}
 use Rattle.sixel_decoder.proofs.chunks.Joined.{count-append, first_terminator-append}
 use Rattle.sixel_decoder.proofs.chunks.Joined.{first_terminator-ended}
-use Rattle.sixel_decoder.proofs.dcs_sequences.Ends.{terminator_same}
-use Rattle.sixel_decoder.proofs.images.Finality.{count_ended}
+use Rattle.sixel_decoder.proofs.{dcs_sequences.Ends.terminator_same, images.Finality.count_ended}
 use Rattle.sixel_decoder.proofs.image_end.payload_end.Goals as goal
 
 pub returns-clause-counted : goal.returns-clause-counted

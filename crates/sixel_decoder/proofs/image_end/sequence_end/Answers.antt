@@ -1,6 +1,5 @@
 use Rattle.std.proofs.Common.{◌∙◌}
-use Rattle.sixel_decoder.specs.ImageEnds.{inside}
-use Rattle.sixel_decoder.proofs.images.ImageEnds.{extends}
+use Rattle.sixel_decoder.{proofs.images.ImageEnds.extends, specs.ImageEnds.inside}
 use Rattle.sixel_decoder.proofs.image_end.sequence_end.Goals as goal
 
 pub returns-clause-counted : goal.returns-clause-counted

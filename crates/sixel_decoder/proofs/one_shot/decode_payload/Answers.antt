@@ -1,14 +1,9 @@
 use Rattle.std.proofs.Common.{◌≡◌, ◌*◌, ◌∙◌, ap, sym, arith, Ok, Err, Result, List, ℕ}
 use Rattle.std.specs.Prelude.{IfOk}
-use Rattle.sixel_base.specs.Clip.{clipped_pixel}
-use Rattle.sixel_base.specs.declared.error.SixelError.{SixelError}
-use Rattle.sixel_base.specs.declared.state.DecoderState.{DecoderState}
-use Rattle.sixel_base.specs.Decoder.{origin_of}
-use Rattle.sixel_base.specs.OneShot.{Payload}
-use Rattle.sixel_base.specs.Payload.{tokens}
+use Rattle.sixel_base.specs.{Clip.clipped_pixel, Decoder.origin_of, OneShot.Payload, Payload.tokens}
 use Rattle.sixel_base.specs.Settings.{Settings}
-use Rattle.sixel_decoder.specs.OneShotCalls.{IsDecoded}
-use Rattle.sixel_decoder.specs.PictureView.{picture_value}
+use Rattle.sixel_base.specs.declared.{error.SixelError.SixelError, state.DecoderState.DecoderState}
+use Rattle.sixel_decoder.specs.{OneShotCalls.IsDecoded, PictureView.picture_value}
 use Rattle.sixel_decoder.specs.declared.decoded_payload.DecodedPayload.{DecodedPayload}
 use Rattle.sixel_decoder.specs.inside.PayloadParser.{Decodes}
 use Rattle.sixel_decoder.proofs.images.WholePictures.{whole_picture}

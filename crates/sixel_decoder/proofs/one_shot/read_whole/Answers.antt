@@ -1,7 +1,6 @@
 use Rattle.sixel_decoder.proofs.chunks.PayloadFaults.{payload_refused, payload_ends}
+use Rattle.std.proofs.{Common.arith, lemmas.Bool.Decides.nat_tests}
 use Rattle.sixel_decoder.proofs.one_shot.read_whole.Goals as goal
-use Rattle.std.proofs.Common.{arith}
-use Rattle.std.proofs.lemmas.Bool.Decides.{nat_tests}
 
 pub returns-in-Ok-clause-decodes : goal.returns-in-Ok-clause-decodes
 returns-in-Ok-clause-decodes c =

@@ -1,5 +1,5 @@
 use Rattle.std.proofs.Common.{◌≡◌, ℕ, ◌+◌, ◌-◌, ◌*◌, ◌<◌, length, ap, ◌∙◌, arith}
-use Rattle.sixel_encoder.specs.{inside.Indexed.entry_of, inside.Grid.cell, inside.Grid.pixel_bit}
+use Rattle.sixel_encoder.specs.inside.{Grid.{cell, pixel_bit}, Indexed.entry_of}
 use Rattle.sixel_encoder.proofs.band_rows.Cells.{AreMarks-dot, AreMarks-same, place_inside}
 use Rattle.sixel_encoder.proofs.band_rows.Lines.{pixel_bit-other, pixel_bit-dot, column-dot}
 use Rattle.std.proofs.lemmas.Bool.Decides.{nat_tests}

@@ -1,5 +1,6 @@
-use Rattle.sixel_encoder.proofs.Names.{◌≡◌, ℕ, ◌+◌, ◌-◌, ◌<◌, nat_lt, length, if◌then◌else◌}
-use Rattle.sixel_encoder.specs.inside.{Indexed.entry_of, Grid.cell, Grid.pixel_bit, Grid.AreMarks}
+use Rattle.std.proofs.Common.{◌≡◌, ℕ, ◌+◌, ◌-◌, ◌<◌, nat_lt, length}
+use Rattle.std.specs.Prelude.{if◌then◌else◌}
+use Rattle.sixel_encoder.specs.inside.{Grid.{cell, pixel_bit, AreMarks}, Indexed.entry_of}
 use Rattle.sixel_encoder.proofs.band.add_part_of_line.Given as goal
 
 abbrev pub invariant-columns : goal.invariant-columns

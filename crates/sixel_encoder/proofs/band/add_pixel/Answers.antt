@@ -1,4 +1,4 @@
-use Rattle.sixel_encoder.proofs.Names.{arith, nat_tests}
+use Rattle.std.proofs.{Common.arith, lemmas.Bool.Decides.nat_tests}
 use Rattle.sixel_encoder.proofs.band_rows.Cells.{AreMarks-dot, cell-dot, place_inside}
 use Rattle.sixel_encoder.proofs.band.add_pixel.Goals as goal
 

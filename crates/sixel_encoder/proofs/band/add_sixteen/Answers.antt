@@ -1,4 +1,4 @@
-use Rattle.sixel_encoder.proofs.Names.{◌≡◌, ◌+◌, ◌-◌, ◌*◌, arith, nat_tests}
+use Rattle.std.proofs.{Common.{◌≡◌, ◌+◌, ◌-◌, ◌*◌, arith}, lemmas.Bool.Decides.nat_tests}
 use Rattle.sixel_encoder.proofs.band_rows.Lines.{between-none, cell-run, AreMarks-run}
 use Rattle.sixel_encoder.proofs.band.add_sixteen.Goals as goal
 

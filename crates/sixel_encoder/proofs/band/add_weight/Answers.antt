@@ -1,4 +1,5 @@
-use Rattle.sixel_encoder.proofs.{band_rows.Lines.lanes-more, Names.arith, Names.nat_tests}
+use Rattle.sixel_encoder.proofs.band_rows.Lines.{lanes-more}
+use Rattle.std.proofs.{Common.arith, lemmas.Bool.Decides.nat_tests}
 use Rattle.sixel_encoder.proofs.band.add_weight.Goals as goal
 
 pub returns : goal.returns

@@ -1,4 +1,5 @@
-use Rattle.sixel_encoder.proofs.{Names.arith, Names.nat_tests, band_rows.Lines.between-none}
+use Rattle.std.proofs.{Common.arith, lemmas.Bool.Decides.nat_tests}
+use Rattle.sixel_encoder.proofs.band_rows.Lines.{between-none}
 use Rattle.sixel_encoder.proofs.band.add_whole_line.Goals as goal
 
 pub loop-sixteen-init : goal.loop-sixteen-init

@@ -1,4 +1,4 @@
-use Rattle.sixel_encoder.proofs.Names.{◌≡◌, ◌+◌, ◌-◌, arith, nat_tests}
+use Rattle.std.proofs.{Common.{◌≡◌, ◌+◌, ◌-◌, arith}, lemmas.Bool.Decides.nat_tests}
 use Rattle.sixel_encoder.proofs.band.is_run.Goals as goal
 
 pub returns : goal.returns

@@ -1,4 +1,4 @@
-use Rattle.sixel_encoder.proofs.Names.{arith, nat_tests}
+use Rattle.std.proofs.{Common.arith, lemmas.Bool.Decides.nat_tests}
 use Rattle.sixel_encoder.proofs.band_rows.Masks.{entry_at-below, entry_at-inside}
 use Rattle.sixel_encoder.proofs.band_entries.lane_at.Goals as goal
 

@@ -1,5 +1,5 @@
-use Rattle.sixel_encoder.proofs.Names.{arith, slice_index, ◌+◌, ◌==◌}
-use Rattle.sixel_encoder.proofs.{band_rows.ColumnLanes.mask_is, MaskBits.mask-lt}
+use Rattle.std.{proofs.Common.{arith, slice_index, ◌+◌}, specs.Prelude.{◌==◌}}
+use Rattle.sixel_encoder.{proofs.MaskBits.mask-lt, proofs.band_rows.ColumnLanes.mask_is}
 use Rattle.sixel_encoder.proofs.band_entries.lanes_with.Goals as goal
 
 pub overflow_cast-result : goal.overflow_cast-result

@@ -1,4 +1,4 @@
-use Rattle.sixel_encoder.proofs.Names.{◌≡◌, ◌+◌, ◌*◌, ◌<◌, ℕ, length, slice_index, ◌≢◌}
+use Rattle.std.proofs.Common.{◌≡◌, ◌+◌, ◌*◌, ◌<◌, ℕ, length, slice_index, ◌≢◌}
 use Rattle.sixel_encoder.specs.{Text.entry_at, inside.Compact.lane_of, inside.Indexed.drawing_of}
 use Rattle.sixel_encoder.proofs.band_entries.write_line.Given as goal
 

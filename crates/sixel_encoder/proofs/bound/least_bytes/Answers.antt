@@ -1,12 +1,11 @@
-use Rattle.sixel_encoder.proofs.Names.{◌<◌, arith, refl, sym, nat_tests}
-use Rattle.sixel_encoder.specs.inside.Indexed.{drawing_of}
+use Rattle.std.{proofs.Common.{◌<◌, arith, refl, sym}, proofs.lemmas.Bool.Decides.nat_tests}
+use Rattle.sixel_encoder.proofs.band_rows.ColumnLanes.{opaque-lane}
 use Rattle.sixel_encoder.proofs.band_rows.LaneChanges.{change-left, change-right}
 use Rattle.sixel_encoder.proofs.plain_text.Bound.{bound-start, bound-step, bound-whole}
-use Rattle.sixel_encoder.proofs.plain_text.Bound.{zero-replicated}
+use Rattle.sixel_encoder.{proofs.plain_text.Bound.zero-replicated, specs.inside.Indexed.drawing_of}
 use Rattle.sixel_encoder.proofs.bound.least_bytes.Goals as goal
 use goal.{else-left-right, else-not-is_repeated, then-left-right}
 use goal.{then-not-is_repeated+else-loop-bit-test}
-use Rattle.sixel_encoder.proofs.band_rows.ColumnLanes.{opaque-lane}
 
 pub loop-column-init : goal.loop-column-init
 loop-column-init c = record {

@@ -1,5 +1,5 @@
 use Rattle.std.proofs.Common.{◌≡◌, ◌*◌, ◌+◌, ◌<◌, ◌≤◌, length, slice_index, ℕ}
-use Rattle.sixel_encoder.specs.{inside.Bound.IsBound, inside.Indexed.drawing_of}
+use Rattle.sixel_encoder.specs.inside.{Bound.IsBound, Indexed.drawing_of}
 use Rattle.sixel_encoder.proofs.bound.least_bytes.Given as goal
 
 abbrev pub invariant-loop-column : goal.invariant-loop-column

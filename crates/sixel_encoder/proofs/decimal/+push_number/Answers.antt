@@ -1,5 +1,5 @@
-use Rattle.sixel_encoder.proofs.Names.{rules, arith, decimal, string_bytes, append_assoc}
-use Rattle.sixel_encoder.proofs.Names.{decimal_digit, decimal_step, nat_tests}
+use Rattle.std.proofs.Common.{rules, arith, decimal, string_bytes, append_assoc}
+use Rattle.std.proofs.lemmas.{Bool.Decides.nat_tests, Fmt.{decimal_digit, decimal_step}}
 use Rattle.sixel_encoder.proofs.decimal.+push_number.Goals as goal
 
 pub returns-then-number-lt10 : goal.returns-then-number-lt10

@@ -1,11 +1,11 @@
-use Rattle.sixel_encoder.proofs.Names.{◌≡◌, None, length, ap, arith, nat_tests}
+use Rattle.std.proofs.{Common.{◌≡◌, None, length, ap, arith}, lemmas.Bool.Decides.nat_tests}
 use Rattle.sixel_palette.specs.Dithering.{AreDithered}
 use Rattle.sixel_encoder.specs.Encoding.{image_fault, source_value}
 use Rattle.sixel_palette.proofs.mapped_images.GraySource.{dithered-count, dithered-entry}
-use Rattle.sixel_encoder.proofs.drawings.PaletteText.{rows-sound}
-use Rattle.sixel_encoder.proofs.drawings.Sizes.{rows-image, within-sound, none-found}
-use Rattle.sixel_encoder.proofs.given_palette.encode_in_palette.Goals as goal
+use Rattle.sixel_encoder.proofs.{drawings.PaletteText.rows-sound, drawings.Sizes.rows-image}
+use Rattle.sixel_encoder.proofs.drawings.Sizes.{within-sound, none-found}
 use Rattle.sixel_encoder.proofs.given_palette.encode_in_palette.Goals.{After-deref}
+use Rattle.sixel_encoder.proofs.given_palette.encode_in_palette.Goals as goal
 
 -- the sizes are valid
 sound : (c : After-deref) → image_fault (source_value c.args.source.now) ≡ None

@@ -1,5 +1,5 @@
 use Rattle.std.proofs.Common.{length}
-use Rattle.sixel_encoder.proofs.{drawings.IndexedText.AreEntries-sound, drawings.Sizes.none-judged}
+use Rattle.sixel_encoder.proofs.drawings.{IndexedText.AreEntries-sound, Sizes.none-judged}
 use Rattle.sixel_encoder.proofs.given_palette.encode_with_indices.Goals as goal
 
 pub encode_drawing-requires-clause-opaque : goal.encode_drawing-requires-clause-opaque

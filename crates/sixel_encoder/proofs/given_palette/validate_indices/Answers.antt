@@ -1,5 +1,5 @@
-use Rattle.sixel_encoder.proofs.Names.{arith, list_any_none, get_or-range_with_len}
-use Rattle.sixel_encoder.proofs.Names.{length-range_with_len, nat_tests}
+use Rattle.std.proofs.{Common.arith, lemmas.Bool.Decides.nat_tests, lemmas.List.Folds.list_any_none}
+use Rattle.std.proofs.lemmas.List.FromFn.{get_or-range_with_len, length-range_with_len}
 use Rattle.sixel_encoder.proofs.drawings.IndexedText.{list_any-past}
 use Rattle.sixel_encoder.proofs.given_palette.validate_indices.Goals as goal
 

@@ -1,4 +1,5 @@
-use Rattle.sixel_encoder.proofs.Names.{arith, get_or_past, length-map-range_with_len, nat_tests}
+use Rattle.std.proofs.{Common.arith, lemmas.Bool.Decides.nat_tests, lemmas.List.get_or_past}
+use Rattle.std.proofs.lemmas.List.FromFn.{length-map-range_with_len}
 use Rattle.sixel_encoder.proofs.drawings.IndexedText.{get_or-entries}
 use Rattle.sixel_encoder.proofs.pixels.has_entry.Goals as goal
 

@@ -1,4 +1,5 @@
-use Rattle.sixel_encoder.proofs.Names.{◌≡◌, ◌+◌, ◌-◌, ◌*◌, ◌<◌, length, arith, nat_tests}
+use Rattle.std.proofs.Common.{◌≡◌, ◌+◌, ◌-◌, ◌*◌, ◌<◌, length, arith}
+use Rattle.std.proofs.lemmas.Bool.Decides.{nat_tests}
 use Rattle.sixel_encoder.proofs.drawings.IndexedText.{get_or-entries}
 use Rattle.sixel_encoder.proofs.band_rows.Masks.{length-entries}
 use Rattle.sixel_encoder.proofs.round_trip.UsedBands.{window-any, window-some}

@@ -1,4 +1,4 @@
-use Rattle.sixel_encoder.proofs.Names.{◌≡◌, ℕ, ◌<◌, ◌≤◌, None}
+use Rattle.std.proofs.Common.{◌≡◌, ℕ, ◌<◌, ◌≤◌, None}
 use Rattle.sixel_encoder.specs.inside.Indexed.{entry_of}
 use Rattle.sixel_encoder.proofs.pixels.is_used.Given as goal
 

@@ -1,5 +1,5 @@
 use Rattle.std.proofs.Common.{◌≡◌}
-use Rattle.sixel_encoder.specs.{Trip.bands_up_to, Trip.is_used, inside.Indexed.drawing_of}
+use Rattle.sixel_encoder.specs.{Trip.{bands_up_to, is_used}, inside.Indexed.drawing_of}
 use Rattle.sixel_encoder.proofs.pixels.used_bands.Given as goal
 
 abbrev pub invariant-loop-band : goal.invariant-loop-band

@@ -1,10 +1,10 @@
-use Rattle.sixel_encoder.proofs.Names.{with_items_is, IfOk-weaker, get_or-map, length-map, length}
-use Rattle.sixel_encoder.proofs.Names.{nat_tests, arith, ◌≡◌, ◌-◌, ◌*◌, ◌∙◌, ◌∷◌, map, max, ap, ℕ}
-use Rattle.sixel_encoder.specs.Encoding.{source_value}
-use Rattle.sixel_encoder.specs.RefinedText.{next_index, others_of}
+use Rattle.std.proofs.lemmas.{Bool.Decides.nat_tests, List.{with_items_is, get_or-map, length-map}}
+use Rattle.std.proofs.lemmas.Result.{IfOk-weaker}
+use Rattle.std.proofs.Common.{length, arith, ◌≡◌, ◌-◌, ◌*◌, ◌∙◌, ◌∷◌, map, max, ap, ℕ}
+use Rattle.sixel_encoder.specs.{Encoding.source_value, RefinedText.{next_index, others_of}}
 use Rattle.sixel_encoder.proofs.drawings.Sizes.{rows-image, within-sound, none-found}
-use Rattle.sixel_encoder.proofs.refined.encode_on_background.Goals as goal
 use Rattle.sixel_encoder.proofs.refined.encode_on_background.Goals.{After-deref-2}
+use Rattle.sixel_encoder.proofs.refined.encode_on_background.Goals as goal
 
 -- the entries behind the background
 moved : (c : After-deref-2)

@@ -1,4 +1,4 @@
-use Rattle.sixel_encoder.proofs.Names.{arith, IfOk-at_ok, IfOk-weaker}
+use Rattle.std.proofs.{Common.arith, lemmas.Result.{IfOk-at_ok, IfOk-weaker}}
 use Rattle.sixel_encoder.specs.Encoding.{source_value}
 use Rattle.sixel_encoder.proofs.drawings.RefinedText.{ShowsEntries-register}
 use Rattle.sixel_encoder.proofs.drawings.Sizes.{rows-image, within-sound, none-found}

@@ -1,4 +1,5 @@
-use Rattle.sixel_encoder.proofs.Names.{arith, get_or, get_or_default, map_over_more}
+use Rattle.std.proofs.Common.{arith, get_or}
+use Rattle.std.proofs.lemmas.{List.get_or_default, List.Edits.map_over_more}
 use Rattle.sixel_encoder.specs.RefinedText.{next_index}
 use Rattle.sixel_encoder.proofs.refined.follow_background.Goals as goal
 

@@ -1,4 +1,4 @@
-use Rattle.sixel_encoder.proofs.Names.{arith, nat_tests}
+use Rattle.std.proofs.{Common.arith, lemmas.Bool.Decides.nat_tests}
 use Rattle.sixel_encoder.proofs.band_rows.ShortestRows.{tokens_skip, spells, shortest}
 use Rattle.sixel_encoder.proofs.run_tokens.push_row.Goals as goal
 

@@ -1,4 +1,4 @@
-use Rattle.sixel_encoder.proofs.Names.{arith, nat_tests}
+use Rattle.std.proofs.{Common.arith, lemmas.Bool.Decides.nat_tests}
 use Rattle.sixel_encoder.proofs.band_rows.Lanes.{mask_is, all_equal, first_equal, first_other}
 use Rattle.sixel_encoder.proofs.runs.equal_from.Goals as goal
 

@@ -1,4 +1,4 @@
-use Rattle.sixel_encoder.proofs.Names.{◌≡◌, ◌+◌, ◌-◌, arith, ℕ, nat_tests}
+use Rattle.std.proofs.{Common.{◌≡◌, ◌+◌, ◌-◌, arith, ℕ}, lemmas.Bool.Decides.nat_tests}
 use Rattle.sixel_encoder.proofs.compact_form.FillSteps.{union-more, union-none}
 use Rattle.sixel_encoder.proofs.segment_rows.union_of.Goals as goal
 

@@ -1,13 +1,13 @@
-use Rattle.sixel_encoder.proofs.Names.{◌≡◌, ◌+◌, ◌<◌, ◌≤◌, length, ap, refl, ◌∙◌, arith, nat_tests}
-use Rattle.sixel_encoder.proofs.{Names.IfOk-from_err, compact_form.RunSegments.run-pixel}
-use Rattle.sixel_encoder.specs.Segments.{gap_of, with_pixel}
-use Rattle.sixel_encoder.specs.{Text.Drawing, inside.Indexed.drawing_of}
-use Rattle.sixel_encoder.proofs.band_rows.ColumnLanes.{opaque-lane, transparent-lane}
+use Rattle.std.proofs.Common.{◌≡◌, ◌+◌, ◌<◌, ◌≤◌, length, ap, refl, ◌∙◌, arith}
+use Rattle.std.proofs.lemmas.{Bool.Decides.nat_tests, Result.IfOk-from_err}
 use Rattle.sixel_encoder.proofs.compact_form.PassSteps.{none-replicated, segment-pixel}
 use Rattle.sixel_encoder.proofs.compact_form.PassSteps.{segment-skip, segments_up_to-none}
-use Rattle.sixel_encoder.proofs.compact_form.PassSteps.{with_pixel-twice}
+use Rattle.sixel_encoder.proofs.compact_form.{PassSteps.with_pixel-twice, RunSegments.run-pixel}
 use Rattle.sixel_encoder.proofs.compact_form.RunSegments.{columns-blank, columns-whole, run-made}
 use Rattle.sixel_encoder.proofs.compact_form.SegmentSteps.{AreLast-later, AreLast-none}
+use Rattle.sixel_encoder.specs.{Segments.{gap_of, with_pixel}, Text.Drawing}
+use Rattle.sixel_encoder.specs.inside.Indexed.{drawing_of}
+use Rattle.sixel_encoder.proofs.band_rows.ColumnLanes.{opaque-lane, transparent-lane}
 use Rattle.sixel_encoder.proofs.segments.band_segments.Goals as goal
 use goal.{then-is_new+in_ok-push_run-2, else-is_new}
 

@@ -1,6 +1,6 @@
 use Rattle.std.proofs.Common.{◌≡◌, length, ◌+◌, ◌-◌, ◌*◌, ◌<◌, ◌≤◌}
 use Rattle.sixel_encoder.specs.Segments.{segments_up_to, with_pixel}
-use Rattle.sixel_encoder.specs.{inside.Compact.AreLast, inside.Indexed.drawing_of}
+use Rattle.sixel_encoder.specs.inside.{Compact.AreLast, Indexed.drawing_of}
 use Rattle.sixel_encoder.proofs.segments.band_segments.Given as goal
 
 abbrev pub invariant-columns : goal.invariant-columns

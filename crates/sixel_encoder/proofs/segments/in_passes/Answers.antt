@@ -1,7 +1,7 @@
-use Rattle.sixel_encoder.proofs.Names.{vec_len, ◌≡◌, [], arith, nat_tests}
-use Rattle.sixel_encoder.specs.Segments.{passes}
+use Rattle.std.{proofs.Common.{◌≡◌, [], arith}, proofs.lemmas.Bool.Decides.nat_tests}
+use Rattle.std.specs.Prelude.{vec_len}
 use Rattle.sixel_encoder.proofs.compact_form.PassSteps.{length-none, passes-end, passes-none}
-use Rattle.sixel_encoder.proofs.compact_form.PassSteps.{passes-step}
+use Rattle.sixel_encoder.{proofs.compact_form.PassSteps.passes-step, specs.Segments.passes}
 use Rattle.sixel_encoder.proofs.segments.in_passes.Goals as goal
 
 pub loop-preserved : goal.loop-preserved

@@ -1,5 +1,7 @@
-use Rattle.sixel_encoder.proofs.Names.{◌≡◌, ℕ, ◌<◌, length, false, arith, get_or_default, nat_tests}
-use Rattle.sixel_encoder.specs.{declared.segments.Segment.Segment, inside.Compact.nth}
+use Rattle.std.proofs.Common.{◌≡◌, ℕ, ◌<◌, length, false, arith}
+use Rattle.std.proofs.lemmas.{Bool.Decides.nat_tests, List.get_or_default}
+use Rattle.sixel_encoder.specs.declared.segments.Segment.{Segment}
+use Rattle.sixel_encoder.specs.inside.Compact.{nth}
 use Rattle.sixel_encoder.proofs.compact_form.RunSegments.{AreLast-longer, AreLast-run, run-near}
 use Rattle.sixel_encoder.proofs.compact_form.{RunSegments.run-new, SegmentSteps.some-same}
 use Rattle.sixel_encoder.proofs.compact_form.SegmentSteps.{is_near, last-far, near-own, none-near}

@@ -1,6 +1,7 @@
-use Rattle.sixel_encoder.proofs.Names.{[], subst, All, arith, get_or_default, nat_tests}
-use Rattle.sixel_encoder.specs.Trip.{IsColor}
+use Rattle.std.{proofs.Common.{[], subst, arith}, proofs.lemmas.Bool.Decides.nat_tests}
+use Rattle.std.{proofs.lemmas.List.get_or_default, specs.Prelude.All}
 use Rattle.sixel_encoder.proofs.drawings.IndexedText.{IsTextOf-written, IsWritable-indexed}
+use Rattle.sixel_encoder.specs.Trip.{IsColor}
 use Rattle.sixel_encoder.proofs.source.encode_drawing.Goals as goal
 
 pub returns-clause-text : goal.returns-clause-text

@@ -1,7 +1,6 @@
-use Rattle.sixel_encoder.proofs.Names.{arith, IfOk-weaker}
-use Rattle.sixel_encoder.specs.Encoding.{source_value}
-use Rattle.sixel_encoder.proofs.drawings.{IndexedText.IsDrawing-chosen, Sizes.within-sound}
-use Rattle.sixel_encoder.proofs.{drawings.Sizes.none-found}
+use Rattle.std.{proofs.Common.arith, proofs.lemmas.Result.IfOk-weaker}
+use Rattle.sixel_encoder.{specs.Encoding.source_value, proofs.drawings.IndexedText.IsDrawing-chosen}
+use Rattle.sixel_encoder.proofs.drawings.Sizes.{within-sound, none-found}
 use Rattle.sixel_encoder.proofs.source.encode_source.Goals as goal
 
 pub encode_drawing-requires-clause-count : goal.encode_drawing-requires-clause-count

@@ -1,4 +1,4 @@
-use Rattle.sixel_encoder.proofs.Names.{append_assoc, arith, refl, nat_tests}
+use Rattle.std.proofs.{Common.{append_assoc, arith, refl}, lemmas.Bool.Decides.nat_tests}
 use Rattle.sixel_encoder.proofs.band_rows.Dots.{appended-start, appended-more}
 use Rattle.sixel_encoder.proofs.text.encode_indexed.Goals as goal
 

@@ -1,6 +1,6 @@
 use Rattle.std.proofs.Common.{◌≡◌, ◌++◌, string_bytes}
 use Rattle.sixel_base.specs.Picture.{joined}
-use Rattle.sixel_encoder.specs.{Text.band_text, inside.Indexed.drawing_of, inside.Grid.AreEmptyRows}
+use Rattle.sixel_encoder.specs.{Text.band_text, inside.Grid.AreEmptyRows, inside.Indexed.drawing_of}
 use Rattle.sixel_encoder.proofs.text.encode_indexed.Given as goal
 
 abbrev pub invariant-loop-band : goal.invariant-loop-band

@@ -1,4 +1,4 @@
-use Rattle.sixel_encoder.proofs.Names.{arith, common_steps}
+use Rattle.std.proofs.{Common.arith, lemmas.Grind.common_steps}
 use Rattle.sixel_encoder.proofs.JoinedLists.{joined-none, joined-more}
 use Rattle.sixel_encoder.proofs.text.push_palette.Goals as goal
 

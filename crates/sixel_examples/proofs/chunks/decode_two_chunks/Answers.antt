@@ -1,6 +1,5 @@
 use Rattle.std.proofs.Common.{◌≡◌, ℕ, List, ◌++◌, refl, subst}
-use Rattle.sixel_base.specs.Fault.{Faults}
-use Rattle.sixel_base.specs.Payload.{payload_fault, payload_wants}
+use Rattle.sixel_base.specs.{Fault.Faults, Payload.{payload_fault, payload_wants}}
 use Rattle.sixel_base.specs.declared.error.SixelError.{SixelError}
 use Rattle.sixel_examples.proofs.chunks.decode_two_chunks.Goals as goal
 

@@ -1,6 +1,4 @@
-use Rattle.std.proofs.Common.{arith}
-use Rattle.std.proofs.lemmas.List.{get_or_default}
-use Rattle.std.proofs.lemmas.Bool.Decides.{nat_tests}
+use Rattle.std.proofs.{Common.arith, lemmas.Bool.Decides.nat_tests, lemmas.List.get_or_default}
 use Rattle.sixel_palette.proofs.dithering.channel_bytes.Goals as goal
 
 pub returns-clause-bytes : goal.returns-clause-bytes

@@ -1,5 +1,4 @@
-use Rattle.std.proofs.Common.{arith, ◌+◌, ◌-◌, ◌*◌, ◌≤◌}
-use Rattle.std.proofs.lemmas.Bool.Decides.{nat_tests}
+use Rattle.std.proofs.{Common.{arith, ◌+◌, ◌-◌, ◌*◌, ◌≤◌}, lemmas.Bool.Decides.nat_tests}
 use Rattle.sixel_palette.proofs.dithering.error_diffusion.Goals as goal
 
 -- what is passed on is at most 510 sixteenths an eighth away from nothing

@@ -1,15 +1,11 @@
 use Rattle.sixel_palette.proofs.mapped_images.GraySource.{errors-gray, is-gray, target-gray}
-use Rattle.sixel_palette.proofs.mapped_images.GraySource.{distance-gray}
-use Rattle.sixel_palette.proofs.mapped_images.GraySource.{entry-gray, gray-color, gray-length}
+use Rattle.sixel_palette.proofs.mapped_images.GraySource.{distance-gray, entry-gray, gray-color}
+use Rattle.sixel_palette.proofs.mapped_images.{GraySource.gray-length, PaletteError.any-near}
 use Rattle.std.proofs.Common.{arith, ℕ, [], ◌+◌, ◌-◌, ◌*◌}
-use Rattle.std.proofs.lemmas.Bool.Decides.{nat_tests}
-use Rattle.std.proofs.lemmas.List.{get_or_past}
-use Rattle.std.specs.Prelude.{slice_index, slice_index_or}
+use Rattle.std.proofs.lemmas.{Bool.Decides.nat_tests, List.get_or_past, Nat.mul-le}
+use Rattle.std.specs.{Int.abs_diff, Prelude.{slice_index, slice_index_or}}
 use Rattle.sixel_palette.specs.Dithering.{errors_of, neighbor_of, serpentine, target_of_visit}
 use Rattle.sixel_palette.specs.Dithering.{rounded_sixteenths}
-use Rattle.sixel_palette.proofs.mapped_images.PaletteError.{any-near}
-use Rattle.std.specs.Int.{abs_diff}
-use Rattle.std.proofs.lemmas.Nat.{mul-le}
 use Rattle.sixel_palette.proofs.dithering.gray_diffusion.Goals as goal
 
 pub returns-clause-grays : goal.returns-clause-grays

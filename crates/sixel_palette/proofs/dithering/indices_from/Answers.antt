@@ -1,9 +1,7 @@
-use Rattle.std.proofs.Common.{◌≡◌, length, arith}
-use Rattle.sixel_palette.specs.Dithering.{mapped_of}
-use Rattle.sixel_palette.specs.Gray.{source_pixels}
+use Rattle.std.proofs.{Common.{◌≡◌, length, arith}, lemmas.Bool.Decides.nat_tests}
+use Rattle.sixel_palette.specs.{Dithering.mapped_of, Gray.source_pixels}
 use Rattle.sixel_palette.proofs.mapped_images.AllKinds.{have-none}
 use Rattle.sixel_palette.proofs.mapped_images.GraySource.{AreRowsOf-source, IsSource-pixels}
-use Rattle.std.proofs.lemmas.Bool.Decides.{nat_tests}
 use Rattle.sixel_palette.proofs.dithering.indices_from.Goals as goal
 
 pub returns-then-is_empty : goal.returns-then-is_empty

@@ -1,5 +1,4 @@
-use Rattle.std.proofs.Common.{◌/◌, arith, length}
-use Rattle.std.proofs.lemmas.List.{get_or_default}
+use Rattle.std.proofs.{Common.{◌/◌, arith, length}, lemmas.List.get_or_default}
 use Rattle.sixel_palette.specs.declared.mapping.Mapping.{Mapping}
 use Rattle.sixel_palette.proofs.mapped_images.DitheredIndices.{AreRowsOf}
 use Rattle.sixel_palette.proofs.mapped_images.GraySource.{dithered-count, dithered-entry}

@@ -1,12 +1,10 @@
 use Rattle.std.proofs.Common.{◌≡◌, arith, subst, sym, ◌∙◌}
-use Rattle.sixel_palette.specs.declared.dither.Dither.{Dither}
-use Rattle.sixel_palette.specs.declared.mapping.Tolerance.TheVariants.{Auto}
+use Rattle.sixel_palette.specs.declared.{dither.Dither.Dither, mapping.Tolerance.TheVariants.Auto}
 use Rattle.sixel_palette.specs.Dithering.{HaveIndices, mapped_of}
 use Rattle.sixel_palette.proofs.mapped_images.DiffusionLaws.{AreDiffused-held}
-use Rattle.sixel_palette.proofs.mapped_images.DitheredIndices.{AreRows}
-use Rattle.sixel_palette.proofs.mapped_images.PaletteError.{error-none, held-none}
-use Rattle.std.proofs.lemmas.Bool.Decides.{nat_tests}
-use Rattle.std.proofs.lemmas.Result.{IfOk-weaker}
+use Rattle.sixel_palette.proofs.mapped_images.{DitheredIndices.AreRows, PaletteError.error-none}
+use Rattle.sixel_palette.proofs.mapped_images.PaletteError.{held-none}
+use Rattle.std.proofs.lemmas.{Bool.Decides.nat_tests, Result.IfOk-weaker}
 use Rattle.sixel_palette.proofs.dithering.mapped_indices.Goals as goal
 
 pub returns-in_ok-nearest-in-Off : goal.returns-in_ok-nearest-in-Off

@@ -1,21 +1,17 @@
-use Rattle.std.proofs.Common.{◌≡◌, ◌<◌, ℕ, length, subst, arith, refl}
-use Rattle.std.specs.Prelude.{◌/◌, All}
-use Rattle.std.proofs.lemmas.Bool.Decides.{nat_tests}
-use Rattle.std.proofs.lemmas.List.{get_or_default}
-use Rattle.sixel_palette.proofs.colors.Colors.{IsColor}
-use Rattle.sixel_palette.specs.Palette.{IsOpaque, color_at}
-use Rattle.sixel_palette.specs.declared.dither.Dither.{Dither}
-use Rattle.sixel_palette.specs.declared.dither.Dither.TheVariants.{Off}
-use Rattle.sixel_palette.specs.Dithering.{HaveIndices, Mapped, mapped_of, tolerance_of}
-use Rattle.sixel_palette.specs.Dithering.{undithered_of}
-use Rattle.sixel_palette.specs.Gray.{source_pixels}
-use Rattle.sixel_palette.proofs.mapped_images.DiffusionLaws.{AreHeld, AreIndices-exact}
+use Rattle.std.{proofs.Common.{◌≡◌, ◌<◌, ℕ, length, subst, arith, refl}, specs.Prelude.{◌/◌, All}}
+use Rattle.std.{proofs.lemmas.Bool.Decides.nat_tests, proofs.lemmas.List.get_or_default}
+use Rattle.sixel_palette.{proofs.colors.Colors.IsColor, proofs.mapped_images.DiffusionLaws.AreHeld}
+use Rattle.sixel_palette.proofs.mapped_images.DiffusionLaws.{AreIndices-exact}
 use Rattle.sixel_palette.proofs.mapped_images.DitheredIndices.{AreRows}
 use Rattle.sixel_palette.proofs.mapped_images.GraySource.{AreIndices-source, AreRowsOf-source}
-use Rattle.sixel_palette.proofs.mapped_images.GraySource.{IsSource-pixels}
-use Rattle.sixel_palette.proofs.mapped_images.GraySource.{bytes-source, dithered-count, chosen-own}
+use Rattle.sixel_palette.proofs.mapped_images.GraySource.{IsSource-pixels, bytes-source}
+use Rattle.sixel_palette.proofs.mapped_images.GraySource.{dithered-count, chosen-own}
 use Rattle.sixel_palette.proofs.mapped_images.PaletteError.{tolerance-held}
 use Rattle.sixel_palette.proofs.mapped_images.UnditheredLaws.{AreIndices-chosen, chosen-bound}
+use Rattle.sixel_palette.specs.Dithering.{HaveIndices, Mapped, mapped_of, tolerance_of}
+use Rattle.sixel_palette.{specs.Dithering.undithered_of, specs.Gray.source_pixels}
+use Rattle.sixel_palette.{specs.Palette.{IsOpaque, color_at}, specs.declared.dither.Dither.Dither}
+use Rattle.sixel_palette.specs.declared.dither.Dither.TheVariants.{Off}
 use Rattle.sixel_palette.proofs.dithering.palette_indices.Goals as goal
 
 -- the rows of an image without a fault, mapped in any way to the colors

@@ -1,13 +1,9 @@
-use Rattle.std.proofs.Common.{length, arith, rules}
-use Rattle.std.specs.Prelude.{slice_index}
-use Rattle.std.proofs.lemmas.List.{get_or_default}
-use Rattle.sixel_palette.specs.Palette.{palette_room, IsShown}
-use Rattle.sixel_palette.specs.inside.Chosen.{IsChosen}
-use Rattle.sixel_palette.specs.inside.Codes.{color_of}
+use Rattle.std.{proofs.Common.{length, arith, rules}, proofs.lemmas.Bool.Decides.nat_tests}
+use Rattle.std.{proofs.lemmas.List.get_or_default, specs.Prelude.slice_index}
+use Rattle.sixel_palette.{specs.Palette.{palette_room, IsShown}, specs.inside.Chosen.IsChosen}
+use Rattle.sixel_palette.{specs.inside.Codes.color_of, proofs.traversal.Order.members_from_order}
 use Rattle.sixel_palette.proofs.traversal.Choices as chosen
-use Rattle.sixel_palette.proofs.traversal.Order.{members_from_order}
 use Rattle.sixel_palette.proofs.palette.choose_palette.Goals as goal
-use Rattle.std.proofs.lemmas.Bool.Decides.{nat_tests}
 
 pub returns : goal.returns
 returns c =

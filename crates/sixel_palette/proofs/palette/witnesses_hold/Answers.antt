@@ -1,5 +1,4 @@
-use Rattle.std.proofs.Common.{◌≤◌, length, arith}
-use Rattle.std.proofs.lemmas.Bool.Decides.{nat_tests}
+use Rattle.std.proofs.{Common.{◌≤◌, length, arith}, lemmas.Bool.Decides.nat_tests}
 use Rattle.sixel_palette.proofs.traversal.Apart.{apart_from_least, bound_from_apart}
 use Rattle.sixel_palette.proofs.traversal.Apart.{least_from_apart}
 use Rattle.sixel_palette.proofs.palette.witnesses_hold.Goals as goal

@@ -1,8 +1,7 @@
 //! The bases of the words of flags, for the ranks of the codes.
 
 ghost use Rattle.std.specs.Prelude.{◌≡◌, ◌+◌, ◌*◌, ◌/◌, ◌<◌, length};
-ghost use Rattle.sixel_palette.specs.inside.Codes.{code_count};
-ghost use Rattle.sixel_palette.specs.inside.Flags.{HasBases, IsPaged, rank_of};
+ghost use Rattle.sixel_palette.specs.inside.{Codes.code_count, Flags.{HasBases, IsPaged, rank_of}};
 
 use crate::palette::color_set::flags::{Flags, PAGE_WORDS, PAGES};
 

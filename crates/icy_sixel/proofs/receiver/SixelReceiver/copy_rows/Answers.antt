@@ -1,13 +1,11 @@
 use Rattle.std.proofs.Common.{◌≡◌, ◌+◌, ◌∙◌, false, ℕ, List, ap, sym, subst, refl, arith, rules}
-use Rattle.std.specs.Prelude.{nat_lt}
-use Rattle.std.proofs.lemmas.Bool.Decides.{nat_tests}
-use Rattle.sixel_base.specs.{Clip.clipped_pixel, Payload.tokens, Stroke.Origin}
+use Rattle.std.{proofs.lemmas.Bool.Decides.nat_tests, specs.Prelude.nat_lt}
+use Rattle.sixel_base.{specs.Clip.clipped_pixel, specs.Payload.tokens, specs.Stroke.Origin}
 use Rattle.sixel_canvas.specs.Layout.{AreCopied}
-use Rattle.sixel_decoder.specs.FinalRows.{found_pixel}
-use Rattle.sixel_decoder.specs.Reception.{HasNoPayload, IsPayloadOf}
-use Rattle.icy_sixel.specs.{ReceivedRows.rows_so_far, Receiver.Receiver, Receiver.Reception}
+use Rattle.sixel_decoder.{specs.FinalRows.found_pixel, specs.Reception.{HasNoPayload, IsPayloadOf}}
 use Rattle.icy_sixel.proofs.StoredErrors.{lent_stored, none_stored}
 use Rattle.icy_sixel.proofs.receiver.SixelReceiver.copy_rows.Goals.{in-Some, in_default}
+use Rattle.icy_sixel.{specs.ReceivedRows.rows_so_far, specs.Receiver.{Receiver, Reception}}
 use Rattle.icy_sixel.proofs.receiver.SixelReceiver.copy_rows.Goals as goal
 
 pub returns-clause-copied : goal.returns-clause-copied

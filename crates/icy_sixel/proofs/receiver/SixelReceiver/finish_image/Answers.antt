@@ -1,8 +1,7 @@
 use Rattle.std.proofs.Common.{◌≡◌, ℕ, List, refl, arith}
 use Rattle.sixel_base.specs.Picture.{joined, picture}
 use Rattle.sixel_decoder.proofs.images.FinishedImages.{finished_as}
-use Rattle.icy_sixel.specs.ImageView.{image_value}
-use Rattle.icy_sixel.specs.ReceivedImages.{left_image, whole_value}
+use Rattle.icy_sixel.specs.{ImageView.image_value, ReceivedImages.{left_image, whole_value}}
 use Rattle.icy_sixel.specs.declared.receiver.received_image.ReceivedImage.{ReceivedImage}
 use Rattle.icy_sixel.proofs.receiver.SixelReceiver.finish_image.Goals as goal
 

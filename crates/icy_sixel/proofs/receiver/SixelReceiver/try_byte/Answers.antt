@@ -1,11 +1,9 @@
-use Rattle.std.proofs.Common.{◌∷◌, [], Bool, Ok, refl, arith}
-use Rattle.std.specs.{Bool.then_some, Option.option_map, Prelude.IfSome, Prelude.IsTrue}
+use Rattle.std.proofs.{Common.{◌∷◌, [], Bool, Ok, refl, arith}, lemmas.Bool.Decides.nat_tests}
+use Rattle.std.specs.{Bool.then_some, Option.option_map, Prelude.{IfSome, IsTrue}}
 use Rattle.sixel_decoder.specs.declared.received.Received.{Received}
-use Rattle.icy_sixel.specs.ReceiverCalls.{IsFed}
-use Rattle.icy_sixel.specs.inside.Receiving.{fault_of, receiver_of}
+use Rattle.icy_sixel.specs.{ReceiverCalls.IsFed, inside.Receiving.{fault_of, receiver_of}}
 use Rattle.icy_sixel.proofs.{Chunks.fed_counted, StoredErrors.fed_ok}
 use Rattle.icy_sixel.proofs.receiver.SixelReceiver.try_byte.Goals.{in-Payload, in-ControlString}
-use Rattle.std.proofs.lemmas.Bool.Decides.{nat_tests}
 use Rattle.icy_sixel.proofs.receiver.SixelReceiver.try_byte.Goals as goal
 
 -- the byte was read

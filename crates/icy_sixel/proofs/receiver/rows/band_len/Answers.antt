@@ -1,5 +1,4 @@
-use Rattle.std.proofs.Common.{◌≡◌, get_or, add-one, arith}
-use Rattle.std.proofs.lemmas.Bool.Decides.{nat_tests}
+use Rattle.std.proofs.{Common.{◌≡◌, get_or, add-one, arith}, lemmas.Bool.Decides.nat_tests}
 use Rattle.icy_sixel.proofs.Bands.{band_at, band_whole}
 use Rattle.icy_sixel.proofs.receiver.rows.band_len.Goals as goal
 

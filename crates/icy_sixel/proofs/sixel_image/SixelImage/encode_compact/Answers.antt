@@ -1,13 +1,12 @@
-use Rattle.std.proofs.Common.{◌≡◌, List, ℕ, sym, refl, arith}
+use Rattle.std.proofs.{Common.{◌≡◌, List, ℕ, sym, refl, arith}, lemmas.Bool.Decides.nat_tests}
 use Rattle.std.specs.Prelude.{All, IfErr, IfOk, MatchOption, OnOk, Result, Err, string_bytes, ◌<◌}
-use Rattle.sixel_base.specs.{declared.error.SixelError.SixelError, Payload.Image}
+use Rattle.sixel_base.specs.{Payload.Image, declared.error.SixelError.SixelError}
 use Rattle.sixel_base.specs.declared.error.SixelError.TheVariants.{OutOfMemory}
 use Rattle.sixel_encoder.specs.{Compact.IsCompactText, Encoding.image_fault}
 use Rattle.sixel_encoder.specs.declared.form.TextForm.TheVariants.{Compact}
 use Rattle.icy_sixel.specs.ImageView.{image_value}
 use Rattle.sixel_encoder.proofs.drawings.EncodedText.{hidden-written, one_string-written}
 use Rattle.sixel_encoder.proofs.drawings.EncodedText.{read_back-written, short-written}
-use Rattle.std.proofs.lemmas.Bool.Decides.{nat_tests}
 use Rattle.icy_sixel.proofs.sixel_image.SixelImage.encode_compact.Goals as goal
 
 -- what is ensured of a compact output

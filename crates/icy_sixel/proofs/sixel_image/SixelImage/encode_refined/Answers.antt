@@ -1,9 +1,8 @@
-use Rattle.std.proofs.Common.{◌<◌, subst, sym, arith}
+use Rattle.std.proofs.{Common.{◌<◌, subst, sym, arith}, lemmas.Bool.Decides.nat_tests}
 use Rattle.std.specs.Prelude.{All, OnOk, string_bytes}
 use Rattle.sixel_base.specs.{CallFault.color_count_fault, Payload.Image}
 use Rattle.icy_sixel.specs.ImageView.{image_value}
 use Rattle.sixel_encoder.proofs.drawings.RefinedText.{hidden-refined}
-use Rattle.std.proofs.lemmas.Bool.Decides.{nat_tests}
 use Rattle.icy_sixel.proofs.sixel_image.SixelImage.encode_refined.Goals as goal
 
 pub returns-clause-hidden : goal.returns-clause-hidden

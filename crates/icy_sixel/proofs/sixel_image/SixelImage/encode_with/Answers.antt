@@ -1,7 +1,6 @@
-use Rattle.std.proofs.{Common.arith, lemmas.Bool.Decides.nat_tests}
+use Rattle.std.{proofs.Common.arith, proofs.lemmas.Bool.Decides.nat_tests}
 use Rattle.std.specs.Prelude.{string_bytes}
-use Rattle.icy_sixel.specs.ImageView.{image_value}
-use Rattle.icy_sixel.proofs.Headline.{faithful-written}
+use Rattle.icy_sixel.{proofs.Headline.faithful-written, specs.ImageView.image_value}
 use Rattle.icy_sixel.proofs.sixel_image.SixelImage.encode_with.Goals as goal
 
 pub returns-clause-faithful : goal.returns-clause-faithful

@@ -1,5 +1,19 @@
 -- `free` gives the block back to the allocator, where there is one.
+use Rattle.std_alloc.proofs.{Flags.T_true, RawLayout.{as_raw, as_written}, VecSteps.El.{elτ, sz}}
+use Rattle.std_alloc.proofs.VecSteps.Rows.{all_room}
+use Rattle.std_alloc.specs.Vec.Ownership.{owns_if}
+use Rattle.std.specs.Allocator.{array_of, block_with_items, HasLayout}
+use Rattle.icysixel.proofs.{AsBytes.E, bytes.Bytes.free.Statement.statement}
+use prog.{Capped.capped_is, Memory.capped, RawLaws.{size-raw, align-raw}}
 use Rattle.icysixel.proofs.Steps
+use mir.Raw.{raw as bare}
+use Rattle.std_heap.proofs.GlobalAllocator.deallocate.Met as deallocates
+use Rattle.std_heap.specs.contracts.GlobalAllocator.deallocate as DE
+use Rattle.std_heap.specs.contracts.Global as Heap
+use Rattle.icysixel.specs.contracts.bytes.Bytes as Bytes
+use Rattle.icysixel.specs.contracts.bytes.Bytes.free as F
+use Rattle.icysixel.proofs.bytes.Bytes.free.Code as code
+use Rattle.icysixel.proofs.bytes.Bytes.TheLaws as laws
 use Steps.{◌≡◌, ◌<◌, ◌+◌, ◌-◌, ◌*◌, ◌^◌, Bool, List, [], ◌∷◌, refl, sym, ap, ◌∙◌, lit<, w64, arith}
 use Steps.{token, proved, Ptr-Good, subst, T, emp, never, id⊢, fst∗, ftrue, fsep, flft, froom}
 use Steps.{named, ty_unit, ty_array, Ty, Val, vint, vunit, has_ty, WT, fact, fact_i, tables, sem}
@@ -11,22 +25,6 @@ use Steps.{get, get_in, sets, lands_last, env, u8, unit, usize, RefOf, yes, uint
 use Steps.{null_ptr, ptr_val, in_a_block, room_for, ◌+ₚ◌, shr_vals, shr_Tells, Slot, plain, nothing}
 use Steps.{only, owned, calls_at_last, triple_of, framed, Stays, stay_dropped, walk_of, ends_at}
 use Steps.{Goes-dropped, lasts}
-use Rattle.std_alloc.proofs.{VecSteps.El.elτ, VecSteps.El.sz, Flags.T_true, VecSteps.Rows.all_room}
-use Rattle.std_alloc.specs.Vec.Ownership.{owns_if}
-use Rattle.std.specs.Allocator.{array_of, block_with_items, HasLayout}
-use Rattle.std_alloc.proofs.RawLayout.{as_raw, as_written}
-use Rattle.icysixel.proofs.{AsBytes.E, bytes.Bytes.free.Statement.statement}
-use mir.Raw.{raw as bare}
-use prog.RawLaws.{size-raw, align-raw}
-use prog.Memory.{capped}
-use prog.Capped.{capped_is}
-use Rattle.std_heap.proofs.GlobalAllocator.deallocate.Met as deallocates
-use Rattle.std_heap.specs.contracts.GlobalAllocator.deallocate as DE
-use Rattle.std_heap.specs.contracts.Global as Heap
-use Rattle.icysixel.specs.contracts.bytes.Bytes as Bytes
-use Rattle.icysixel.specs.contracts.bytes.Bytes.free as F
-use Rattle.icysixel.proofs.bytes.Bytes.free.Code as code
-use Rattle.icysixel.proofs.bytes.Bytes.TheLaws as laws
 
 abbrev From : Slot 1
 From = plain (λ _. Bytes.the_row)

@@ -1,6 +1,19 @@
 -- `lend` lends the state as a box lends its value: the handle and the box own the same, and the
 -- handle follows what is lent.
+use Rattle.std.specs.{Borrow.MutBor, Prelude.is_some}
+use Rattle.std_alloc.proofs.BoxSteps.{Form.{D, B, R, τ, word, handle}, Steps.{box_out, box_in}}
+use Rattle.icysixel.proofs.AsBox.{E, some_of}
+use Rattle.icysixel.specs.inside.Lending.{with_state}
+use Rattle.icysixel.proofs.state_pointer.StatePointer.lend.Statement.{statement}
+use base.Fraction.{full_share}
+use denote.{Follow.{follows, lends_Part}, Memory.{part_at, mem, cell_at, part_of}}
+use denote.Triple.Walked.{Goes-spent_ref}
 use Rattle.icysixel.proofs.Steps
+use mir.Raw.{raw as bare}
+use Rattle.icysixel.specs.contracts.state.State as State
+use Rattle.icysixel.specs.contracts.state_pointer.StatePointer as StatePointer
+use Rattle.icysixel.specs.contracts.state_pointer.StatePointer.lend as F
+use Rattle.icysixel.proofs.state_pointer.StatePointer.lend.Code as code
 use Steps.{◌≡◌, ℕ, true, List, [], ◌∷◌, Option, refl, token, proved, Ura, ent, sep, id⊢, GName, Fml}
 use Steps.{ftrue, fsep, flft, named, Val, vptr, fact, tables, Logic, sem, ‵, raw, at_ret, ◌⊛◌, some}
 use Steps.{later, ◌$◌, ◌∵◌, !, qed, move, keep, use1, join, split, split3, rewrite, pick, await}
@@ -9,21 +22,6 @@ use Steps.{fld, load, addr, of_opd, first, blocks, exec, returns, enter, alloc_a
 use Steps.{free_all, look_at, get, through, sets, sets_last, env, no, block_ptr, MutRef, mut_vals}
 use Steps.{mut_Tells, plain, mut_ref_to, heard, nothing, opens, says, Stays, stay_dropped, walk_of}
 use Steps.{ends_at}
-use Rattle.std.specs.{Prelude.is_some, Borrow.MutBor}
-use Rattle.std_alloc.proofs.BoxSteps.Form.{D, B, R, τ, word, handle}
-use Rattle.std_alloc.proofs.BoxSteps.Steps.{box_out, box_in}
-use Rattle.icysixel.proofs.AsBox.{E, some_of}
-use Rattle.icysixel.specs.inside.Lending.{with_state}
-use Rattle.icysixel.proofs.state_pointer.StatePointer.lend.Statement.{statement}
-use base.Fraction.{full_share}
-use denote.Follow.{follows, lends_Part}
-use denote.Memory.{part_at, mem, cell_at, part_of}
-use denote.Triple.Walked.{Goes-spent_ref}
-use mir.Raw.{raw as bare}
-use Rattle.icysixel.specs.contracts.state.State as State
-use Rattle.icysixel.specs.contracts.state_pointer.StatePointer as StatePointer
-use Rattle.icysixel.specs.contracts.state_pointer.StatePointer.lend as F
-use Rattle.icysixel.proofs.state_pointer.StatePointer.lend.Code as code
 
 abbrev stayed : Stays (F.ended).signature.params (F.ended).kept
 stayed = (stay_dropped (mut_ref_to (0 ∷ []) tt (plain (λ _. StatePointer.the_row))) no, tt)

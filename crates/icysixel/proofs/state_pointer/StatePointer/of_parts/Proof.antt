@@ -1,17 +1,16 @@
 -- `of_parts` moves two fields, and what they own goes with them.
+use Rattle.std_alloc.proofs.BoxSteps.{Form.{D, B, word, box_typed}, Steps.{box_out, box_in}}
+use Rattle.icysixel.proofs.state_pointer.StatePointer.of_parts.Statement.{statement}
 use Rattle.icysixel.proofs.Steps
-use Steps.{List, [], ◌∷◌, ◌++◌, Some, refl, proved_at, emp, ftrue, fsep, Val, tables, WpFn, ‵, raw}
-use Steps.{prop, ◌⊛◌, ◌$◌, ◌∵◌, !, qed, keep, drop, join, split, regoal, fsplit, fjoin, suffices}
-use Steps.{done, whole, sub, agg, stop, fld, no_more, and_then, of_opd, returns, enter, alloc_all}
-use Steps.{pass_all, free_all, look_at, get, get_in, sets, yes, nothing, says, Stays}
-use Steps.{stay_dropped, walk_of, ends_at, Goes-dropped}
-use Rattle.std_alloc.proofs.BoxSteps.Form.{D, B, word, box_typed}
-use Rattle.std_alloc.proofs.BoxSteps.Steps.{box_out, box_in}
 use Rattle.icysixel.proofs.AsBox.{E, FromParts as From}
 use Rattle.icysixel.specs.contracts.state_pointer.StatePointer as StatePointer
 use Rattle.icysixel.specs.contracts.state_pointer.StatePointer.of_parts as F
-use Rattle.icysixel.proofs.state_pointer.StatePointer.of_parts.Statement.{statement}
 use Rattle.icysixel.proofs.state_pointer.StatePointer.of_parts.Code as code
+use Steps.{List, [], ◌∷◌, ◌++◌, Some, refl, proved_at, emp, ftrue, fsep, Val, tables, WpFn, ‵, raw}
+use Steps.{prop, ◌⊛◌, ◌$◌, ◌∵◌, !, qed, keep, drop, join, split, regoal, fsplit, fjoin, suffices}
+use Steps.{done, whole, sub, agg, stop, fld, no_more, and_then, of_opd, returns, enter, alloc_all}
+use Steps.{pass_all, free_all, look_at, get, get_in, sets, yes, nothing, says, Stays, stay_dropped}
+use Steps.{walk_of, ends_at, Goes-dropped}
 
 abbrev stayed : Stays (F.ended).signature.params (F.ended).kept
 stayed = (stay_dropped From yes, tt)

@@ -1,13 +1,10 @@
 use Rattle.std.proofs.Common.{◌≡◌, ◌++◌, ◌∷◌, ◌+◌, [], take, arith, append-nil, refl, IfSome}
-use Rattle.std.proofs.lemmas.Bool.Decides.{nat_tests}
-use Rattle.std.proofs.lemmas.List.{take_all}
-use Rattle.sixel.specs.Ending.{Done}
-use Rattle.sixel.specs.WorkOutput.{IsPictureOutput, Writes}
-use Rattle.sixel.specs.Words.{words_of}
-use Rattle.sixel.specs.declared.picture.PictureWord.TheVariants.{Draw}
-use Rattle.sixel.proofs.FirstWords.{one_more}
-use Rattle.sixel.proofs.FileOutputs.{adds_nothing, adds_part, adds_whole, file_more}
 use Rattle.std.proofs.KnownBytes.{Appends-trans}
+use Rattle.std.proofs.lemmas.{Bool.Decides.nat_tests, List.take_all}
+use Rattle.sixel.specs.{Ending.Done, Words.words_of, WorkOutput.{IsPictureOutput, Writes}}
+use Rattle.sixel.specs.declared.picture.PictureWord.TheVariants.{Draw}
+use Rattle.sixel.proofs.FileOutputs.{adds_nothing, adds_part, adds_whole, file_more}
+use Rattle.sixel.proofs.FirstWords.{one_more}
 use Rattle.sixel.proofs.draw.files.draw_files.Goals as goal
 
 pub files-init : goal.files-init

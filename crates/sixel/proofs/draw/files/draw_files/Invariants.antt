@@ -1,10 +1,7 @@
 -- The files before this one are drawn.
-use Rattle.std.proofs.Common.{◌≤◌, ℕ, List, take}
-use Rattle.std.specs.Io.KnownBytes.{Appends}
-use Rattle.sixel.specs.Files.{AreFileOutputs}
-use Rattle.sixel.specs.WorkOutput.{IsPictureOutput}
-use Rattle.sixel.specs.Words.{words_of}
-use Rattle.sixel.specs.declared.picture.PictureWord.TheVariants.{Draw}
+use Rattle.std.{proofs.Common.{◌≤◌, ℕ, List, take}, specs.Io.KnownBytes.Appends}
+use Rattle.sixel.{specs.Files.AreFileOutputs, specs.WorkOutput.IsPictureOutput}
+use Rattle.sixel.{specs.Words.words_of, specs.declared.picture.PictureWord.TheVariants.Draw}
 use Rattle.sixel.proofs.draw.files.draw_files.Given as goal
 
 abbrev pub invariant-files : goal.invariant-files

@@ -1,7 +1,6 @@
 -- The arguments so far and the rest state what all do.
 use Rattle.std.proofs.Common.{◌≡◌, None, length, option_map}
-use Rattle.sixel.specs.Options.{default_options, stated_by}
-use Rattle.sixel.specs.Words.{words_of}
+use Rattle.sixel.specs.{Options.{default_options, stated_by}, Words.words_of}
 use Rattle.sixel.proofs.draw.options.read_drawing.Given as goal
 
 abbrev pub invariant-options : goal.invariant-options

@@ -1,6 +1,5 @@
 -- The colors so far are those of the pixels so far.
-use Rattle.std.proofs.Common.{◌≡◌, map}
-use Rattle.std.specs.List.{range_with_len}
+use Rattle.std.{proofs.Common.{◌≡◌, map}, specs.List.range_with_len}
 use Rattle.sixel_palette.specs.Palette.{color_at}
 use Rattle.sixel.proofs.draw.palette_file.pixel_colors.Given as goal
 

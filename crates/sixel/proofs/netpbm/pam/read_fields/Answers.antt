@@ -1,5 +1,4 @@
-use Rattle.std.proofs.Common.{◌≡◌, ◌+◌, ◌-◌, arith, drop, take}
-use Rattle.std.proofs.lemmas.Bool.Decides.{nat_tests}
+use Rattle.std.proofs.{Common.{◌≡◌, ◌+◌, ◌-◌, arith, drop, take}, lemmas.Bool.Decides.nat_tests}
 use Rattle.std.proofs.lemmas.List.{at_drop_more, get_or-drop, length-drop, take_more}
 use Rattle.sixel.specs.netpbm.Pam.{read_lines}
 use Rattle.sixel.proofs.netpbm.pam.read_fields.Goals as goal

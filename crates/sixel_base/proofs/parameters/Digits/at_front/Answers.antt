@@ -1,6 +1,5 @@
-use Rattle.std.proofs.lemmas.Bool.Decides.{nat_tests}
+use Rattle.std.proofs.lemmas.{Bool.Decides.nat_tests, List.take_more}
 use Rattle.std.proofs.Common.{◌+◌, ◌*◌, min, [], ◌∷◌, take, get_or, refl, sym, subst, arith}
-use Rattle.std.proofs.lemmas.List.{take_more}
 use Rattle.sixel_base.specs.inside.Parameters.{Parameters, IsDigit, Keeps}
 use Rattle.sixel_base.proofs.KeptFields.{Keeps-push_digit_kept}
 use Rattle.sixel_base.proofs.parameters.Digits.at_front.Goals as goal

@@ -1,5 +1,4 @@
-use Rattle.std.proofs.Common.{[], ◌∙◌, arith, rules}
-use Rattle.std.proofs.lemmas.List.FromFn.{fill_by_all}
+use Rattle.std.proofs.{Common.{[], ◌∙◌, arith, rules}, lemmas.List.FromFn.fill_by_all}
 use Rattle.sixel_base.proofs.DefaultCodes.{coded_color, map-coded_color}
 use Rattle.sixel_base.proofs.registers.Registers.new.Goals as goal
 

@@ -1,5 +1,4 @@
-use Rattle.std.proofs.Common.{◌≡◌, ℕ, ◌+◌, ◌-◌, ◌*◌, ◌≤◌, ap, arith}
-use Rattle.std.proofs.Math.Nat.{mul-le-mul_left}
+use Rattle.std.proofs.{Common.{◌≡◌, ℕ, ◌+◌, ◌-◌, ◌*◌, ◌≤◌, ap, arith}, Math.Nat.mul-le-mul_left}
 use Rattle.sixel_base.proofs.registers.color.high_end.Goals as goal
 
 -- of what lightness leaves to 100, saturation takes a part

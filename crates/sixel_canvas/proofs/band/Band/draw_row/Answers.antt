@@ -1,5 +1,4 @@
-use Rattle.std.proofs.Common.{◌≤◌, ◌∙◌, arith}
-use Rattle.std.proofs.lemmas.List.{with_items_is}
+use Rattle.std.proofs.{Common.{◌≤◌, ◌∙◌, arith}, lemmas.List.with_items_is}
 use Rattle.sixel_canvas.proofs.BandStates.{row_filled}
 use Rattle.sixel_canvas.proofs.band.Band.draw_row.Goals as goal
 

@@ -1,10 +1,8 @@
-use Rattle.std.proofs.Common.{◌-◌, ◌≤◌, ap, ◌∙◌, arith}
-use Rattle.std.specs.Prelude.{nat_lt, if◌then◌else◌}
-use Rattle.sixel_canvas.specs.inside.BandCanvas.{BandCanvasState, band_canvas_shown}
-use Rattle.sixel_canvas.specs.inside.RowsState.{final}
-use Rattle.sixel_canvas.specs.inside.ReleasedRows.{released_pixel}
-use Rattle.sixel_canvas.specs.inside.TaggedBand.{tagged_cell}
+use Rattle.std.{proofs.Common.{◌-◌, ◌≤◌, ap, ◌∙◌, arith}, specs.Prelude.{nat_lt, if◌then◌else◌}}
 use Rattle.sixel_canvas.proofs.ReleasedRows.{above_clear, above_appended}
+use Rattle.sixel_canvas.specs.inside.BandCanvas.{BandCanvasState, band_canvas_shown}
+use Rattle.sixel_canvas.{specs.inside.ReleasedRows.released_pixel, specs.inside.RowsState.final}
+use Rattle.sixel_canvas.specs.inside.TaggedBand.{tagged_cell}
 use Rattle.sixel_canvas.proofs.band_canvas.BandCanvas.finish_rows.Goals as goal
 
 pub returns-clause-shown : goal.returns-clause-shown

@@ -1,8 +1,7 @@
-use Rattle.std.proofs.Common.{◌+◌, ◌-◌, ap, ◌∙◌, refl, arith}
-use Rattle.std.specs.Prelude.{nat_lt, if◌then◌else◌}
+use Rattle.std.{proofs.Common.{◌+◌, ◌-◌, ap, ◌∙◌, refl, arith}, specs.Prelude.nat_lt}
+use Rattle.std.specs.Prelude.{if◌then◌else◌}
 use Rattle.sixel_canvas.specs.inside.BandCanvas.{BandCanvasState, band_canvas_shown}
-use Rattle.sixel_canvas.specs.inside.TaggedBand.{tagged_cell}
-use Rattle.sixel_canvas.proofs.MovedRows.{moved_released}
+use Rattle.sixel_canvas.{specs.inside.TaggedBand.tagged_cell, proofs.MovedRows.moved_released}
 use Rattle.sixel_canvas.proofs.ReleasedRows.{above_released, held_released}
 use Rattle.sixel_canvas.proofs.band_canvas.BandCanvas.release_rows.Goals as goal
 

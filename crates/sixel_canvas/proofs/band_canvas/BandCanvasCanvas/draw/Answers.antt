@@ -1,9 +1,7 @@
-use Rattle.std.proofs.Common.{◌≡◌, arith}
-use Rattle.sixel_canvas.specs.inside.BandCanvas.{band_canvas_state}
-use Rattle.sixel_canvas.proofs.BandStates.{canvas_over}
-use Rattle.sixel_canvas.proofs.MovedRows.{laid_held, least_held, moved_run}
+use Rattle.std.{proofs.Common.{◌≡◌, arith}, proofs.lemmas.Bool.Decides.nat_tests}
+use Rattle.sixel_canvas.{proofs.BandStates.canvas_over, proofs.MovedRows.{laid_held, least_held}}
+use Rattle.sixel_canvas.{proofs.MovedRows.moved_run, specs.inside.BandCanvas.band_canvas_state}
 use Rattle.sixel_canvas.proofs.band_canvas.BandCanvasCanvas.draw.Goals as goal
-use Rattle.std.proofs.lemmas.Bool.Decides.{nat_tests}
 
 pub returns-clause-drawn : goal.returns-clause-drawn
 returns-clause-drawn c = λ column row. grind (arith, canvas_over)

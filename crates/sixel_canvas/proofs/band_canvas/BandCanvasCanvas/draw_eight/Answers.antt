@@ -1,12 +1,10 @@
 use Rattle.std.proofs.Common.{◌≡◌, ◌≤◌, ◌+◌, ◌*◌, ℕ, List, max, length, length-take, take, arith}
 use Rattle.std.proofs.lemmas.Bool.Decides.{nat_tests}
-use Rattle.sixel_canvas.specs.inside.BandCanvas.{band_canvas_state, least_width}
-use Rattle.sixel_canvas.specs.Drawn.{Run, with_sixels}
-use Rattle.sixel_canvas.specs.inside.TaggedBand.{capacity}
-use Rattle.sixel_canvas.proofs.BandStates.{canvas_over}
-use Rattle.sixel_canvas.proofs.MovedRows.{laid_held, laid_wider, least_held, least_sixels}
-use Rattle.sixel_canvas.proofs.MovedRows.{moved_more}
-use Rattle.sixel_canvas.proofs.Runs.{above_here, edges, lowest_here, paid-sixels}
+use Rattle.sixel_canvas.specs.{Drawn.{Run, with_sixels}, inside.BandCanvas.band_canvas_state}
+use Rattle.sixel_canvas.specs.{inside.BandCanvas.least_width, inside.TaggedBand.capacity}
+use Rattle.sixel_canvas.proofs.{BandStates.canvas_over, MovedRows.{laid_held, laid_wider}}
+use Rattle.sixel_canvas.proofs.{MovedRows.{least_held, least_sixels, moved_more}, Runs.above_here}
+use Rattle.sixel_canvas.proofs.Runs.{edges, lowest_here, paid-sixels}
 use Rattle.sixel_canvas.proofs.band_canvas.BandCanvasCanvas.draw_eight.Goals as goal
 
 pub returns-clause-drawn : goal.returns-clause-drawn

@@ -1,5 +1,4 @@
-use Rattle.std.proofs.lemmas.Bool.Decides.{nat_tests}
-use Rattle.std.proofs.Common.{arith}
+use Rattle.std.proofs.{Common.arith, lemmas.Bool.Decides.nat_tests}
 use Rattle.sixel_canvas.proofs.MovedRows.{least_moved-less}
 use Rattle.sixel_canvas.proofs.band_canvas.BandCanvasCanvas.expect_width.Goals as goal
 

@@ -1,5 +1,4 @@
-use Rattle.std.proofs.Common.{arith}
-use Rattle.std.proofs.lemmas.Bool.Decides.{nat_tests}
+use Rattle.std.proofs.{Common.arith, lemmas.Bool.Decides.nat_tests}
 use Rattle.sixel_canvas.proofs.MovedRows.{rows_above-down}
 use Rattle.sixel_canvas.proofs.band_canvas.BandCanvasCanvas.new_line.Goals as goal
 

@@ -1,7 +1,6 @@
 use Rattle.std.proofs.Common.{◌≡◌, ◌+◌, ◌-◌, ◌*◌, ◌≤◌, ◌++◌, drop, length, length-append}
-use Rattle.std.proofs.Common.{length-drop, arith, rules}
+use Rattle.std.proofs.{Common.{length-drop, arith, rules}, lemmas.List.drop-append-le}
 use Rattle.std.specs.Prelude.{vec_capacity}
-use Rattle.std.proofs.lemmas.List.{drop-append-le}
 use Rattle.sixel_base.specs.Picture.{joined}
 use Rattle.sixel_canvas.proofs.RowBytes.{row_appended, row_len, when_ok}
 use Rattle.sixel_canvas.proofs.final_rows.FinalRows.append.Goals as goal

@@ -1,12 +1,10 @@
 use Rattle.std.proofs.Common.{◌≡◌, ℕ, ◌+◌, ◌-◌, ◌*◌, ◌≤◌, ◌<◌, ◌++◌, length, max, min, take, drop}
-use Rattle.std.proofs.Common.{ap, arith, length-drop, length-take}
-use Rattle.std.proofs.Math.Nat.{mul-le-mul, mul-le-mul_right}
+use Rattle.std.proofs.{Common.{ap, arith, length-drop, length-take}, Math.Nat.mul-le-mul}
+use Rattle.std.proofs.{Math.Nat.mul-le-mul_right, lemmas.Bool.Decides.nat_tests}
 use Rattle.sixel_base.specs.Picture.{joined}
-use Rattle.sixel_canvas.proofs.MovedRows.{moved_within}
-use Rattle.sixel_canvas.proofs.ReleasedRows.{dropped}
-use Rattle.sixel_canvas.proofs.RowBytes.{part_len_is, row_copied, row_len, when_ok}
+use Rattle.sixel_canvas.proofs.{MovedRows.moved_within, ReleasedRows.dropped, RowBytes.part_len_is}
+use Rattle.sixel_canvas.proofs.RowBytes.{row_copied, row_len, when_ok}
 use Rattle.sixel_canvas.proofs.final_rows.FinalRows.lay_out.Goals as goal
-use Rattle.std.proofs.lemmas.Bool.Decides.{nat_tests}
 
 row_room : (row rows width kept : ℕ) → row < rows → kept ≤ width
     → 4 * (row * width) + 4 * kept + 4 * (width - kept) ≤ 4 * (rows * width)

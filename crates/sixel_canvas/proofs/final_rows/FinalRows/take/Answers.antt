@@ -1,7 +1,6 @@
-use Rattle.sixel_canvas.specs.inside.RowsState.{final}
-use Rattle.sixel_canvas.proofs.RowBytes.{taken, taken_len}
-use Rattle.sixel_canvas.proofs.final_rows.FinalRows.take.Goals as goal
+use Rattle.sixel_canvas.{proofs.RowBytes.{taken, taken_len}, specs.inside.RowsState.final}
 use Rattle.std.proofs.Common.{arith}
+use Rattle.sixel_canvas.proofs.final_rows.FinalRows.take.Goals as goal
 
 pub returns-clause-ok : goal.returns-clause-ok
 returns-clause-ok c =

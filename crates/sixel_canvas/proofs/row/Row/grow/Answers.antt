@@ -1,14 +1,10 @@
-use Rattle.std.proofs.Common.{◌≡◌, ◌-◌, ◌*◌, ◌++◌, length, sym, ap, ◌∙◌}
-use Rattle.std.proofs.Common.{length-append, arith, rules}
+use Rattle.std.proofs.Common.{◌≡◌, ◌-◌, ◌*◌, ◌++◌, length, sym, ap, ◌∙◌, length-append, arith}
+use Rattle.std.proofs.{Common.rules, lemmas.Bool.Decides.nat_tests, lemmas.Grind.common_steps}
 use Rattle.sixel_base.specs.Picture.{joined}
 use Rattle.sixel_base.proofs.PictureBytes.{length-joined}
-use Rattle.sixel_canvas.specs.Row.{RowState}
-use Rattle.sixel_canvas.specs.inside.Pixels.{pixels_of}
-use Rattle.sixel_canvas.proofs.PixelLists.{pixels_of-added}
-use Rattle.sixel_canvas.proofs.RowBytes.{when_ok}
+use Rattle.sixel_canvas.specs.{Row.RowState, inside.Pixels.pixels_of}
+use Rattle.sixel_canvas.proofs.{PixelLists.pixels_of-added, RowBytes.when_ok}
 use Rattle.sixel_canvas.proofs.row.Row.grow.Goals as goal
-use Rattle.std.proofs.lemmas.Bool.Decides.{nat_tests}
-use Rattle.std.proofs.lemmas.Grind.{common_steps}
 
 -- how many pixels the row had
 len_is : (c : goal.After-self-2-1) → c.len-len.result ≡ length (pixels_of c.self.inside.bytes.items)

@@ -2,8 +2,7 @@ use Rattle.std.proofs.Common.{◌≡◌, ◌+◌, ◌-◌, ◌++◌, min, length
 use Rattle.std.proofs.lemmas.Result.{on_ok_weaker}
 use Rattle.sixel_base.specs.Picture.{joined}
 use Rattle.sixel_canvas.specs.inside.Pixels.{pixels_of}
-use Rattle.sixel_canvas.proofs.PixelLists.{flat_map-part}
-use Rattle.sixel_canvas.proofs.Pixels.{joined-part}
+use Rattle.sixel_canvas.proofs.{PixelLists.flat_map-part, Pixels.joined-part}
 use Rattle.sixel_canvas.proofs.row.Row.pack.Goals as goal
 
 pub returns-clause-ok : goal.returns-clause-ok

@@ -1,12 +1,10 @@
 use Rattle.std.proofs.Common.{◌≡◌, ◌≤◌, ◌-◌, ◌*◌, ◌++◌, length, take, drop, ap, arith, rules}
-use Rattle.std.proofs.lemmas.List.{with_items_is}
+use Rattle.std.proofs.lemmas.{Bool.Decides.nat_tests, Grind.common_steps, List.with_items_is}
 use Rattle.sixel_base.specs.Picture.{joined}
 use Rattle.sixel_canvas.specs.Row.{RowState}
 use Rattle.sixel_canvas.specs.inside.Pixels.{pixels_of}
 use Rattle.sixel_canvas.proofs.PixelLists.{length-painted_bytes, pixels_of-painted, thrifty_written}
 use Rattle.sixel_canvas.proofs.row.Row.paint.Goals as goal
-use Rattle.std.proofs.lemmas.Bool.Decides.{nat_tests}
-use Rattle.std.proofs.lemmas.Grind.{common_steps}
 
 held_is : (c : goal.After-self-1) → c.args.to ≤ length (pixels_of c.self.inside.bytes.items)
 held_is c = omega (arith, c.requires.held, ap (λ (r : RowState). length r.pixels) c.self.view_is)

@@ -1,9 +1,8 @@
 use Rattle.std.proofs.Common.{◌∙◌, arith}
-use Rattle.std.proofs.lemmas.List.Elements.{All-push}
+use Rattle.std.proofs.lemmas.{Grind.common_steps, List.Elements.All-push}
 use Rattle.sixel_canvas.specs.inside.TaggedRow.{IsTaggedRow, empty_tagged_row}
 use Rattle.sixel_canvas.proofs.RowCosts.{empty_line}
 use Rattle.sixel_canvas.proofs.row_band.RowBand.add_rows.Goals as goal
-use Rattle.std.proofs.lemmas.Grind.{common_steps}
 
 pub made-preserved : goal.made-preserved
 made-preserved c =

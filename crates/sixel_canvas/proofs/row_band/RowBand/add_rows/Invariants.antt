@@ -1,7 +1,6 @@
 use Rattle.std.proofs.Common.{◌≡◌, ◌≤◌, ℕ, All, length}
 use Rattle.std.specs.Prelude.{vec_capacity}
-use Rattle.sixel_canvas.specs.inside.RowBand.{line_in}
-use Rattle.sixel_canvas.specs.inside.TaggedRow.{IsTaggedRow, empty_tagged_row}
+use Rattle.sixel_canvas.specs.inside.{RowBand.line_in, TaggedRow.{IsTaggedRow, empty_tagged_row}}
 use Rattle.sixel_canvas.proofs.row_band.RowBand.add_rows.Given as goal
 
 abbrev pub invariant-made : goal.invariant-made

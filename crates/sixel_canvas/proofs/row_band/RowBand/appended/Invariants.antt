@@ -1,5 +1,4 @@
-use Rattle.std.proofs.Common.{◌≡◌, take}
-use Rattle.std.specs.List.{sum_by}
+use Rattle.std.{proofs.Common.{◌≡◌, take}, specs.List.sum_by}
 use Rattle.sixel_canvas.specs.inside.TaggedRow.{TaggedRowState}
 use Rattle.sixel_canvas.proofs.row_band.RowBand.appended.Given as goal
 

@@ -1,13 +1,10 @@
-use Rattle.std.proofs.lemmas.Bool.{le-ltb}
+use Rattle.std.proofs.lemmas.{Bool.le-ltb, Bool.Decides.nat_tests, List.get_or_default}
 use Rattle.std.proofs.Common.{◌≡◌, ℕ, ◌+◌, List, max, length, ap, ◌∙◌, arith}
 use Rattle.std.specs.Prelude.{nat_le, nat_lt, ◌&&◌, if◌then◌else◌}
 use Rattle.sixel_base.specs.Picture.{is_struck}
-use Rattle.sixel_canvas.specs.inside.RowBand.{line_in}
-use Rattle.sixel_canvas.specs.inside.TaggedRow.{TaggedRowState, tagged_pixel}
-use Rattle.std.proofs.lemmas.List.{get_or_default}
+use Rattle.sixel_canvas.specs.inside.{RowBand.line_in, TaggedRow.{TaggedRowState, tagged_pixel}}
 use Rattle.sixel_canvas.proofs.StruckRows.{struck_more, is_struck-hit}
 use Rattle.sixel_canvas.proofs.row_band.RowBand.draw.Goals as goal
-use Rattle.std.proofs.lemmas.Bool.Decides.{nat_tests}
 
 pub drawn-preserved : goal.drawn-preserved
 drawn-preserved c =

@@ -1,8 +1,7 @@
 use Rattle.std.proofs.Common.{◌≡◌, ℕ, List, max, All, length}
 use Rattle.std.specs.Prelude.{nat_le, nat_lt, ◌&&◌, if◌then◌else◌}
 use Rattle.sixel_base.specs.Picture.{is_struck}
-use Rattle.sixel_canvas.specs.inside.RowBand.{line_in}
-use Rattle.sixel_canvas.specs.inside.TaggedRow.{IsTaggedRow, tagged_pixel}
+use Rattle.sixel_canvas.specs.inside.{RowBand.line_in, TaggedRow.{IsTaggedRow, tagged_pixel}}
 use Rattle.sixel_canvas.proofs.StruckRows.{IsStruckAbove}
 use Rattle.sixel_canvas.proofs.row_band.RowBand.draw.Given as goal
 

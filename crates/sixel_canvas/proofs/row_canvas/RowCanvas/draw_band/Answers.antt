@@ -1,10 +1,8 @@
-use Rattle.std.proofs.Common.{◌*◌, max, length, sym, ◌∙◌, arith}
+use Rattle.std.proofs.{Common.{◌*◌, max, length, sym, ◌∙◌, arith}, lemmas.Result.on_ok_weaker}
 use Rattle.std.specs.Prelude.{nat_le, nat_lt, ◌&&◌, if◌then◌else◌}
-use Rattle.std.proofs.lemmas.Result.{on_ok_weaker}
 use Rattle.sixel_base.specs.Picture.{is_struck}
 use Rattle.sixel_canvas.specs.inside.TaggedRow.{tagged_pixel}
-use Rattle.sixel_canvas.proofs.RowBands.{band_drawn, band_read}
-use Rattle.sixel_canvas.proofs.StruckRows.{if_and}
+use Rattle.sixel_canvas.proofs.{RowBands.{band_drawn, band_read}, StruckRows.if_and}
 use Rattle.sixel_canvas.proofs.row_canvas.RowCanvas.draw_band.Goals as goal
 
 pub returns-clause-drawn : goal.returns-clause-drawn

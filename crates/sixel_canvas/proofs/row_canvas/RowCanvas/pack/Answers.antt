@@ -1,8 +1,6 @@
-use Rattle.std.proofs.Common.{arith}
+use Rattle.std.proofs.{Common.arith, lemmas.Bool.Decides.nat_tests, lemmas.Grind.common_steps}
 use Rattle.sixel_base.specs.Picture.{joined, picture}
 use Rattle.sixel_canvas.proofs.row_canvas.RowCanvas.pack.Goals as goal
-use Rattle.std.proofs.lemmas.Bool.Decides.{nat_tests}
-use Rattle.std.proofs.lemmas.Grind.{common_steps}
 
 pub packed-init : goal.packed-init
 unfolding joined

@@ -1,9 +1,6 @@
-use Rattle.std.proofs.Common.{arith}
-use Rattle.std.specs.List.{sum_by}
-use Rattle.std.proofs.lemmas.List.Sums.{sum_by_more_le}
+use Rattle.std.{proofs.Common.arith, proofs.lemmas.List.Sums.sum_by_more_le, specs.List.sum_by}
 use Rattle.sixel_canvas.specs.inside.RowCanvas.{row_canvas_state}
-use Rattle.sixel_canvas.specs.inside.TaggedRow.{TaggedRowState}
-use Rattle.sixel_canvas.proofs.RowCosts.{band_appended_most}
+use Rattle.sixel_canvas.{specs.inside.TaggedRow.TaggedRowState, proofs.RowCosts.band_appended_most}
 use Rattle.sixel_canvas.proofs.row_canvas.RowCanvas.paints.Goals as goal
 
 pub overflow_add-appended : goal.overflow_add-appended

@@ -1,8 +1,6 @@
-use Rattle.std.proofs.Common.{arith}
+use Rattle.std.proofs.{Common.arith, lemmas.List.Sums.{sum_by-take-le, sum_by_more_le}}
 use Rattle.std.specs.List.{sum_by}
-use Rattle.std.proofs.lemmas.List.Sums.{sum_by-take-le, sum_by_more_le}
-use Rattle.sixel_canvas.specs.inside.RowCanvas.{row_canvas_state}
-use Rattle.sixel_canvas.specs.inside.TaggedRow.{TaggedRowState}
+use Rattle.sixel_canvas.specs.{inside.RowCanvas.row_canvas_state, inside.TaggedRow.TaggedRowState}
 use Rattle.sixel_canvas.proofs.RowCosts.{band_writes_most}
 use Rattle.sixel_canvas.proofs.row_canvas.RowCanvas.writes.Goals as goal
 

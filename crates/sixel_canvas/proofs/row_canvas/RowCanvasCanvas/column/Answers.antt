@@ -1,10 +1,8 @@
-use Rattle.std.proofs.Common.{◌+◌, ◌*◌, length, arith}
+use Rattle.std.proofs.{Common.{◌+◌, ◌*◌, length, arith}, lemmas.Bool.Decides.nat_tests}
 use Rattle.std.specs.Prelude.{IsOk}
 use Rattle.sixel_canvas.specs.inside.RowCanvas.{band_line}
-use Rattle.sixel_canvas.proofs.RowBytes.{when_ok}
-use Rattle.sixel_canvas.proofs.RowCosts.{least-each, least-grown}
+use Rattle.sixel_canvas.proofs.{RowBytes.when_ok, RowCosts.{least-each, least-grown}}
 use Rattle.sixel_canvas.proofs.row_canvas.RowCanvasCanvas.column.Goals as goal
-use Rattle.std.proofs.lemmas.Bool.Decides.{nat_tests}
 
 -- each of the six rows has the column, so that drawing does not fail
 is_ok : (c : goal.After-draw_band-drawn) → IsOk c.draw_band-drawn.result

@@ -1,7 +1,6 @@
 use Rattle.std.proofs.Common.{◌+◌, ◌-◌, ◌*◌, length, refl, ◌∙◌, arith}
 use borrow.Rule.Slice.PartMut.{same_len_mid}
-use Rattle.sixel_canvas.specs.Layout.{AreRowsIn, stored_pixel}
-use Rattle.sixel_canvas.proofs.CopiedRows.{copied_row}
+use Rattle.sixel_canvas.{proofs.CopiedRows.copied_row, specs.Layout.{AreRowsIn, stored_pixel}}
 use Rattle.sixel_canvas.proofs.stored_rows.StoredRows.copy.Goals as goal
 
 pub copied-preserved : goal.copied-preserved

@@ -1,7 +1,6 @@
 use Rattle.std.proofs.Common.{◌≡◌, ◌+◌, ◌-◌, ◌*◌, take, drop, ap, ◌∙◌, refl, arith}
 use Rattle.std.proofs.lemmas.Bool.{lt-ltb}
-use Rattle.sixel_canvas.specs.Layout.{pixel_at}
-use Rattle.sixel_canvas.proofs.RowBytes.{pixel_part}
+use Rattle.sixel_canvas.{proofs.RowBytes.pixel_part, specs.Layout.pixel_at}
 use Rattle.sixel_canvas.proofs.stored_rows.StoredRows.row.Goals as goal
 
 pub returns-clause-pixels : goal.returns-clause-pixels

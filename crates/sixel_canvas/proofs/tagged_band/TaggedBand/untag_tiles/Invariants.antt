@@ -1,7 +1,5 @@
 use Rattle.std.proofs.Common.{◌≡◌, ℕ, ◌≤◌, ◌<◌, false}
-use Rattle.sixel_canvas.specs.inside.Band.{cell}
-use Rattle.sixel_canvas.specs.inside.TaggedBand.{HasSameRoom, tagged_cell}
-use Rattle.sixel_canvas.specs.inside.Tags.{is_tag}
+use Rattle.sixel_canvas.specs.inside.{Band.cell, TaggedBand.{HasSameRoom, tagged_cell}, Tags.is_tag}
 use Rattle.sixel_canvas.proofs.tagged_band.TaggedBand.untag_tiles.Given as goal
 
 abbrev pub invariant-each : goal.invariant-each

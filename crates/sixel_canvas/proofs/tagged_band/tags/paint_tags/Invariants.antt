@@ -1,7 +1,6 @@
 use Rattle.std.proofs.Common.{◌≡◌, ℕ, ◌+◌, ◌*◌}
 use Rattle.std.specs.Prelude.{nat_le, nat_lt, ◌&&◌, if◌then◌else◌}
-use Rattle.sixel_canvas.specs.inside.Band.{IsBand, cell}
-use Rattle.sixel_canvas.specs.inside.Tags.{under}
+use Rattle.sixel_canvas.specs.inside.{Band.{IsBand, cell}, Tags.under}
 use Rattle.sixel_canvas.proofs.tagged_band.tags.paint_tags.Given as goal
 
 abbrev pub invariant-rows : goal.invariant-rows

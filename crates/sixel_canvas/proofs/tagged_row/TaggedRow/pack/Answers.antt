@@ -1,9 +1,7 @@
 use Rattle.std.proofs.Common.{◌≡◌, ◌+◌, ◌*◌, min, append_assoc, arith}
-use Rattle.std.proofs.lemmas.List.{append-nil}
-use Rattle.sixel_base.specs.Picture.{joined}
-use Rattle.sixel_base.proofs.PictureBytes.{joined-add}
+use Rattle.std.{proofs.lemmas.Bool.Decides.nat_tests, proofs.lemmas.List.append-nil}
+use Rattle.sixel_base.{proofs.PictureBytes.joined-add, specs.Picture.joined}
 use Rattle.sixel_canvas.proofs.tagged_row.TaggedRow.pack.Goals as goal
-use Rattle.std.proofs.lemmas.Bool.Decides.{nat_tests}
 
 pub segments-init : goal.segments-init
 unfolding joined

@@ -1,6 +1,5 @@
 use Rattle.std.proofs.Common.{arith}
-use Rattle.sixel_canvas.proofs.RowPixels.{painted_length}
-use Rattle.sixel_canvas.proofs.TaggedRows.{tagged_tiles}
+use Rattle.sixel_canvas.proofs.{RowPixels.painted_length, TaggedRows.tagged_tiles}
 use Rattle.sixel_canvas.proofs.tagged_row.TaggedRow.tag.Goals as goal
 
 pub returns-clause-drawn : goal.returns-clause-drawn

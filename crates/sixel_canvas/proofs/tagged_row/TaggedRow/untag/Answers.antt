@@ -1,7 +1,6 @@
 use Rattle.std.proofs.Common.{◌≡◌, length, true, sym, ap, ◌∙◌, arith}
 use Rattle.sixel_canvas.specs.inside.TaggedRow.{TaggedRowState, tag_of, tagged_row_state}
-use Rattle.sixel_canvas.specs.inside.Tags.{is_tag}
-use Rattle.sixel_canvas.proofs.TaggedRows.{IsUntagged, untagged_row}
+use Rattle.sixel_canvas.{specs.inside.Tags.is_tag, proofs.TaggedRows.{IsUntagged, untagged_row}}
 use Rattle.sixel_canvas.proofs.tagged_row.TaggedRow.untag.Goals as goal
 
 -- the row as it was, and what was done to it

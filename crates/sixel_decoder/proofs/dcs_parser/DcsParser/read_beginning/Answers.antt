@@ -1,14 +1,13 @@
 use Rattle.std.proofs.Common.{◌++◌, ◌∙◌, List, ℕ, Option, None, subst, take, arith}
-use Rattle.std.proofs.lemmas.Result.{err_from_is_err_and}
+use Rattle.std.proofs.lemmas.{Bool.Decides.nat_tests, Result.err_from_is_err_and}
 use Rattle.sixel_base.specs.declared.status.SixelDcsFeedStatus.{SixelDcsFeedStatus}
 use Rattle.sixel_decoder.specs.declared.dcs_parser.DcsState.{DcsState}
-use Rattle.sixel_decoder.specs.declared.dcs_parser.DcsState.TheVariants as states
 use Rattle.sixel_decoder.specs.inside.DcsParser.{IsInPayload, HasFollowed}
 use Rattle.sixel_decoder.proofs.dcs_sequences.Chunks.{heading, head_or_payload, head_fine}
 use Rattle.sixel_decoder.proofs.dcs_sequences.Chunks.{stage_refuses, head_follows, all_counted}
 use Rattle.sixel_decoder.proofs.dcs_sequences.Chunks.{entered_follows, entered_refuses}
+use Rattle.sixel_decoder.specs.declared.dcs_parser.DcsState.TheVariants as states
 use Rattle.sixel_decoder.proofs.dcs_parser.DcsParser.read_beginning.Goals as goal
-use Rattle.std.proofs.lemmas.Bool.Decides.{nat_tests}
 
 pub returns-in_err-start-clause-follows : goal.returns-in_err-start-clause-follows
 returns-in_err-start-clause-follows g c =

@@ -1,6 +1,5 @@
 use Rattle.std.proofs.Common.{◌≡◌, ◌++◌, false, List, ℕ, take}
-use Rattle.sixel_decoder.specs.inside.DcsParser.{HasFollowed, is_failed}
-use Rattle.sixel_decoder.specs.inside.DcsReader.{released_of}
+use Rattle.sixel_decoder.specs.inside.{DcsParser.{HasFollowed, is_failed}, DcsReader.released_of}
 use Rattle.sixel_decoder.proofs.dcs_parser.DcsParser.read_head.Given as goal
 
 abbrev pub invariant-head : goal.invariant-head

@@ -1,13 +1,9 @@
 use Rattle.std.proofs.Common.{◌≡◌, ◌++◌, ◌∷◌, [], true, false, None, refl, sym, ◌∙◌, ap, subst}
-use Rattle.sixel_base.specs.inside.Parameters.{Keeps}
-use Rattle.sixel_base.specs.Bytes.{carrying}
-use Rattle.sixel_base.specs.Decoder.{origin_of}
-use Rattle.sixel_base.specs.Dcs.{Reading}
-use Rattle.sixel_base.specs.Header.{header_text, is_header, settings_of}
+use Rattle.sixel_base.specs.{Bytes.carrying, Dcs.Reading, Decoder.origin_of, Header.header_text}
+use Rattle.sixel_base.specs.{Header.{is_header, settings_of}, inside.Parameters.Keeps}
 use Rattle.sixel_base.proofs.ToleratedTokens.{fault-none}
-use Rattle.sixel_decoder.specs.PayloadCalls.{begun}
+use Rattle.sixel_decoder.specs.{PayloadCalls.begun, declared.dcs_parser.DcsState.DcsState}
 use Rattle.sixel_decoder.specs.inside.DcsParser.{HasFollowed, IsInHeader, IsInPayload}
-use Rattle.sixel_decoder.specs.declared.dcs_parser.DcsState.{DcsState}
 use Rattle.sixel_decoder.proofs.dcs_sequences.Headers.{header_goes_on, header_begins}
 use Rattle.sixel_decoder.proofs.dcs_sequences.Headers.{header_refuses}
 use Rattle.sixel_decoder.proofs.dcs_parser.DcsParser.step.Goals as goal

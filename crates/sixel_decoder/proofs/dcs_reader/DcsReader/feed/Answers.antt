@@ -1,18 +1,14 @@
 use Rattle.std.proofs.Common.{◌≡◌, ◌∙◌, ℕ, List, ◌++◌, ap, false, refl}
-use Rattle.std.specs.Prelude.{nat_lt}
-use Rattle.std.proofs.lemmas.Bool.{false_from_ne_true}
-use Rattle.sixel_base.specs.Dcs.{dcs_fault, dcs_growths, ended_with}
-use Rattle.sixel_base.specs.Fault.{Faults}
-use Rattle.sixel_decoder.specs.FedImages.{of_sequence_fed}
-use Rattle.sixel_decoder.specs.ImageEnds.{Extends, inside}
-use Rattle.sixel_decoder.specs.Reception.{OfString, of_sequence}
-use Rattle.sixel_decoder.specs.declared.received.Status.TheVariants.{Dcs}
-use Rattle.sixel_decoder.specs.inside.DcsParser.{is_failed}
-use Rattle.sixel_decoder.specs.inside.DcsReader.{session_of}
+use Rattle.std.{proofs.lemmas.Bool.false_from_ne_true, specs.Prelude.nat_lt}
+use Rattle.sixel_base.{specs.Dcs.{dcs_fault, dcs_growths, ended_with}, specs.Fault.Faults}
 use Rattle.sixel_decoder.proofs.chunks.FedImages.{image_fed, image_rejected}
-use Rattle.sixel_decoder.proofs.images.ImageEnds.{end_of, refused_begun}
 use Rattle.sixel_decoder.proofs.chunks.Sessions.{followed_sound}
 use Rattle.sixel_decoder.proofs.dcs_reader.DcsReader.feed.Given.{Over}
+use Rattle.sixel_decoder.proofs.images.ImageEnds.{end_of, refused_begun}
+use Rattle.sixel_decoder.{specs.FedImages.of_sequence_fed, specs.ImageEnds.{Extends, inside}}
+use Rattle.sixel_decoder.specs.Reception.{OfString, of_sequence}
+use Rattle.sixel_decoder.specs.declared.received.Status.TheVariants.{Dcs}
+use Rattle.sixel_decoder.{specs.inside.DcsParser.is_failed, specs.inside.DcsReader.session_of}
 use Rattle.sixel_decoder.proofs.dcs_reader.DcsReader.feed.Goals as goal
 
 pub invariant_of-self : goal.invariant_of-self

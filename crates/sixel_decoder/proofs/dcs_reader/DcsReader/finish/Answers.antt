@@ -1,7 +1,5 @@
 use Rattle.std.proofs.Common.{◌≡◌, ℕ, List, true, ap, subst, sym, ◌∙◌, refl}
-use Rattle.sixel_base.specs.Dcs.{can_finish}
-use Rattle.sixel_base.specs.Payload.{payload_fault}
-use Rattle.sixel_base.specs.Stroke.{Origin}
+use Rattle.sixel_base.specs.{Dcs.can_finish, Payload.payload_fault, Stroke.Origin}
 use Rattle.sixel_decoder.specs.inside.DcsParser.{HasFollowed, IsInPayload}
 use Rattle.sixel_decoder.specs.declared.dcs_parser.DcsState.{DcsState}
 use Rattle.sixel_decoder.proofs.dcs_sequences.Finishes.{finish_sound, finish_told, taken_in}

@@ -1,18 +1,15 @@
 use Rattle.std.proofs.Common.{◌≡◌, ◌∷◌, [], false, ℕ, List, refl, ap, subst, None}
-use Rattle.sixel_base.specs.declared.status.SixelDcsFeedStatus.TheVariants.{NeedMoreData}
-use Rattle.sixel_base.specs.declared.status.SixelFeedStatus.TheVariants as payload_status
 use Rattle.sixel_base.specs.Dcs.{dcs_fault}
-use Rattle.sixel_decoder.specs.DcsCalls.{byte_read}
-use Rattle.sixel_decoder.specs.Reception.{of_sequence}
-use Rattle.sixel_decoder.specs.declared.dcs_parser.DcsState.{DcsState}
+use Rattle.sixel_base.specs.declared.status.SixelDcsFeedStatus.TheVariants.{NeedMoreData}
+use Rattle.sixel_decoder.{proofs.chunks.FedImages.image_fed, proofs.chunks.Feeds.open_follows}
+use Rattle.sixel_decoder.proofs.chunks.Sessions.{followed_sound}
+use Rattle.sixel_decoder.{proofs.dcs_reader.DcsReader.try_byte.Given.Over, specs.DcsCalls.byte_read}
+use Rattle.sixel_decoder.{specs.Reception.of_sequence, specs.declared.dcs_parser.DcsState.DcsState}
 use Rattle.sixel_decoder.specs.declared.dcs_parser.DcsState.TheVariants.{Payload}
 use Rattle.sixel_decoder.specs.declared.received.Status.TheVariants.{Dcs}
 use Rattle.sixel_decoder.specs.inside.DcsParser.{Follows, HasFollowed, IsInPayload, is_failed}
 use Rattle.sixel_decoder.specs.inside.DcsReader.{session_of}
-use Rattle.sixel_decoder.proofs.chunks.FedImages.{image_fed}
-use Rattle.sixel_decoder.proofs.chunks.Feeds.{open_follows}
-use Rattle.sixel_decoder.proofs.chunks.Sessions.{followed_sound}
-use Rattle.sixel_decoder.proofs.dcs_reader.DcsReader.try_byte.Given.{Over}
+use Rattle.sixel_base.specs.declared.status.SixelFeedStatus.TheVariants as payload_status
 use Rattle.sixel_decoder.proofs.dcs_reader.DcsReader.try_byte.Goals as goal
 
 -- the sequence goes on in its payload

@@ -1,7 +1,5 @@
 use Rattle.std.proofs.Common.{ℕ, ◌≡◌, max, ap, sym, ◌∙◌, arith}
-use Rattle.std.specs.Int.{to_le_bytes, w64}
-use Rattle.std.specs.Simd.Lanes.{fold_l}
-use Rattle.std.specs.Int.Bits.{bit_or}
+use Rattle.std.specs.{Int.{to_le_bytes, w64}, Int.Bits.bit_or, Simd.Lanes.fold_l}
 use Rattle.sixel_base.specs.DrawnHeight.{lowered, set_rows}
 use Rattle.sixel_decoder.specs.inside.DrawnRows.{together}
 use Rattle.sixel_decoder.proofs.drawing.SetRows.{lowered-again, set_rows-or}

@@ -1,11 +1,8 @@
 use Rattle.std.proofs.Common.{ℕ, List, length, ◌≡◌, max, ap, sym, ◌∙◌, arith}
-use Rattle.std.specs.Int.{to_le_bytes, w64}
-use Rattle.std.specs.Int.Bits.{bit_or}
-use Rattle.std.specs.Simd.Lanes.{fold_l, zip2}
 use Rattle.std.proofs.lemmas.Nat.{le_bytes_8}
+use Rattle.std.specs.{Int.{to_le_bytes, w64}, Int.Bits.bit_or, Simd.Lanes.{fold_l, zip2}}
 use Rattle.sixel_base.specs.DrawnHeight.{lowered, set_rows}
-use Rattle.sixel_decoder.specs.inside.DrawnRows.{together}
-use Rattle.sixel_decoder.specs.inside.Runs.{most_rows}
+use Rattle.sixel_decoder.specs.{inside.DrawnRows.together, inside.Runs.most_rows}
 use Rattle.sixel_decoder.proofs.drawing.SetRows.{bytes-or, length-bytes, lowered-again}
 use Rattle.sixel_decoder.proofs.drawing.SetRows.{most_rows-zip, set_rows-fold, set_rows-or}
 use Rattle.sixel_decoder.proofs.drawn_rows.DrawnRows.add_eight.Goals as goal

@@ -1,8 +1,6 @@
-use Rattle.std.proofs.Common.{true, arith}
-use Rattle.std.proofs.lemmas.List.{append-nil}
+use Rattle.std.proofs.{Common.{true, arith}, lemmas.Bool.Decides.nat_tests, lemmas.List.append-nil}
 use Rattle.sixel_base.specs.Bytes.{is_parameter}
 use Rattle.sixel_decoder.proofs.header.Header.push.Goals as goal
-use Rattle.std.proofs.lemmas.Bool.Decides.{nat_tests}
 
 pub push-requires : goal.push-requires
 push-requires c = c.is_parameter.ensures.bytes c.if-is_parameter.true

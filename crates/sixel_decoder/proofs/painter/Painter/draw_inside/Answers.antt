@@ -1,8 +1,6 @@
 use Rattle.std.proofs.Common.{◌≡◌, ◌∙◌, ℕ, true, false, min, refl, sym, ap, arith}
-use Rattle.std.proofs.lemmas.Bool.{le-ltb, lt-ltb}
-use Rattle.std.proofs.lemmas.Bool.Decides.{nat_tests}
-use Rattle.sixel_base.specs.Clip.{clipped_bits, is_pixel_inside}
-use Rattle.sixel_base.specs.Limits.{Limit}
+use Rattle.std.proofs.lemmas.{Bool.{le-ltb, lt-ltb}, Bool.Decides.nat_tests}
+use Rattle.sixel_base.specs.{Clip.{clipped_bits, is_pixel_inside}, Limits.Limit}
 use Rattle.sixel_decoder.proofs.drawing.Clips.{covers_clipped, covers_outside}
 use Rattle.sixel_decoder.proofs.painter.Painter.draw_inside.Goals as goal
 

@@ -1,11 +1,8 @@
 use Rattle.std.proofs.Common.{◌≡◌, ℕ, ◌+◌, ◌≤◌, List, length, take, true, refl, sym, ap, ◌∙◌, arith}
 use Rattle.std.specs.Prelude.{fold}
-use Rattle.sixel_base.specs.Fault.{is_fault}
-use Rattle.sixel_base.specs.History.{History, read}
-use Rattle.sixel_base.specs.Lenient.{effective}
+use Rattle.sixel_base.specs.{Fault.is_fault, History.{History, read}, Lenient.effective}
 use Rattle.sixel_decoder.proofs.drawing.LenientTokens.{has_drawn_front, has_drawn_ignored}
-use Rattle.sixel_decoder.proofs.drawing.LenientTokens.{has_drawn_more}
-use Rattle.sixel_decoder.proofs.drawing.PaintedRuns.{Shows-eight}
+use Rattle.sixel_decoder.proofs.drawing.{LenientTokens.has_drawn_more, PaintedRuns.Shows-eight}
 use Rattle.sixel_decoder.proofs.drawing.SixelRuns.{IsRun-take, fold_one, fold_run, length-front}
 use Rattle.sixel_decoder.proofs.drawing.SixelRuns.{length-bits_of, with_sixels}
 use Rattle.sixel_decoder.proofs.painter.Painter.draw_sixels.Goals as goal

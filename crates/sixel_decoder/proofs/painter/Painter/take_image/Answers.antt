@@ -1,18 +1,12 @@
 use Rattle.std.proofs.Common.{arith, ◌≡◌, ℕ, ◌+◌, ◌-◌, ◌*◌, ◌≤◌, List, ◌++◌, ap, sym, ◌∙◌, refl}
-use Rattle.std.proofs.Common.{append-nil, ⊎_elim, min}
-use Rattle.std.proofs.Math.Nat.{mul-le-mul_left}
-use Rattle.std.proofs.lemmas.Bool.{cases_lt}
-use Rattle.std.proofs.lemmas.Nat.{mul-le}
-use Rattle.sixel_base.specs.Clip.{clipped_pixel, clipped_width}
-use Rattle.sixel_base.specs.DrawnHeight.{image_drawn_height}
-use Rattle.sixel_base.specs.Limits.{Limit}
-use Rattle.sixel_base.specs.Payload.{image_height}
-use Rattle.sixel_base.specs.Picture.{joined, picture}
+use Rattle.std.proofs.{Common.{append-nil, ⊎_elim, min}, Math.Nat.mul-le-mul_left}
+use Rattle.std.proofs.{lemmas.Bool.cases_lt, lemmas.Nat.mul-le}
+use Rattle.sixel_base.specs.{Clip.{clipped_pixel, clipped_width}, DrawnHeight.image_drawn_height}
+use Rattle.sixel_base.specs.{Limits.Limit, Payload.image_height, Picture.{joined, picture}}
 use Rattle.sixel_base.specs.Place.{raster_height}
 use Rattle.sixel_base.proofs.PictureBytes.{joined-add}
 use Rattle.sixel_canvas.proofs.Pictures.{picture_same}
-use Rattle.sixel_decoder.proofs.drawing.Clips.{clipped_picture}
-use Rattle.sixel_decoder.proofs.drawing.ImageAreas.{low}
+use Rattle.sixel_decoder.proofs.{drawing.Clips.clipped_picture, drawing.ImageAreas.low}
 use Rattle.sixel_decoder.proofs.painter.Painter.take_image.Goals as goal
 
 -- the rows that are left, below those above the first of them

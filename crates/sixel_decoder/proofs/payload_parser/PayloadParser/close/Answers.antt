@@ -1,10 +1,9 @@
-use Rattle.std.proofs.Common.{subst, arith}
-use Rattle.sixel_decoder.specs.inside.PayloadParser.{IsOpen, StandsIn}
+use Rattle.std.proofs.{Common.{subst, arith}, lemmas.Bool.Decides.nat_tests}
 use Rattle.sixel_decoder.specs.declared.payload_parser.OpenCommand.{OpenCommand}
+use Rattle.sixel_decoder.specs.inside.PayloadParser.{IsOpen, StandsIn}
 use Rattle.sixel_base.specs.History.{Color}
 use Rattle.sixel_decoder.proofs.drawing.LenientTokens.{has_drawn_more, tolerates}
 use Rattle.sixel_decoder.proofs.payload_parser.PayloadParser.close.Goals as goal
-use Rattle.std.proofs.lemmas.Bool.Decides.{nat_tests}
 
 pub returns-in-InRepeat-clause-drawn : goal.returns-in-InRepeat-clause-drawn
 returns-in-InRepeat-clause-drawn g c = grind (arith, nat_tests, tolerates)

@@ -1,20 +1,16 @@
 use Rattle.std.proofs.Common.{◌≡◌, ◌-◌, ◌∷◌, ℕ, true, get_or, subst, sym, ◌∙◌, arith, rules}
 use Rattle.std.specs.Prelude.{◌⊎◌}
-use Rattle.std.proofs.lemmas.Result.{err_from_is_err_and}
-use Rattle.sixel_base.specs.Fault.{Faults}
-use Rattle.sixel_base.specs.History.{Sixel}
-use Rattle.sixel_base.specs.Lenient.{fault}
+use Rattle.std.proofs.lemmas.{Bool.Decides.nat_tests, Result.err_from_is_err_and}
+use Rattle.sixel_base.specs.{Fault.Faults, History.Sixel, Lenient.fault}
 use Rattle.sixel_decoder.specs.inside.Runs.{IsPrintable, IsSixelByte}
+use Rattle.sixel_decoder.proofs.chunks.{OpenCommands.goes_on_numbered, ParserSteps.refused_close}
 use Rattle.sixel_decoder.proofs.chunks.Places.{feeds_refused, feeds_refused_end}
 use Rattle.sixel_decoder.proofs.chunks.Places.{feeds_refused_printable, feeds_terminated}
 use Rattle.sixel_decoder.proofs.chunks.Places.{feeds_whole, first_ahead, reaches_ignored}
 use Rattle.sixel_decoder.proofs.chunks.Places.{reaches_pushed, reaches_read, reads_before}
 use Rattle.sixel_decoder.proofs.chunks.Places.{reads_whole, splits_at}
-use Rattle.sixel_decoder.proofs.chunks.ParserSteps.{refused_close}
-use Rattle.sixel_decoder.proofs.chunks.OpenCommands.{goes_on_numbered}
 use Rattle.sixel_decoder.proofs.drawing.SixelRuns.{Stands-run, goes_on_byte, refused_sixel}
 use Rattle.sixel_decoder.proofs.payload_parser.PayloadParser.read_chunk.Goals as goal
-use Rattle.std.proofs.lemmas.Bool.Decides.{nat_tests}
 
 -- a byte that opens a command with a number is printable
 numbered_printable : (byte : ℕ) → (byte ≡ 33) ⊎ (byte ≡ 35) → IsPrintable byte

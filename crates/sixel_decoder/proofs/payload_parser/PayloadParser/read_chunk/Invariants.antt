@@ -1,6 +1,5 @@
 use Rattle.std.proofs.Common.{◌≡◌, ◌-◌, length}
-use Rattle.sixel_base.specs.History.{History}
-use Rattle.sixel_base.specs.Stroke.{Origin}
+use Rattle.sixel_base.specs.{History.History, Stroke.Origin}
 use Rattle.sixel_decoder.specs.inside.PayloadParser.{Reaches}
 use Rattle.sixel_decoder.proofs.payload_parser.PayloadParser.read_chunk.Given as goal
 

@@ -1,6 +1,5 @@
 use Rattle.std.proofs.Common.{◌≡◌}
-use Rattle.sixel_base.specs.History.{History}
-use Rattle.sixel_base.specs.Stroke.{Origin}
+use Rattle.sixel_base.specs.{History.History, Stroke.Origin}
 use Rattle.sixel_decoder.specs.inside.PayloadParser.{Reaches, Stands}
 use Rattle.sixel_decoder.proofs.payload_parser.PayloadParser.try_front.Given as goal
 

@@ -1,8 +1,6 @@
 use Rattle.std.proofs.Common.{[], ◌∷◌, ◌-◌, arith}
-use Rattle.sixel_base.specs.History.{Sixel}
-use Rattle.sixel_base.specs.Lenient.{effective}
-use Rattle.sixel_decoder.proofs.drawing.LenientTokens.{has_drawn_more}
-use Rattle.sixel_decoder.proofs.drawing.SixelRuns.{Stands-one}
+use Rattle.sixel_base.specs.{History.Sixel, Lenient.effective}
+use Rattle.sixel_decoder.proofs.drawing.{LenientTokens.has_drawn_more, SixelRuns.Stands-one}
 use Rattle.sixel_decoder.proofs.payload_parser.PayloadParser.try_sixel.Goals as goal
 
 pub returns-clause-stands : goal.returns-clause-stands

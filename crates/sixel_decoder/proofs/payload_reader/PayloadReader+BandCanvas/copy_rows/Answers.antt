@@ -1,7 +1,6 @@
 use Rattle.sixel_decoder.proofs.images.StableRows.{pixel_settled}
+use Rattle.std.proofs.{Common.arith, lemmas.Bool.Decides.nat_tests}
 use Rattle.sixel_decoder.proofs.payload_reader.PayloadReader+BandCanvas.copy_rows.Goals as goal
-use Rattle.std.proofs.Common.{arith}
-use Rattle.std.proofs.lemmas.Bool.Decides.{nat_tests}
 
 pub returns-clause-copied : goal.returns-clause-copied
 returns-clause-copied c =

@@ -1,8 +1,7 @@
 use Rattle.std.proofs.Common.{◌∙◌, arith, rules}
 use Rattle.sixel_base.specs.Payload.{settled_tokens}
 use Rattle.sixel_canvas.specs.inside.TaggedBand.{capacity}
-use Rattle.sixel_decoder.proofs.drawing.BandCosts.{band_cost}
-use Rattle.sixel_decoder.proofs.drawing.LenientTokens.{sixels-settled}
+use Rattle.sixel_decoder.proofs.drawing.{BandCosts.band_cost, LenientTokens.sixels-settled}
 use Rattle.sixel_decoder.proofs.payload_reader.PayloadReader+BandCanvas.paints.Goals as goal
 
 pub returns : goal.returns

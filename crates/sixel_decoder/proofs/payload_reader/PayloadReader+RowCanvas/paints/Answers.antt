@@ -1,7 +1,6 @@
 use Rattle.std.proofs.Common.{◌∙◌, arith, rules}
 use Rattle.sixel_base.specs.Payload.{settled_tokens}
-use Rattle.sixel_decoder.proofs.drawing.LenientTokens.{sixels-settled}
-use Rattle.sixel_decoder.proofs.drawing.RunCosts.{history_cost}
+use Rattle.sixel_decoder.proofs.drawing.{LenientTokens.sixels-settled, RunCosts.history_cost}
 use Rattle.sixel_decoder.proofs.payload_reader.PayloadReader+RowCanvas.paints.Goals as goal
 
 pub returns : goal.returns

@@ -1,23 +1,17 @@
 use Rattle.std.proofs.Common.{◌≡◌, ℕ, List, Option, None, Some, Ok, Err, false, refl, sym, ◌∙◌}
-use Rattle.std.proofs.Common.{arith, subst}
+use Rattle.std.proofs.{Common.{arith, subst}, lemmas.Bool.false≢true, lemmas.Bool.Decides.nat_tests}
 use Rattle.std.specs.Prelude.{is_none}
-use Rattle.std.proofs.lemmas.Bool.{false≢true}
-use Rattle.std.proofs.lemmas.Bool.Decides.{nat_tests}
+use Rattle.sixel_base.specs.{Bytes.first_terminator, Status.status_of, Stroke.Origin}
 use Rattle.sixel_base.specs.declared.error.SixelError.{SixelError}
 use Rattle.sixel_base.specs.declared.status.SixelFeedResult.{SixelFeedResult}
-use Rattle.sixel_base.specs.Bytes.{first_terminator}
-use Rattle.sixel_base.specs.Status.{status_of}
-use Rattle.sixel_base.specs.Stroke.{Origin}
 use Rattle.sixel_canvas.specs.declared.drawing.Canvas.{Ghosts}
 use Rattle.sixel_decoder.specs.Reception.{of_payload}
 use Rattle.sixel_decoder.specs.declared.payload_parser.PayloadParser.{PayloadParser}
 use Rattle.sixel_decoder.specs.declared.payload_reader.PayloadState.{PayloadState}
 use Rattle.sixel_decoder.specs.inside.PayloadReader.{session_of, parser_of, HasRead}
+use Rattle.sixel_decoder.proofs.{chunks.FedImages.image_rejected, chunks.Feeds.payload_fed}
 use Rattle.sixel_decoder.proofs.chunks.Joined.{ended_goes_on, ended_reads, open_goes_on}
-use Rattle.sixel_decoder.proofs.dcs_sequences.Ends.{terminator_same}
-use Rattle.sixel_decoder.proofs.chunks.FedImages.{image_rejected}
-use Rattle.sixel_decoder.proofs.chunks.Feeds.{payload_fed}
-use Rattle.sixel_decoder.proofs.chunks.Sessions.{read_sound}
+use Rattle.sixel_decoder.proofs.{chunks.Sessions.read_sound, dcs_sequences.Ends.terminator_same}
 use Rattle.sixel_decoder.proofs.payload_reader.PayloadReader.feed.Goals as goal
 
 -- the terminator that is stored is the first one

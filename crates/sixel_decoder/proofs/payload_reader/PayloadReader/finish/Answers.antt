@@ -1,26 +1,19 @@
 use Rattle.std.proofs.Common.{◌≡◌, ℕ, List, Option, Ok, Err, false, Result, refl, min, arith}
+use Rattle.std.proofs.lemmas.Bool.Decides.{nat_tests}
 use Rattle.std.specs.Prelude.{is_some, IfOk}
-use Rattle.sixel_base.specs.declared.error.SixelError.{SixelError}
-use Rattle.sixel_base.specs.Bytes.{front}
-use Rattle.sixel_base.specs.History.{history_of}
-use Rattle.sixel_base.specs.IgnoredCommands.{payload_ignored}
-use Rattle.sixel_base.specs.Payload.{tokens}
+use Rattle.sixel_base.specs.{Bytes.front, History.history_of, IgnoredCommands.payload_ignored}
+use Rattle.sixel_base.specs.{Payload.tokens, Stroke.Origin, declared.error.SixelError.SixelError}
 use Rattle.sixel_base.proofs.ToleratedTokens.{effective-fault}
-use Rattle.sixel_base.specs.Stroke.{Origin}
 use Rattle.sixel_canvas.specs.declared.drawing.Canvas.{Ghosts}
-use Rattle.sixel_decoder.specs.FinishedImages.{IsTaken}
-use Rattle.sixel_decoder.specs.Reception.{of_payload}
-use Rattle.sixel_decoder.specs.Session.{Session}
-use Rattle.sixel_decoder.specs.inside.Painter.{Ends}
-use Rattle.sixel_decoder.specs.inside.PayloadParser.{StandsAfter}
+use Rattle.sixel_decoder.specs.{FinishedImages.IsTaken, Reception.of_payload, Session.Session}
+use Rattle.sixel_decoder.specs.declared.decoded_payload.DecodedPayload.{DecodedPayload}
 use Rattle.sixel_decoder.specs.declared.payload_parser.PayloadParser.{PayloadParser}
 use Rattle.sixel_decoder.specs.declared.payload_reader.PayloadState.{PayloadState}
-use Rattle.sixel_decoder.specs.declared.payload_reader.PayloadState.TheVariants as states
+use Rattle.sixel_decoder.specs.{inside.Painter.Ends, inside.PayloadParser.StandsAfter}
 use Rattle.sixel_decoder.specs.inside.PayloadReader.{session_of, parser_of, HasRead}
-use Rattle.sixel_decoder.specs.declared.decoded_payload.DecodedPayload.{DecodedPayload}
 use Rattle.sixel_decoder.proofs.chunks.PayloadFaults.{payload_ends}
+use Rattle.sixel_decoder.specs.declared.payload_reader.PayloadState.TheVariants as states
 use Rattle.sixel_decoder.proofs.payload_reader.PayloadReader.finish.Goals as goal
-use Rattle.std.proofs.lemmas.Bool.Decides.{nat_tests}
 
 -- how an image is taken whose parser ended its history
 taken_by : (result : Result DecodedPayload SixelError) (s : Session) → s.is_refused ≡ false

@@ -5,8 +5,7 @@ use Rattle.sixel_base.specs.Stroke.{Origin}
 use Rattle.sixel_decoder.specs.PayloadCalls.{byte_read}
 use Rattle.sixel_decoder.specs.declared.payload_reader.PayloadState.{PayloadState}
 use Rattle.sixel_decoder.specs.inside.PayloadReader.{session_of, parser_of, GoesOn, HasRead}
-use Rattle.sixel_decoder.proofs.chunks.Feeds.{byte_goes_on, payload_fed}
-use Rattle.sixel_decoder.proofs.chunks.Sessions.{read_sound}
+use Rattle.sixel_decoder.proofs.chunks.{Feeds.{byte_goes_on, payload_fed}, Sessions.read_sound}
 use Rattle.sixel_decoder.proofs.payload_reader.PayloadReader.try_byte.Given.{Over}
 use Rattle.sixel_decoder.proofs.payload_reader.PayloadReader.try_byte.Goals as goal
 

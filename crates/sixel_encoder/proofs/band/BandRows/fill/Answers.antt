@@ -1,11 +1,11 @@
-use Rattle.sixel_encoder.proofs.Names.{◌≡◌, ℕ, ◌<◌, ◌≤◌, ◌+◌, ◌*◌, ◌^◌, List, length, ◌∙◌, ap}
-use Rattle.sixel_encoder.proofs.Names.{arith, pow_more, with_items_is, nat_tests}
-use Rattle.sixel_encoder.specs.{declared.band.BandRows.BandRows, Text.mask}
-use Rattle.sixel_encoder.specs.declared.text.IndexedImage.{IndexedImage}
-use Rattle.sixel_encoder.specs.inside.Indexed.{entry_of, IsIndexed}
-use Rattle.sixel_encoder.specs.inside.Grid.{cell, pixel_bit}
-use Rattle.sixel_encoder.proofs.{band_rows.Cells.AreMarks-same, MaskBits.mask-lt}
-use Rattle.sixel_encoder.proofs.band_rows.Masks.{hits, mask-below, mask-line, mask-none, weight-le}
+use Rattle.std.proofs.Common.{◌≡◌, ℕ, ◌<◌, ◌≤◌, ◌+◌, ◌*◌, ◌^◌, List, length, ◌∙◌, ap, arith}
+use Rattle.std.proofs.lemmas.{Bool.Decides.nat_tests, Grind.pow_more, List.with_items_is}
+use Rattle.sixel_encoder.specs.declared.{band.BandRows.BandRows, text.IndexedImage.IndexedImage}
+use Rattle.sixel_encoder.specs.Text.{mask}
+use Rattle.sixel_encoder.specs.inside.{Grid.{cell, pixel_bit}, Indexed.{entry_of, IsIndexed}}
+use Rattle.sixel_encoder.proofs.band_rows.{Cells.AreMarks-same, Masks.{hits, mask-below, mask-line}}
+use Rattle.sixel_encoder.proofs.band_rows.Masks.{mask-none, weight-le}
+use Rattle.sixel_encoder.proofs.MaskBits.{mask-lt}
 use Rattle.sixel_encoder.proofs.band.BandRows.fill.Goals as goal
 use goal.{then-row-image+then-is_whole, then-row-image+else-is_whole, else-row-image}
 

@@ -1,6 +1,6 @@
 use Rattle.std.proofs.Common.{◌≡◌, ℕ, ◌+◌, ◌*◌, ◌^◌, ◌<◌, length}
-use Rattle.sixel_encoder.specs.{Text.is_entry, Text.entry_at, Text.mask, inside.Indexed.drawing_of}
-use Rattle.sixel_encoder.specs.inside.Grid.{cell, AreMarks, IsSameShape}
+use Rattle.sixel_encoder.specs.Text.{is_entry, entry_at, mask}
+use Rattle.sixel_encoder.specs.inside.{Grid.{cell, AreMarks, IsSameShape}, Indexed.drawing_of}
 use Rattle.sixel_encoder.proofs.band.BandRows.fill.Given as goal
 
 abbrev pub invariant-loop-bit : goal.invariant-loop-bit

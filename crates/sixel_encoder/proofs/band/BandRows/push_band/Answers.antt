@@ -1,9 +1,9 @@
-use Rattle.sixel_encoder.proofs.Names.{◌≡◌, ℕ, ◌+◌, ◌*◌, ◌<◌, ◌++◌, length, string_bytes}
-use Rattle.sixel_encoder.proofs.Names.{append_assoc, ap, ◌∙◌, arith, nat_tests, div_ceil_times}
-use Rattle.sixel_encoder.specs.Text.{entry_text, sixel_of}
-use Rattle.sixel_encoder.specs.{inside.Indexed.drawing_of, inside.Grid.cell}
-use Rattle.sixel_encoder.proofs.band_rows.Dots.{appended-start, joined-part}
-use Rattle.sixel_encoder.proofs.MaskBits.{mask-lt}
+use Rattle.std.proofs.Common.{◌≡◌, ℕ, ◌+◌, ◌*◌, ◌<◌, ◌++◌, length, string_bytes, append_assoc, ap}
+use Rattle.std.proofs.{Common.{◌∙◌, arith}, lemmas.Bool.Decides.nat_tests}
+use Rattle.std.proofs.lemmas.Grind.{div_ceil_times}
+use Rattle.sixel_encoder.specs.{Text.{entry_text, sixel_of}, inside.Grid.cell}
+use Rattle.sixel_encoder.specs.inside.Indexed.{drawing_of}
+use Rattle.sixel_encoder.proofs.{MaskBits.mask-lt, band_rows.Dots.{appended-start, joined-part}}
 use Rattle.sixel_encoder.proofs.band_rows.Parts.{joined-all, appended-part}
 use Rattle.sixel_encoder.proofs.band.BandRows.push_band.Goals as goal
 

@@ -1,7 +1,7 @@
 use Rattle.std.proofs.Common.{◌≡◌, ◌*◌, ◌++◌, length, string_bytes}
 use Rattle.sixel_base.specs.Picture.{joined}
-use Rattle.sixel_encoder.specs.{Text.entry_text, inside.Grid.AreEmptyRows}
-use Rattle.sixel_encoder.specs.inside.Indexed.{drawing_of}
+use Rattle.sixel_encoder.specs.Text.{entry_text}
+use Rattle.sixel_encoder.specs.inside.{Grid.AreEmptyRows, Indexed.drawing_of}
 use Rattle.sixel_encoder.proofs.band.BandRows.push_band.Given as goal
 
 abbrev pub invariant-loop-part : goal.invariant-loop-part

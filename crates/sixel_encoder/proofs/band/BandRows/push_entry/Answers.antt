@@ -1,5 +1,5 @@
-use Rattle.sixel_encoder.proofs.Names.{◌≡◌, ◌<◌, ◌+◌, ◌-◌, ◌*◌, append_assoc, take, drop, arith}
-use Rattle.sixel_encoder.proofs.Names.{with_items_is, nat_tests, places}
+use Rattle.std.proofs.Common.{◌≡◌, ◌<◌, ◌+◌, ◌-◌, ◌*◌, append_assoc, take, drop, arith}
+use Rattle.std.proofs.lemmas.{Bool.Decides.nat_tests, List.{with_items_is, places}}
 use Rattle.sixel_encoder.specs.inside.Grid.{grid_row}
 use Rattle.sixel_encoder.proofs.band_rows.RowParts.{part-row, All-grid_row, cell-put_other}
 use Rattle.sixel_encoder.proofs.band.BandRows.push_entry.Goals as goal

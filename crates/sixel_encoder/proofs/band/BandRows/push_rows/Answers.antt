@@ -1,7 +1,7 @@
-use Rattle.sixel_encoder.proofs.Names.{get_or_default, string_bytes, append-nil, length-set, length}
-use Rattle.sixel_encoder.proofs.Names.{nat_tests, get_or, false, arith, ◌≡◌, ◌<◌, set, sym, ◌∙◌, ap}
-use Rattle.sixel_encoder.specs.declared.band.BandRows.{BandRows}
-use Rattle.sixel_encoder.proofs.JoinedLists.{joined-none}
+use Rattle.std.proofs.Common.{string_bytes, length, get_or, false, arith, ◌≡◌, ◌<◌, set, sym, ◌∙◌}
+use Rattle.std.{proofs.Common.ap, proofs.lemmas.Bool.Decides.nat_tests}
+use Rattle.std.proofs.lemmas.List.{get_or_default, append-nil, length-set}
+use Rattle.sixel_encoder.{specs.declared.band.BandRows.BandRows, proofs.JoinedLists.joined-none}
 use Rattle.sixel_encoder.proofs.band_rows.Parts.{progress-used, progress-unused, progress-same}
 use Rattle.sixel_encoder.proofs.band.BandRows.push_rows.Goals as goal
 use goal.{then-index+in_ok-push_entry, else-index}

@@ -1,6 +1,5 @@
 use Rattle.std.proofs.Common.{string_bytes}
-use Rattle.sixel_encoder.specs.inside.Grid.{IsSameShape}
-use Rattle.sixel_encoder.proofs.band_rows.Parts.{Progress}
+use Rattle.sixel_encoder.{proofs.band_rows.Parts.Progress, specs.inside.Grid.IsSameShape}
 use Rattle.sixel_encoder.proofs.band.BandRows.push_rows.Given as goal
 
 abbrev pub invariant-loop-row : goal.invariant-loop-row

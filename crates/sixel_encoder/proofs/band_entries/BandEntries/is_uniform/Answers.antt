@@ -1,6 +1,7 @@
-use Rattle.sixel_encoder.proofs.Names.{List, ap, arith, ℕ, ◌*◌, ◌+◌, ◌%◌, ◌∙◌, ◌≡◌, slice_index}
-use Rattle.sixel_encoder.proofs.{Names.◌==◌, Names.nat_tests, band_rows.ColumnLanes.uniform-lanes}
-use Rattle.sixel_encoder.specs.Text.{mask}
+use Rattle.std.proofs.Common.{List, ap, arith, ℕ, ◌*◌, ◌+◌, ◌%◌, ◌∙◌, ◌≡◌, slice_index}
+use Rattle.std.proofs.lemmas.Bool.Decides.{nat_tests}
+use Rattle.std.specs.Prelude.{◌==◌}
+use Rattle.sixel_encoder.{specs.Text.mask, proofs.band_rows.ColumnLanes.uniform-lanes}
 use Rattle.sixel_encoder.proofs.band_entries.BandEntries.is_uniform.Goals as goal
 
 pub returns : goal.returns

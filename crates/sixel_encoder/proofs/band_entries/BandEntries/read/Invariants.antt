@@ -1,6 +1,6 @@
 use Rattle.std.proofs.Common.{◌≡◌, ◌+◌, ◌*◌, ◌<◌, ℕ, slice_index}
-use Rattle.sixel_encoder.specs.{Text.entry_at, inside.Indexed.drawing_of}
-use Rattle.sixel_encoder.specs.inside.Compact.{AreSpare, lane_of}
+use Rattle.sixel_encoder.specs.Text.{entry_at}
+use Rattle.sixel_encoder.specs.inside.{Compact.{AreSpare, lane_of}, Indexed.drawing_of}
 use Rattle.sixel_encoder.proofs.band_entries.BandEntries.read.Given as goal
 
 abbrev pub invariant-loop-bit : goal.invariant-loop-bit

@@ -1,6 +1,5 @@
-use Rattle.sixel_encoder.proofs.Names.{List, ap, ℕ, ◌*◌, ◌+◌, ◌∙◌, slice_index, ◌==◌}
-use Rattle.sixel_encoder.specs.Text.{mask}
-use Rattle.sixel_encoder.proofs.band_rows.ColumnLanes.{sixel-lanes}
+use Rattle.std.{proofs.Common.{List, ap, ℕ, ◌*◌, ◌+◌, ◌∙◌, slice_index}, specs.Prelude.{◌==◌}}
+use Rattle.sixel_encoder.{proofs.band_rows.ColumnLanes.sixel-lanes, specs.Text.mask}
 use Rattle.sixel_encoder.proofs.band_entries.BandEntries.sixel.Goals as goal
 
 pub returns : goal.returns

@@ -1,6 +1,5 @@
-use Rattle.sixel_encoder.proofs.Names.{List, ap, arith, ℕ, ◌*◌, ◌+◌, slice_index, ◌==◌}
-use Rattle.sixel_encoder.specs.Text.{mask}
-use Rattle.sixel_encoder.proofs.band_rows.ColumnLanes.{transparent-lanes}
+use Rattle.std.{proofs.Common.{List, ap, arith, ℕ, ◌*◌, ◌+◌, slice_index}, specs.Prelude.{◌==◌}}
+use Rattle.sixel_encoder.{proofs.band_rows.ColumnLanes.transparent-lanes, specs.Text.mask}
 use Rattle.sixel_encoder.proofs.band_entries.BandEntries.transparent.Goals as goal
 
 pub overflow_sub-result : goal.overflow_sub-result

@@ -1,5 +1,5 @@
-use Rattle.sixel_encoder.proofs.Names.{◌≡◌, arith, slice_index, get_or-set_at, get_or-set_other}
-use Rattle.sixel_encoder.proofs.Names.{nat_tests}
+use Rattle.std.proofs.Common.{◌≡◌, arith, slice_index}
+use Rattle.std.proofs.lemmas.{Bool.Decides.nat_tests, Grind.get_or-set_at, List.get_or-set_other}
 use Rattle.sixel_encoder.proofs.plain_text.Bound.{added-some, bound-end}
 use Rattle.sixel_encoder.proofs.bound.RowRuns.end.Goals as goal
 

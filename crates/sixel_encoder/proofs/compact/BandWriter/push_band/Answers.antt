@@ -1,8 +1,8 @@
-use Rattle.sixel_encoder.proofs.Names.{◌≤◌, length, ◌∙◌, arith, length-map-range_with_len}
-use Rattle.sixel_encoder.proofs.{Names.nat_tests, compact_form.Steps.text-more}
-use Rattle.sixel_encoder.specs.inside.Indexed.{drawing_of}
-use Rattle.sixel_encoder.proofs.compact_form.Steps.{IsSegment-image, band-selected, band-text}
-use Rattle.sixel_encoder.proofs.compact_form.Steps.{drawn-end, drawn-made, drawn-more, text-end}
+use Rattle.std.{proofs.Common.{◌≤◌, length, ◌∙◌, arith}, proofs.lemmas.Bool.Decides.nat_tests}
+use Rattle.std.proofs.lemmas.List.FromFn.{length-map-range_with_len}
+use Rattle.sixel_encoder.proofs.compact_form.Steps.{text-more, IsSegment-image, band-selected}
+use Rattle.sixel_encoder.proofs.compact_form.Steps.{band-text, drawn-end, drawn-made, drawn-more}
+use Rattle.sixel_encoder.{proofs.compact_form.Steps.text-end, specs.inside.Indexed.drawing_of}
 use Rattle.sixel_encoder.proofs.compact.BandWriter.push_band.Goals as goal
 
 pub loop-segment-init : goal.loop-segment-init

@@ -1,7 +1,7 @@
 use Rattle.std.proofs.Common.{◌≡◌, ◌++◌, drop, string_bytes}
-use Rattle.sixel_encoder.specs.Compact.{drawn_by, segments_marks}
-use Rattle.sixel_encoder.specs.{Marks.marks_text, inside.Indexed.drawing_of}
+use Rattle.sixel_encoder.specs.{Compact.{drawn_by, segments_marks}, Marks.marks_text}
 use Rattle.sixel_encoder.specs.inside.Compact.{AreLanes, IsWriter, drawn_so_far}
+use Rattle.sixel_encoder.specs.inside.Indexed.{drawing_of}
 use Rattle.sixel_encoder.proofs.compact.BandWriter.push_band.Given as goal
 
 abbrev pub invariant-loop-segment : goal.invariant-loop-segment

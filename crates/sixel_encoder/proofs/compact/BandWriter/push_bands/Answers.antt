@@ -1,10 +1,9 @@
-use Rattle.sixel_encoder.proofs.Names.{ap, ◌∙◌, arith, nat_tests}
+use Rattle.std.proofs.{Common.{ap, ◌∙◌, arith, length-append}, lemmas.Bool.Decides.nat_tests}
 use Rattle.sixel_encoder.specs.inside.Indexed.{drawing_of}
 use Rattle.sixel_encoder.proofs.compact_form.Counts.{flat_map-more, flat_map-start}
-use Rattle.sixel_encoder.proofs.round_trip.DrawnHeight.{bands_up_to-le}
 use Rattle.sixel_encoder.proofs.compact_form.SegmentOrder.{register_after-more, register_after-none}
 use Rattle.sixel_encoder.proofs.plain_text.Bound.{length-band, length-joined}
-use Rattle.std.proofs.Common.{length-append}
+use Rattle.sixel_encoder.proofs.round_trip.DrawnHeight.{bands_up_to-le}
 use Rattle.sixel_encoder.proofs.compact.BandWriter.push_bands.Goals as goal
 
 pub loop-band-init : goal.loop-band-init

@@ -1,8 +1,7 @@
 use Rattle.std.proofs.Common.{◌≡◌, ◌≤◌, ◌++◌, length, string_bytes}
 use Rattle.sixel_base.specs.Picture.{joined}
-use Rattle.sixel_encoder.specs.Compact.{compact_band, register_after}
-use Rattle.sixel_encoder.specs.{Marks.marks_text, Text.band_text, inside.Compact.IsWriter}
-use Rattle.sixel_encoder.specs.inside.Indexed.{drawing_of}
+use Rattle.sixel_encoder.specs.{Compact.{compact_band, register_after}, Marks.marks_text}
+use Rattle.sixel_encoder.specs.{Text.band_text, inside.Compact.IsWriter, inside.Indexed.drawing_of}
 use Rattle.sixel_encoder.proofs.compact.BandWriter.push_bands.Given as goal
 
 abbrev pub invariant-loop-band : goal.invariant-loop-band

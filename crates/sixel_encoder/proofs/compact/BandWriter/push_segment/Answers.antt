@@ -1,6 +1,7 @@
-use Rattle.sixel_encoder.proofs.Names.{arith, length-map-range_with_len, nat_tests, append-nil}
-use Rattle.sixel_encoder.proofs.Names.{common_steps, flat_map-append}
-use Rattle.sixel_encoder.proofs.{compact_form.FillSteps.All-fill, MaskBits.mask-small}
+use Rattle.std.proofs.{Common.arith, lemmas.Bool.Decides.nat_tests, lemmas.Grind.common_steps}
+use Rattle.std.proofs.{lemmas.Grind.flat_map-append, lemmas.List.append-nil}
+use Rattle.std.proofs.lemmas.List.FromFn.{length-map-range_with_len}
+use Rattle.sixel_encoder.proofs.{MaskBits.mask-small, compact_form.FillSteps.All-fill}
 use Rattle.sixel_encoder.proofs.compact.BandWriter.push_segment.Goals as goal
 
 pub push_row-requires : goal.push_row-requires

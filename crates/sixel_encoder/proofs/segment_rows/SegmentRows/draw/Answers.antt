@@ -1,8 +1,9 @@
-use Rattle.sixel_encoder.proofs.Names.{◌≡◌, ◌+◌, ◌<◌, List, length, set, ap, ◌∙◌, arith, ℕ, refl}
-use Rattle.sixel_encoder.proofs.Names.{bit_or, slice_index, get_or_default, nat_tests}
-use Rattle.sixel_encoder.specs.{Text.sixel_of, inside.Indexed.drawing_of}
+use Rattle.std.proofs.Common.{◌≡◌, ◌+◌, ◌<◌, List, length, set, ap, ◌∙◌, arith, ℕ, refl}
+use Rattle.std.{proofs.Common.slice_index, proofs.lemmas.Bool.Decides.nat_tests}
+use Rattle.std.{proofs.lemmas.List.get_or_default, specs.Int.Bits.bit_or}
 use Rattle.sixel_encoder.proofs.compact_form.FillSteps.{IsBlocking, blocked-after, blocked-more}
 use Rattle.sixel_encoder.proofs.compact_form.FillSteps.{fill-end, fill-off, fill-on}
+use Rattle.sixel_encoder.{specs.Text.sixel_of, specs.inside.Indexed.drawing_of}
 use Rattle.sixel_encoder.proofs.segment_rows.SegmentRows.draw.Goals as goal
 use goal.{then-more-wider-eq0, else-more-wider-eq0+in_ok-resize}
 

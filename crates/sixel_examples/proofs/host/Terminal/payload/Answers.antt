@@ -1,14 +1,10 @@
-use Rattle.std.proofs.Common.{◌≡◌, ℕ, true, List, [], ◌∷◌, ◌++◌, length, arith, refl, ap, sym}
-use Rattle.std.proofs.Common.{◌∙◌, subst, append_assoc, append-nil}
+use Rattle.std.proofs.Common.{◌≡◌, ℕ, true, List, [], ◌∷◌, ◌++◌, length, arith, refl, ap, sym, ◌∙◌}
+use Rattle.std.proofs.{Common.{subst, append_assoc, append-nil}, lemmas.Bool.Decides.nat_tests}
+use Rattle.std.proofs.{lemmas.List.take-append-drop, lemmas.Result.err_from_is_err_and}
 use Rattle.std.specs.Prelude.{◌==◌}
-use Rattle.std.proofs.lemmas.Bool.Decides.{nat_tests}
-use Rattle.std.proofs.lemmas.List.{take-append-drop}
-use Rattle.std.proofs.lemmas.Result.{err_from_is_err_and}
+use Rattle.sixel_base.specs.{Fault.Faults, Payload.{payload_fault, payload_wants}}
 use Rattle.sixel_base.specs.declared.error.SixelError.{SixelError}
-use Rattle.sixel_base.specs.Fault.{Faults}
-use Rattle.sixel_base.specs.Payload.{payload_fault, payload_wants}
-use Rattle.icy_sixel.specs.Receiver.{is_open, start_of}
-use Rattle.icy_sixel.specs.declared.receiver.FailedFeed.{FailedFeed}
+use Rattle.icy_sixel.specs.{Receiver.{is_open, start_of}, declared.receiver.FailedFeed.FailedFeed}
 use Rattle.sixel_examples.proofs.host.Terminal.payload.Goals as goal
 
 pub returns-in_err-feed-clause-refused : goal.returns-in_err-feed-clause-refused

@@ -1,6 +1,5 @@
-use Rattle.std.proofs.Common.{arith}
+use Rattle.std.proofs.{Common.arith, lemmas.Bool.Decides.nat_tests}
 use Rattle.sixel_palette.proofs.mapped_images.DiffusionLanes.{lanes-cast, lanes-chunk}
-use Rattle.std.proofs.lemmas.Bool.Decides.{nat_tests}
 use Rattle.sixel_palette.proofs.dithering.diffusion.color_lanes.Goals as goal
 
 pub returns : goal.returns

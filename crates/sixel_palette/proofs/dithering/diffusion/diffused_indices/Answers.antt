@@ -1,7 +1,5 @@
 use Rattle.std.proofs.Common.{◌≡◌, ◌+◌, ◌*◌, arith}
-use Rattle.std.proofs.lemmas.Bool.{cases_lt}
-use Rattle.std.proofs.lemmas.Bool.Decides.{nat_tests}
-use Rattle.std.proofs.lemmas.Grind.{common_steps}
+use Rattle.std.proofs.lemmas.{Bool.cases_lt, Bool.Decides.nat_tests, Grind.common_steps}
 use Rattle.std.proofs.lemmas.List.{get_or-replicate, get_or_past, length-replicate, with_items_is}
 use Rattle.sixel_palette.specs.inside.Mapped.{mapped_value}
 use Rattle.sixel_palette.proofs.mapped_images.DiffusionVisit.{IsLine-none}

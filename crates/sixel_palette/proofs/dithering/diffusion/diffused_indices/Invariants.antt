@@ -1,8 +1,7 @@
 use Rattle.std.proofs.Common.{◌≡◌, ◌*◌, length}
 use Rattle.std.specs.Prelude.{◌/◌}
-use Rattle.sixel_palette.specs.Dithering.{AreVisited, errors_of}
-use Rattle.sixel_palette.specs.inside.Diffusion.{ArePrepared, IsLine}
-use Rattle.sixel_palette.specs.inside.Mapped.{AreEntries, mapped_value}
+use Rattle.sixel_palette.specs.{Dithering.{AreVisited, errors_of}, inside.Diffusion.ArePrepared}
+use Rattle.sixel_palette.specs.{inside.Diffusion.IsLine, inside.Mapped.{AreEntries, mapped_value}}
 use Rattle.sixel_palette.proofs.dithering.diffusion.diffused_indices.Given as goal
 
 abbrev pub invariant-loop-row : goal.invariant-loop-row

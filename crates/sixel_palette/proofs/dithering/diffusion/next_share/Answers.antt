@@ -1,5 +1,4 @@
-use Rattle.std.proofs.Common.{◌∙◌, arith}
-use Rattle.std.specs.Prelude.{slice_index}
+use Rattle.std.{proofs.Common.{◌∙◌, arith}, specs.Prelude.slice_index}
 use Rattle.sixel_palette.proofs.mapped_images.DiffusionLanes.{lanes, lanes-max, lanes-minus}
 use Rattle.sixel_palette.proofs.mapped_images.DiffusionLanes.{lanes-shift, lanes-splat, lanes-times}
 use Rattle.sixel_palette.proofs.dithering.diffusion.next_share.Goals as goal

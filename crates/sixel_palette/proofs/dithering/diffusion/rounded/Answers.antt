@@ -1,5 +1,4 @@
-use Rattle.std.proofs.Common.{arith}
-use Rattle.std.proofs.lemmas.Simd.{Each1-from_get_or}
+use Rattle.std.proofs.{Common.arith, lemmas.Simd.Each1-from_get_or}
 use Rattle.sixel_palette.proofs.mapped_images.DiffusionLanes.{lanes-cast, lanes-rounded}
 use Rattle.sixel_palette.proofs.dithering.diffusion.rounded.Goals as goal
 

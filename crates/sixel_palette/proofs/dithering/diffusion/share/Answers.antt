@@ -1,9 +1,7 @@
-use Rattle.std.proofs.Common.{◌∙◌, arith}
+use Rattle.std.proofs.{Common.{◌∙◌, arith}, lemmas.Bool.Decides.nat_tests, lemmas.Nat.mul-le}
 use Rattle.std.specs.Prelude.{slice_index}
-use Rattle.std.proofs.lemmas.Nat.{mul-le}
 use Rattle.sixel_palette.proofs.mapped_images.DiffusionLanes.{lanes, lanes-shift, lanes-splat}
 use Rattle.sixel_palette.proofs.mapped_images.DiffusionLanes.{lanes-times}
-use Rattle.std.proofs.lemmas.Bool.Decides.{nat_tests}
 use Rattle.sixel_palette.proofs.dithering.diffusion.share.Goals as goal
 
 pub returns : goal.returns

@@ -1,8 +1,6 @@
-use Rattle.std.proofs.Common.{refl, arith}
-use Rattle.sixel_palette.specs.Gray.{are_gray}
-use Rattle.sixel_palette.proofs.mapped_images.GraySource.{are_gray-more}
+use Rattle.std.{proofs.Common.{refl, arith}, proofs.lemmas.Bool.Decides.nat_tests}
 use Rattle.sixel_palette.proofs.dithering.gray.are_gray.Goals.{then-gray, else-gray}
-use Rattle.std.proofs.lemmas.Bool.Decides.{nat_tests}
+use Rattle.sixel_palette.{proofs.mapped_images.GraySource.are_gray-more, specs.Gray.are_gray}
 use Rattle.sixel_palette.proofs.dithering.gray.are_gray.Goals as goal
 
 pub loop-position-init : goal.loop-position-init

@@ -1,5 +1,4 @@
-use Rattle.std.proofs.Common.{◌≡◌, ◌*◌, length, take}
-use Rattle.std.specs.Prelude.{◌/◌}
+use Rattle.std.{proofs.Common.{◌≡◌, ◌*◌, length, take}, specs.Prelude.{◌/◌}}
 use Rattle.sixel_base.specs.Picture.{joined}
 use Rattle.sixel_palette.specs.Gray.{gray_pixel}
 use Rattle.sixel_palette.proofs.dithering.gray.fill.Given as goal

@@ -1,6 +1,5 @@
 use Rattle.std.proofs.Common.{◌≡◌, ◌+◌, ◌*◌, ◌≤◌, ap, arith, suc, ◌∙◌, refl, length}
-use Rattle.std.proofs.lemmas.Bool.Decides.{nat_tests}
-use Rattle.std.proofs.lemmas.Slice.{take-put_mid}
+use Rattle.std.proofs.lemmas.{Bool.Decides.nat_tests, Slice.take-put_mid}
 use Rattle.sixel_base.specs.Picture.{joined}
 use Rattle.sixel_palette.specs.Dithering.{moved_pixel}
 use Rattle.sixel_palette.proofs.dithering.ordered.fill.Goals as goal

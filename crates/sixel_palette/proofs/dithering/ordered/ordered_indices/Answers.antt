@@ -1,8 +1,6 @@
-use Rattle.std.proofs.Common.{List, ℕ, arith, refl, subst, ◌∙◌}
-use Rattle.std.specs.Prelude.{IfOk}
-use Rattle.sixel_palette.specs.Dithering.{HaveChoice, with_pixels}
-use Rattle.sixel_palette.specs.inside.Mapped.{mapped_value}
-use Rattle.sixel_palette.proofs.mapped_images.MovedPixels.{moved-length}
+use Rattle.std.{proofs.Common.{List, ℕ, arith, refl, subst, ◌∙◌}, specs.Prelude.IfOk}
+use Rattle.sixel_palette.{proofs.mapped_images.MovedPixels.moved-length, specs.Dithering.HaveChoice}
+use Rattle.sixel_palette.{specs.Dithering.with_pixels, specs.inside.Mapped.mapped_value}
 use Rattle.sixel_palette.proofs.dithering.ordered.ordered_indices.Goals as goal
 
 pub chosen_indices-requires-clause-image : goal.chosen_indices-requires-clause-image

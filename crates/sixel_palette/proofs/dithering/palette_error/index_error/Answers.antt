@@ -1,9 +1,7 @@
-use Rattle.std.proofs.Common.{arith, refl}
-use Rattle.sixel_palette.specs.Refined.{sum_to}
-use Rattle.sixel_palette.proofs.refinement.Sums.{sum_to-more}
+use Rattle.std.{proofs.Common.{arith, refl}, proofs.lemmas.Bool.Decides.nat_tests}
 use Rattle.sixel_palette.proofs.mapped_images.KeptEntries.{nearest-distance}
 use Rattle.sixel_palette.proofs.mapped_images.PaletteError.{number-light}
-use Rattle.std.proofs.lemmas.Bool.Decides.{nat_tests}
+use Rattle.sixel_palette.{proofs.refinement.Sums.sum_to-more, specs.Refined.sum_to}
 use Rattle.sixel_palette.proofs.dithering.palette_error.index_error.Goals as goal
 
 pub loop-pixel-init : goal.loop-pixel-init

@@ -1,6 +1,5 @@
 use Rattle.std.proofs.Common.{◌≡◌, ◌*◌, ◌≤◌}
-use Rattle.sixel_palette.specs.Palette.{nearest, no_entry}
-use Rattle.sixel_palette.specs.Refined.{opaque_number, sum_to}
+use Rattle.sixel_palette.specs.{Palette.{nearest, no_entry}, Refined.{opaque_number, sum_to}}
 use Rattle.sixel_palette.proofs.dithering.palette_error.index_error.Given as goal
 
 abbrev pub invariant-loop-pixel : goal.invariant-loop-pixel

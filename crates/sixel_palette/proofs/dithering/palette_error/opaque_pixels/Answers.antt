@@ -1,9 +1,7 @@
-use Rattle.std.proofs.Common.{arith, refl}
-use Rattle.sixel_palette.specs.Refined.{opaque_number, sum_to}
-use Rattle.sixel_palette.proofs.refinement.Sums.{sum_to-more}
+use Rattle.std.{proofs.Common.{arith, refl}, proofs.lemmas.Bool.Decides.nat_tests}
 use Rattle.sixel_palette.proofs.dithering.palette_error.opaque_pixels.Goals.{then-is_opaque}
 use Rattle.sixel_palette.proofs.dithering.palette_error.opaque_pixels.Goals.{else-is_opaque}
-use Rattle.std.proofs.lemmas.Bool.Decides.{nat_tests}
+use Rattle.sixel_palette.{proofs.refinement.Sums.sum_to-more, specs.Refined.{opaque_number, sum_to}}
 use Rattle.sixel_palette.proofs.dithering.palette_error.opaque_pixels.Goals as goal
 
 pub loop-pixel-init : goal.loop-pixel-init

@@ -1,7 +1,6 @@
 use Rattle.std.proofs.Common.{arith}
-use Rattle.sixel_palette.proofs.refinement.Counts.{counts-sum}
+use Rattle.sixel_palette.proofs.refinement.{Counts.counts-sum, Refinement.refinement-error}
 use Rattle.sixel_palette.proofs.mapped_images.PaletteError.{error-small}
-use Rattle.sixel_palette.proofs.refinement.Refinement.{refinement-error}
 use Rattle.std.proofs.lemmas.Bool.Decides.{nat_tests}
 use Rattle.sixel_palette.proofs.dithering.palette_error.palette_error.Goals as goal
 

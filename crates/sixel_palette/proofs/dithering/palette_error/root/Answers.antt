@@ -1,6 +1,5 @@
-use Rattle.std.proofs.Common.{◌≡◌, ◌-◌, ◌+◌, suc, arith, ◌∙◌}
+use Rattle.std.proofs.{Common.{◌≡◌, ◌-◌, ◌+◌, suc, arith, ◌∙◌}, lemmas.Bool.Decides.nat_tests}
 use Rattle.sixel_palette.proofs.mapped_images.PaletteError.{root-found, root-less}
-use Rattle.std.proofs.lemmas.Bool.Decides.{nat_tests}
 use Rattle.sixel_palette.proofs.dithering.palette_error.root.Goals as goal
 
 pub returns-then-root-number : goal.returns-then-root-number

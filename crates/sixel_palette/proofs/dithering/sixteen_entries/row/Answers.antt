@@ -1,5 +1,4 @@
-use Rattle.std.proofs.Common.{◌*◌}
-use Rattle.std.proofs.lemmas.Simd.{get_or-chunk}
+use Rattle.std.proofs.{Common.{◌*◌}, lemmas.Simd.get_or-chunk}
 use Rattle.sixel_palette.proofs.dithering.sixteen_entries.row.Goals as goal
 
 pub returns-clause-each : goal.returns-clause-each

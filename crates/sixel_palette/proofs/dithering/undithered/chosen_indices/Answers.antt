@@ -1,13 +1,9 @@
-use Rattle.std.proofs.Common.{◌≡◌, ◌+◌, ◌-◌, ◌*◌, ◌≤◌, ◌<◌, ℕ, List, arith, refl, subst}
-use Rattle.std.proofs.Common.{length, inl, inr}
-use Rattle.std.specs.Prelude.{◌/◌, ◌%◌}
-use Rattle.std.proofs.lemmas.Bool.{cases_lt}
-use Rattle.std.proofs.lemmas.Bool.Decides.{nat_tests}
+use Rattle.std.proofs.Common.{◌≡◌, ◌+◌, ◌-◌, ◌*◌, ◌≤◌, ◌<◌, ℕ, List, arith, refl, subst, length}
+use Rattle.std.proofs.{Common.{inl, inr}, lemmas.Bool.cases_lt, lemmas.Bool.Decides.nat_tests}
 use Rattle.std.proofs.lemmas.List.{get_or-replicate, get_or_past, length-replicate}
-use Rattle.sixel_palette.specs.Palette.{IsOpaque}
-use Rattle.sixel_palette.specs.Dithering.{undithered_of}
-use Rattle.sixel_palette.specs.Undithered.{cheapest, pixel_of}
-use Rattle.sixel_palette.specs.inside.Mapped.{mapped_value}
+use Rattle.std.specs.Prelude.{◌/◌, ◌%◌}
+use Rattle.sixel_palette.specs.{Dithering.undithered_of, Palette.IsOpaque, Undithered.cheapest}
+use Rattle.sixel_palette.specs.{Undithered.pixel_of, inside.Mapped.mapped_value}
 use Rattle.sixel_palette.proofs.mapped_images.DitheredIndices.{AreEntries-indices, AreRows-image}
 use Rattle.sixel_palette.proofs.mapped_images.UnditheredLaws.{AreChosen-free}
 use Rattle.sixel_palette.proofs.mapped_images.UnditheredVisits.{AreChosen-visited, AreVisited-band}

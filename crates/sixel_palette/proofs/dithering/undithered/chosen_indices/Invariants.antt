@@ -1,6 +1,5 @@
 use Rattle.std.proofs.Common.{◌+◌, ◌-◌, ◌*◌}
-use Rattle.sixel_palette.specs.Dithering.{undithered_of}
-use Rattle.sixel_palette.specs.inside.Mapped.{mapped_value}
+use Rattle.sixel_palette.specs.{Dithering.undithered_of, inside.Mapped.mapped_value}
 use Rattle.sixel_palette.proofs.mapped_images.UnditheredVisits.{AreVisited}
 use Rattle.sixel_palette.proofs.dithering.undithered.chosen_indices.Given as goal
 

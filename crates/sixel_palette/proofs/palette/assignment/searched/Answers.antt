@@ -1,5 +1,4 @@
-use Rattle.std.proofs.Common.{arith}
-use Rattle.std.proofs.lemmas.List.{length_push}
+use Rattle.std.proofs.{Common.arith, lemmas.List.length_push}
 use Rattle.sixel_palette.proofs.nearest_entries.NearestEntry.{near_pushed}
 use Rattle.sixel_palette.proofs.palette.assignment.searched.Goals as goal
 

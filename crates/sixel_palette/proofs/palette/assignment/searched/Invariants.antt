@@ -1,6 +1,5 @@
 use Rattle.std.proofs.Common.{◌≡◌, ℕ, ◌<◌, length, get_or}
-use Rattle.sixel_palette.specs.inside.Codes.{color_of}
-use Rattle.sixel_palette.specs.inside.Keys.{AreNumbered, IsSearch}
+use Rattle.sixel_palette.specs.inside.{Codes.color_of, Keys.{AreNumbered, IsSearch}}
 use Rattle.sixel_palette.specs.inside.Nearest.{IsNearestEntry, nearest_at}
 use Rattle.sixel_palette.proofs.palette.assignment.searched.Given as goal
 

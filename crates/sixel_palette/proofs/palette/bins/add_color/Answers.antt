@@ -1,9 +1,7 @@
 use Rattle.std.proofs.Common.{◌≡◌, ℕ, ◌<◌, ◌+◌, ◌*◌, [], false, length, get_or, ap, sym, ◌∙◌, arith}
-use Rattle.std.proofs.lemmas.List.{get_or-map, length-map, map_push, get_or_default}
-use Rattle.std.proofs.Math.Seq.{map-set_same}
-use Rattle.sixel_palette.specs.declared.palette.bins.Bin.{Bin}
-use Rattle.sixel_palette.specs.GainCut.{corner}
-use Rattle.sixel_palette.specs.Lloyd.{is_corner}
+use Rattle.std.proofs.{Math.Seq.map-set_same, lemmas.List.{get_or-map, length-map, map_push}}
+use Rattle.std.proofs.lemmas.List.{get_or_default}
+use Rattle.sixel_palette.specs.{GainCut.corner, Lloyd.is_corner, declared.palette.bins.Bin.Bin}
 use Rattle.sixel_palette.specs.inside.Bins.{slot, corners_of}
 use Rattle.sixel_palette.proofs.refinement.Bins.{not_found, sums_more, table_more}
 use Rattle.sixel_palette.proofs.palette.bins.add_color.Goals as goal

@@ -1,13 +1,11 @@
 use Rattle.std.proofs.Common.{refl, get_or, length, sym, ◌∙◌, arith, cond}
-use Rattle.std.proofs.lemmas.List.{map_more, map_push, take_all}
+use Rattle.std.proofs.lemmas.{Bool.Decides.nat_tests, List.{map_more, map_push, take_all}}
 use Rattle.std.proofs.lemmas.List.Sums.{sum_by_more, sum_by_push}
 use Rattle.sixel_palette.specs.declared.palette.bins.Bin.{Bin}
-use Rattle.sixel_palette.specs.inside.Codes.{color_of}
-use Rattle.sixel_palette.specs.inside.Sums.{channels, first_counted, total}
+use Rattle.sixel_palette.specs.inside.{Codes.color_of, Sums.{channels, first_counted, total}}
 use Rattle.sixel_palette.proofs.refinement.Bins.{colors_distinct, corner-one, counted_more}
 use Rattle.sixel_palette.proofs.refinement.Bins.{counted_none, whole_bins}
 use Rattle.sixel_palette.proofs.palette.bins.color_bins.Goals as goal
-use Rattle.std.proofs.lemmas.Bool.Decides.{nat_tests}
 
 pub loop-index-init : goal.loop-index-init
 loop-index-init c =

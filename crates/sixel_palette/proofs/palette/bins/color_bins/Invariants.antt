@@ -1,10 +1,7 @@
 use Rattle.std.proofs.Common.{◌≡◌, ℕ, Bool, List, map, take}
 use Rattle.std.specs.List.{sum}
-use Rattle.sixel_palette.specs.ColorSums.{sums_of}
-use Rattle.sixel_palette.specs.GainCut.{corner}
-use Rattle.sixel_palette.specs.inside.Bins.{corners_of}
-use Rattle.sixel_palette.specs.inside.Boxes.{binned_pixels}
-use Rattle.sixel_palette.specs.inside.Codes.{color_of}
+use Rattle.sixel_palette.specs.{ColorSums.sums_of, GainCut.corner}
+use Rattle.sixel_palette.specs.inside.{Bins.corners_of, Boxes.binned_pixels, Codes.color_of}
 use Rattle.sixel_palette.specs.inside.Sums.{binned_sums, first_counted}
 use Rattle.sixel_palette.proofs.palette.bins.color_bins.Given as goal
 

@@ -1,12 +1,8 @@
 use Rattle.std.proofs.Common.{◌≡◌, refl, get_or, length, sym, ◌∙◌, arith}
-use Rattle.std.proofs.lemmas.List.{length-replicate, with_items_is}
-use Rattle.std.proofs.lemmas.List.Sums.{sum_by_more}
-use Rattle.sixel_palette.specs.GainCut.{corner}
-use Rattle.sixel_palette.specs.inside.Codes.{color_of}
-use Rattle.sixel_palette.specs.inside.Sums.{first_counted}
-use Rattle.sixel_palette.proofs.refinement.Bins.{counted_more, counted_none, red-le, table_none}
-use Rattle.sixel_palette.proofs.refinement.Bins.{whole_bins}
-use Rattle.sixel_palette.proofs.colors.Lists.{increasing-le}
+use Rattle.std.proofs.{lemmas.List.{length-replicate, with_items_is}, lemmas.List.Sums.sum_by_more}
+use Rattle.sixel_palette.specs.{GainCut.corner, inside.Codes.color_of, inside.Sums.first_counted}
+use Rattle.sixel_palette.proofs.{colors.Lists.increasing-le, refinement.Bins.counted_more}
+use Rattle.sixel_palette.proofs.refinement.Bins.{counted_none, red-le, table_none, whole_bins}
 use Rattle.sixel_palette.proofs.palette.bins.histogram.Goals as goal
 
 pub loop-index-init : goal.loop-index-init

@@ -1,12 +1,8 @@
 use Rattle.std.proofs.Common.{◌≡◌, ℕ, Bool, List, [], ◌<◌, ◌≤◌, false, get_or, length, take}
 use Rattle.std.specs.List.{sum}
-use Rattle.sixel_palette.specs.ColorSums.{sums_of}
-use Rattle.sixel_palette.specs.GainCut.{corner}
-use Rattle.sixel_palette.specs.Lloyd.{is_corner}
-use Rattle.sixel_palette.specs.inside.Bins.{IsTable, corners_of}
-use Rattle.sixel_palette.specs.inside.Boxes.{binned_pixels}
-use Rattle.sixel_palette.specs.inside.Codes.{color_of}
-use Rattle.sixel_palette.specs.inside.Sums.{binned_sums, first_counted}
+use Rattle.sixel_palette.specs.{ColorSums.sums_of, GainCut.corner, Lloyd.is_corner}
+use Rattle.sixel_palette.specs.inside.{Bins.{IsTable, corners_of}, Boxes.binned_pixels}
+use Rattle.sixel_palette.specs.inside.{Codes.color_of, Sums.{binned_sums, first_counted}}
 use Rattle.sixel_palette.proofs.palette.bins.histogram.Given as goal
 
 abbrev pub invariant-loop-index : goal.invariant-loop-index

@@ -1,7 +1,5 @@
-use Rattle.std.proofs.Common.{arith}
-use Rattle.std.proofs.lemmas.List.{length_push}
-use Rattle.sixel_palette.specs.inside.Buckets.{IsBucket}
-use Rattle.sixel_palette.proofs.colors.Lists.{each_push}
+use Rattle.std.{proofs.Common.arith, proofs.lemmas.List.length_push}
+use Rattle.sixel_palette.{proofs.colors.Lists.each_push, specs.inside.Buckets.IsBucket}
 use Rattle.sixel_palette.proofs.palette.buckets.buckets_of.Goals as goal
 
 pub loop-position-preserved : goal.loop-position-preserved

@@ -1,6 +1,5 @@
 use Rattle.std.proofs.Common.{◌≡◌, ℕ, ◌<◌, length, get_or}
-use Rattle.sixel_palette.specs.declared.palette.buckets.Bucket.{Bucket}
-use Rattle.sixel_palette.specs.inside.Buckets.{IsBucket}
+use Rattle.sixel_palette.specs.{declared.palette.buckets.Bucket.Bucket, inside.Buckets.IsBucket}
 use Rattle.sixel_palette.proofs.palette.buckets.buckets_of.Given as goal
 
 abbrev pub invariant-loop-position : goal.invariant-loop-position

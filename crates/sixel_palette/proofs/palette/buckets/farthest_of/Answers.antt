@@ -1,7 +1,6 @@
 use Rattle.std.proofs.Common.{ℕ, ◌≤◌, get_or, refl, arith}
 use Rattle.sixel_palette.specs.inside.Buckets.{IsInBucket}
-use Rattle.sixel_palette.proofs.traversal.Buckets.{first_greatest, none}
-use Rattle.sixel_palette.proofs.traversal.Relaxation.{greatest_more}
+use Rattle.sixel_palette.proofs.traversal.{Buckets.{first_greatest, none}, Relaxation.greatest_more}
 use Rattle.sixel_palette.proofs.palette.buckets.farthest_of.Goals as goal
 
 pub loop-bucket-preserved : goal.loop-bucket-preserved

@@ -1,7 +1,6 @@
 use Rattle.std.proofs.Common.{ℕ, ◌-◌, ◌*◌, ◌<◌, ◌≤◌, length, get_or}
 use Rattle.sixel_palette.specs.inside.Buckets.{IsInBucket}
-use Rattle.sixel_palette.proofs.traversal.Buckets.{none}
-use Rattle.sixel_palette.proofs.traversal.Relaxation.{IsGreatestOf}
+use Rattle.sixel_palette.proofs.traversal.{Buckets.none, Relaxation.IsGreatestOf}
 use Rattle.sixel_palette.proofs.palette.buckets.farthest_of.Given as goal
 
 abbrev pub invariant-loop-bucket : goal.invariant-loop-bucket

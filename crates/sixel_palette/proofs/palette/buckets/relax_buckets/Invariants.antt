@@ -1,6 +1,5 @@
 use Rattle.std.proofs.Common.{◌≡◌, ℕ, ◌*◌, List, [], ◌∷◌, ◌++◌, length}
-use Rattle.sixel_palette.specs.inside.Buckets.{AreBuckets}
-use Rattle.sixel_palette.specs.inside.Nearest.{AreNearest}
+use Rattle.sixel_palette.specs.inside.{Buckets.AreBuckets, Nearest.AreNearest}
 use Rattle.sixel_palette.proofs.traversal.Relaxation.{AreRelaxedIn, AreOld}
 use Rattle.sixel_palette.proofs.palette.buckets.relax_buckets.Given as goal
 

@@ -1,5 +1,4 @@
-use Rattle.std.proofs.Common.{◌≡◌, take}
-use Rattle.std.specs.List.{sum}
+use Rattle.std.{proofs.Common.{◌≡◌, take}, specs.List.sum}
 use Rattle.sixel_palette.proofs.palette.color_counts.total_of.Given as goal
 
 abbrev pub invariant-loop-count : goal.invariant-loop-count

@@ -1,8 +1,7 @@
 use Rattle.std.proofs.Common.{◌≡◌, ◌<◌, [], ◌∷◌, ◌++◌, length, get_or, refl, arith}
 use Rattle.std.proofs.lemmas.List.{length_push}
-use Rattle.sixel_palette.specs.inside.Codes.{color_of}
-use Rattle.sixel_palette.proofs.traversal.Order.{order_more}
 use Rattle.sixel_palette.proofs.traversal.Farthest.{farthest_of_none, farthest_from_position}
+use Rattle.sixel_palette.{proofs.traversal.Order.order_more, specs.inside.Codes.color_of}
 use Rattle.sixel_palette.proofs.palette.farthest.choose.Goals as goal
 
 pub loop-index-init : goal.loop-index-init

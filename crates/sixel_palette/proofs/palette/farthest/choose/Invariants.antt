@@ -1,7 +1,6 @@
 use Rattle.std.proofs.Common.{◌≡◌, ◌<◌, length, get_or}
-use Rattle.sixel_palette.specs.Palette.{IsFarthest, IsFarthestFirst}
-use Rattle.sixel_palette.specs.inside.Codes.{color_of, IsListed}
-use Rattle.sixel_palette.specs.inside.Traversal.{IsTraversal, HasRelaxed}
+use Rattle.sixel_palette.specs.{Palette.{IsFarthest, IsFarthestFirst}, inside.Codes.color_of}
+use Rattle.sixel_palette.specs.{inside.Codes.IsListed, inside.Traversal.{IsTraversal, HasRelaxed}}
 use Rattle.sixel_palette.proofs.palette.farthest.choose.Given as goal
 
 abbrev pub invariant-loop-index : goal.invariant-loop-index

@@ -1,12 +1,10 @@
-use Rattle.std.proofs.Common.{◌<◌, ◌++◌, length, get_or, map, sym}
-use Rattle.std.proofs.Common.{append_assoc, append-nil, inl, inr, arith}
-use Rattle.std.proofs.lemmas.List.{get_or_read, length_push, map_push}
-use Rattle.std.proofs.lemmas.List.Elements.{All-push}
+use Rattle.std.proofs.Common.{◌<◌, ◌++◌, length, get_or, map, sym, append_assoc, append-nil, inl}
+use Rattle.std.proofs.Common.{inr, arith}
+use Rattle.std.proofs.lemmas.{List.{get_or_read, length_push, map_push}, List.Elements.All-push}
 use Rattle.sixel_palette.specs.Refined.{IsFarOff, IsRegisterColor, register_color}
 use Rattle.sixel_palette.specs.inside.Codes.{IsListed, color_of}
 use Rattle.sixel_palette.proofs.traversal.Farthest.{farthest_from_position}
-use Rattle.sixel_palette.proofs.refinement.Refined.{register_color-shown}
-use Rattle.sixel_palette.proofs.refinement.Tops.{far_off_more}
+use Rattle.sixel_palette.proofs.refinement.{Refined.register_color-shown, Tops.far_off_more}
 use Rattle.sixel_palette.proofs.palette.farthest_on_top.add_farthest.Goals as goal
 
 pub loop-index-init : goal.loop-index-init

@@ -1,8 +1,7 @@
 use Rattle.std.proofs.Common.{◌≡◌, ℕ, ◌<◌, ◌++◌, List, length, map, get_or, take}
 use Rattle.std.specs.List.{All}
-use Rattle.sixel_palette.specs.Palette.{IsFarthest, nearest}
-use Rattle.sixel_palette.specs.Refined.{IsFarOff, IsRegisterColor, register_color}
-use Rattle.sixel_palette.specs.inside.Codes.{IsListed, color_of}
+use Rattle.sixel_palette.specs.{Palette.{IsFarthest, nearest}, Refined.{IsFarOff, IsRegisterColor}}
+use Rattle.sixel_palette.specs.{Refined.register_color, inside.Codes.{IsListed, color_of}}
 use Rattle.sixel_palette.specs.inside.Traversal.{IsTraversal, HasRelaxed}
 use Rattle.sixel_palette.proofs.palette.farthest_on_top.add_farthest.Given as goal
 

@@ -1,15 +1,13 @@
 use Rattle.std.proofs.Common.{◌≡◌, ℕ, ◌+◌, ◌<◌, length, ap, sym, ◌∙◌, arith, List, ◌-◌, get_or}
 use Rattle.std.proofs.lemmas.List.Sums.{sum_by_more_le}
-use Rattle.sixel_palette.specs.declared.palette.gain_cut.Cut.{Cut}
 use Rattle.sixel_palette.specs.declared.palette.color_sums.ColorSums.{ColorSums}
+use Rattle.sixel_palette.specs.declared.{palette.gain_cut.Cut.Cut, palette.gain_cut.Sides.Sides}
 use Rattle.sixel_palette.specs.GainCut.{best_to, gain}
-use Rattle.sixel_palette.specs.inside.Sums.{prefix_sums, suffix_sums, total}
+use Rattle.sixel_palette.specs.inside.{Boxes.AreGains, Sums.{prefix_sums, suffix_sums, total}}
 use Rattle.sixel_palette.proofs.refinement.Cuts.{best_to-more, best_to-same, better-kept}
-use Rattle.sixel_palette.proofs.refinement.Cuts.{better-taken}
-use Rattle.sixel_palette.proofs.refinement.Cuts.{gain-same, no_totals, prefix-more, skipped}
+use Rattle.sixel_palette.proofs.refinement.Cuts.{better-taken, gain-same, no_totals, prefix-more}
+use Rattle.sixel_palette.proofs.refinement.Cuts.{skipped}
 use Rattle.sixel_palette.proofs.palette.gain_cut.best_cut.Goals as goal
-use Rattle.sixel_palette.specs.declared.palette.gain_cut.Sides.{Sides}
-use Rattle.sixel_palette.specs.inside.Boxes.{AreGains}
 
 pub loop-position-init : goal.loop-position-init
 unfolding best_to

@@ -1,7 +1,6 @@
 use Rattle.std.proofs.Common.{◌≡◌, ℕ, ◌+◌}
 use Rattle.sixel_palette.specs.GainCut.{best_to}
-use Rattle.sixel_palette.specs.inside.Boxes.{AreGains}
-use Rattle.sixel_palette.specs.inside.Sums.{prefix_sums, total}
+use Rattle.sixel_palette.specs.inside.{Boxes.AreGains, Sums.{prefix_sums, total}}
 use Rattle.sixel_palette.proofs.palette.gain_cut.best_cut.Given as goal
 
 abbrev pub invariant-loop-position : goal.invariant-loop-position

@@ -1,10 +1,9 @@
 use Rattle.std.proofs.Common.{◌≡◌, ℕ, ◌<◌, get_or, length, refl, ap, arith}
 use Rattle.std.proofs.lemmas.List.{get_or_default}
 use Rattle.sixel_palette.specs.declared.palette.gain_cut.Channel.TheVariants.{Red}
-use Rattle.sixel_palette.specs.declared.palette.gain_cut.ColorBox.{ColorBox}
+use Rattle.sixel_palette.specs.{declared.palette.gain_cut.ColorBox.ColorBox, GainCut.first_greatest}
 use Rattle.sixel_palette.proofs.refinement.BestBox.{first_greatest-next}
 use Rattle.sixel_palette.proofs.palette.gain_cut.best_of.Goals as goal
-use Rattle.sixel_palette.specs.GainCut.{first_greatest}
 
 pub loop-position-init : goal.loop-position-init
 unfolding first_greatest

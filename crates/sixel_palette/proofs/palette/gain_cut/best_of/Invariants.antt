@@ -1,6 +1,5 @@
 use Rattle.std.proofs.Common.{◌≡◌, ◌-◌, ◌<◌, length, get_or}
-use Rattle.sixel_palette.specs.declared.palette.gain_cut.ColorBox.{ColorBox}
-use Rattle.sixel_palette.specs.GainCut.{first_greatest}
+use Rattle.sixel_palette.specs.{GainCut.first_greatest, declared.palette.gain_cut.ColorBox.ColorBox}
 use Rattle.sixel_palette.proofs.palette.gain_cut.best_of.Given as goal
 
 abbrev pub invariant-loop-position : goal.invariant-loop-position

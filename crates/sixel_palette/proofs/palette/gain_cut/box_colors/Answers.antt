@@ -2,10 +2,8 @@ use Rattle.std.proofs.Common.{◌≡◌, ℕ, ◌<◌, [], true, List, length, m
 use Rattle.std.proofs.lemmas.List.{get_or-map, get_or_default, length-map, length_push, same_lists}
 use Rattle.std.proofs.lemmas.List.Elements.{All-push}
 use Rattle.sixel_base.specs.Color.{rgb}
-use Rattle.sixel_palette.specs.ColorSums.{mean_or}
-use Rattle.sixel_palette.specs.GainCut.{Box, box_at, box_sums}
-use Rattle.sixel_palette.specs.Refined.{IsRegisterColor}
-use Rattle.sixel_palette.proofs.colors.Lists.{each_push}
+use Rattle.sixel_palette.{proofs.colors.Lists.each_push, specs.ColorSums.mean_or, specs.GainCut.Box}
+use Rattle.sixel_palette.{specs.GainCut.{box_at, box_sums}, specs.Refined.IsRegisterColor}
 use Rattle.sixel_palette.proofs.palette.gain_cut.box_colors.Goals as goal
 
 pub loop-position-preserved : goal.loop-position-preserved

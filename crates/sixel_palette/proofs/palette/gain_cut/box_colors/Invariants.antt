@@ -1,10 +1,7 @@
-use Rattle.std.proofs.Common.{◌≡◌, ℕ, ◌<◌, [], List, get_or, length}
-use Rattle.std.specs.List.{All}
+use Rattle.std.{proofs.Common.{◌≡◌, ℕ, ◌<◌, [], List, get_or, length}, specs.List.All}
 use Rattle.sixel_base.specs.Color.{rgb}
-use Rattle.sixel_palette.specs.ColorSums.{Pixels, mean_or}
-use Rattle.sixel_palette.specs.GainCut.{Box, box_at, box_sums}
-use Rattle.sixel_palette.specs.Refined.{IsRegisterColor}
-use Rattle.sixel_palette.specs.inside.Boxes.{AreBoxes}
+use Rattle.sixel_palette.{specs.ColorSums.{Pixels, mean_or}, specs.GainCut.{Box, box_at, box_sums}}
+use Rattle.sixel_palette.{specs.Refined.IsRegisterColor, specs.inside.Boxes.AreBoxes}
 use Rattle.sixel_palette.proofs.palette.gain_cut.box_colors.Given as goal
 
 abbrev pub invariant-loop-position : goal.invariant-loop-position

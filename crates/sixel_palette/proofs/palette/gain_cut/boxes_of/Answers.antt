@@ -1,10 +1,8 @@
 use Rattle.std.proofs.Common.{◌≡◌, ℕ, ◌+◌, ◌-◌, ◌<◌, [], ◌∷◌, ◌++◌, true, false, List, length, ap}
-use Rattle.std.proofs.Common.{refl, ◌∙◌, arith}
-use Rattle.std.proofs.lemmas.Bool.Decides.{nat_tests}
+use Rattle.std.proofs.{Common.{refl, ◌∙◌, arith}, lemmas.Bool.Decides.nat_tests}
 use Rattle.std.proofs.lemmas.List.Sorted.{IsPermutation-refl, IsPermutation-trans}
-use Rattle.sixel_palette.specs.declared.palette.gain_cut.ColorBox.{ColorBox}
-use Rattle.sixel_palette.specs.ColorSums.{Pixels}
-use Rattle.sixel_palette.specs.GainCut.{Box, best_box, boxes_after, gain_at, is_final}
+use Rattle.sixel_palette.specs.{ColorSums.Pixels, GainCut.{Box, best_box, boxes_after, gain_at}}
+use Rattle.sixel_palette.specs.{GainCut.is_final, declared.palette.gain_cut.ColorBox.ColorBox}
 use Rattle.sixel_palette.proofs.refinement.BestBox.{best_gain, best_of_boxes, boxes_final}
 use Rattle.sixel_palette.proofs.refinement.BestBox.{boxes_more, boxes_start}
 use Rattle.sixel_palette.proofs.palette.gain_cut.boxes_of.Goals as goal

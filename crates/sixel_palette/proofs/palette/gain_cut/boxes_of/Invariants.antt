@@ -1,9 +1,6 @@
-use Rattle.std.proofs.Common.{◌≡◌, ◌-◌, true, length}
-use Rattle.std.specs.List.Sorted.{IsPermutation}
-use Rattle.sixel_palette.specs.ColorSums.{Pixels}
-use Rattle.sixel_palette.specs.GainCut.{boxes_after}
-use Rattle.sixel_palette.specs.inside.Boxes.{AreBoxes, AreRanges}
-use Rattle.sixel_palette.specs.inside.Sums.{AreBinsOf}
+use Rattle.std.{proofs.Common.{◌≡◌, ◌-◌, true, length}, specs.List.Sorted.IsPermutation}
+use Rattle.sixel_palette.{specs.ColorSums.Pixels, specs.GainCut.boxes_after}
+use Rattle.sixel_palette.{specs.inside.Boxes.{AreBoxes, AreRanges}, specs.inside.Sums.AreBinsOf}
 use Rattle.sixel_palette.proofs.palette.gain_cut.boxes_of.Given as goal
 
 abbrev pub invariant-loop-count : goal.invariant-loop-count

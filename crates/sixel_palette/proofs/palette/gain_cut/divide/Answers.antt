@@ -1,15 +1,12 @@
 use Rattle.std.proofs.Common.{◌≡◌, ℕ, ◌+◌, ◌<◌, ◌≤◌, drop, get_or, ap, sym, ◌∙◌, arith}
-use Rattle.std.specs.List.{sum_by, swap}
-use Rattle.std.proofs.lemmas.List.{drop-drop, get_or-drop}
+use Rattle.std.{proofs.lemmas.Bool.Decides.nat_tests, proofs.lemmas.List.{drop-drop, get_or-drop}}
 use Rattle.std.proofs.lemmas.List.Sorted.{IsPermutation-trans, sum_by-IsPermutation}
-use Rattle.std.proofs.lemmas.List.Sums.{sum_by-take-drop}
-use Rattle.sixel_palette.specs.declared.palette.bins.Bin.{Bin}
-use Rattle.sixel_palette.specs.GainCut.{side}
-use Rattle.sixel_palette.specs.inside.Boxes.{low_part, range_of}
+use Rattle.std.{proofs.lemmas.List.Sums.sum_by-take-drop, specs.List.{sum_by, swap}}
 use Rattle.sixel_palette.proofs.refinement.Divide.{low_above, low_below, range_after, range_more}
 use Rattle.sixel_palette.proofs.refinement.Divide.{sums_of_parts, swap_back, swap_front, swap_taken}
+use Rattle.sixel_palette.{specs.GainCut.side, specs.declared.palette.bins.Bin.Bin}
+use Rattle.sixel_palette.specs.inside.Boxes.{low_part, range_of}
 use Rattle.sixel_palette.proofs.palette.gain_cut.divide.Goals as goal
-use Rattle.std.proofs.lemmas.Bool.Decides.{nat_tests}
 
 pub loop-position-preserved : goal.loop-position-preserved
 loop-position-preserved c =

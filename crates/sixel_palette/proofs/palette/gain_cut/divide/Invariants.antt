@@ -1,8 +1,6 @@
 use Rattle.std.proofs.Common.{◌≡◌, ℕ, ◌+◌, ◌≤◌, drop, length, take}
-use Rattle.std.specs.List.{sum_by}
-use Rattle.std.specs.List.Sorted.{IsPermutation}
-use Rattle.sixel_palette.specs.declared.palette.bins.Bin.{Bin}
-use Rattle.sixel_palette.specs.inside.Boxes.{low_part, range_of}
+use Rattle.std.specs.{List.sum_by, List.Sorted.IsPermutation}
+use Rattle.sixel_palette.specs.{declared.palette.bins.Bin.Bin, inside.Boxes.{low_part, range_of}}
 use Rattle.sixel_palette.proofs.palette.gain_cut.divide.Given as goal
 
 abbrev pub invariant-loop-position : goal.invariant-loop-position

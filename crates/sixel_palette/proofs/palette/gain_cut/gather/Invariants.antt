@@ -1,5 +1,4 @@
-use Rattle.std.proofs.Common.{◌≡◌, ℕ, ◌+◌, length, take}
-use Rattle.std.specs.List.{sum_by}
+use Rattle.std.{proofs.Common.{◌≡◌, ℕ, ◌+◌, length, take}, specs.List.sum_by}
 use Rattle.sixel_palette.specs.inside.Boxes.{binned_pixels, low_part, summed_pixels}
 use Rattle.sixel_palette.specs.inside.Sums.{prefix_sums, total}
 use Rattle.sixel_palette.proofs.palette.gain_cut.gather.Given as goal

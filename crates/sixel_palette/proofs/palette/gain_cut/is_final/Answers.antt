@@ -1,6 +1,4 @@
-use Rattle.std.proofs.Common.{ap, sym}
-use Rattle.std.specs.Prelude.{◌==◌}
-use Rattle.std.proofs.lemmas.List.{get_or_default}
+use Rattle.std.{proofs.Common.{ap, sym}, proofs.lemmas.List.get_or_default, specs.Prelude.{◌==◌}}
 use Rattle.sixel_palette.proofs.refinement.BestBox.{best_gain}
 use Rattle.sixel_palette.proofs.palette.gain_cut.is_final.Goals as goal
 

@@ -1,9 +1,6 @@
-use Rattle.std.proofs.Common.{◌≡◌, ℕ, ap, ◌∙◌, arith}
-use Rattle.std.proofs.lemmas.List.{take_all}
+use Rattle.std.proofs.{Common.{◌≡◌, ℕ, ap, ◌∙◌, arith}, lemmas.List.take_all}
 use Rattle.std.proofs.lemmas.List.Sums.{sum_by_more_le}
-use Rattle.sixel_palette.specs.declared.palette.bins.Bin.{Bin}
-use Rattle.sixel_palette.specs.ColorSums.{mean_or}
-use Rattle.sixel_palette.specs.GainCut.{box_sums}
+use Rattle.sixel_palette.specs.{ColorSums.mean_or, GainCut.box_sums, declared.palette.bins.Bin.Bin}
 use Rattle.sixel_palette.specs.inside.Sums.{total}
 use Rattle.sixel_palette.proofs.refinement.Sums.{all_sums, mean_or-same}
 use Rattle.sixel_palette.proofs.palette.gain_cut.mean_of.Goals as goal

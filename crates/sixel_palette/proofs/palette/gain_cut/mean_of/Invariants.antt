@@ -1,5 +1,4 @@
-use Rattle.std.proofs.Common.{◌≡◌, ℕ, take}
-use Rattle.std.specs.List.{sum_by}
+use Rattle.std.{proofs.Common.{◌≡◌, ℕ, take}, specs.List.sum_by}
 use Rattle.sixel_palette.specs.inside.Sums.{total}
 use Rattle.sixel_palette.proofs.palette.gain_cut.mean_of.Given as goal
 

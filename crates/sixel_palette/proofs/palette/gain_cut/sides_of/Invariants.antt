@@ -1,6 +1,5 @@
 use Rattle.std.proofs.Common.{ℕ, ◌<◌, ◌≤◌, get_or}
-use Rattle.sixel_palette.specs.declared.palette.bins.Bin.{Bin}
-use Rattle.sixel_palette.specs.GainCut.{side}
+use Rattle.sixel_palette.specs.{GainCut.side, declared.palette.bins.Bin.Bin}
 use Rattle.sixel_palette.proofs.palette.gain_cut.sides_of.Given as goal
 
 abbrev pub invariant-loop-bin : goal.invariant-loop-bin

@@ -1,6 +1,5 @@
 use Rattle.std.proofs.Common.{◌≡◌, ◌+◌, ◌-◌, ◌<◌, inl, inr, arith}
-use Rattle.std.proofs.lemmas.Bool.{cases_lt}
-use Rattle.std.proofs.lemmas.Simd.{get_or-put_chunk_below, get_or-put_chunk_at}
+use Rattle.std.proofs.lemmas.{Bool.cases_lt, Simd.{get_or-put_chunk_below, get_or-put_chunk_at}}
 use Rattle.sixel_palette.proofs.palette.indices.fill_four_with.Goals as goal
 
 pub returns-clause-indices : goal.returns-clause-indices

@@ -1,6 +1,5 @@
 use Rattle.std.proofs.Common.{◌≡◌, ℕ, ◌+◌, ◌-◌, ◌*◌, ◌/◌, ◌<◌, List, length, get_or}
-use Rattle.sixel_palette.specs.inside.Nearest.{IsIndexOf, AreIndicesTo}
-use Rattle.sixel_palette.specs.inside.LookUp.{FindsNearest}
+use Rattle.sixel_palette.specs.inside.{LookUp.FindsNearest, Nearest.{IsIndexOf, AreIndicesTo}}
 use Rattle.sixel_palette.proofs.palette.indices.fill_indices.Given as goal
 
 abbrev pub invariant-loop-four : goal.invariant-loop-four

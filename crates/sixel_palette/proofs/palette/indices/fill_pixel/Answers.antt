@@ -1,6 +1,5 @@
-use Rattle.std.proofs.Common.{arith}
+use Rattle.std.proofs.{Common.arith, lemmas.List.{get_or-set_same, get_or-set_other}}
 use Rattle.std.specs.Prelude.{slice_index, slice_set}
-use Rattle.std.proofs.lemmas.List.{get_or-set_same, get_or-set_other}
 use borrow.Author.Count.{below_more}
 use Rattle.sixel_palette.specs.inside.Nearest.{IsIndex}
 use Rattle.sixel_palette.proofs.traversal.Farthest.{Contains-word, word_below, index_from_word}

@@ -1,5 +1,4 @@
-use Rattle.std.proofs.Common.{drop, length, arith}
-use Rattle.std.proofs.lemmas.List.{take_at}
+use Rattle.std.proofs.{Common.{drop, length, arith}, lemmas.List.take_at}
 use Rattle.sixel_palette.proofs.palette.indices.indices_of.Goals as goal
 
 pub returns : goal.returns

@@ -1,10 +1,7 @@
-use Rattle.std.proofs.Common.{◌≡◌, ◌<◌, get_or, ap, ◌∙◌, arith}
-use Rattle.std.proofs.lemmas.List.{get_or_default, length_push}
-use Rattle.std.proofs.lemmas.List.Elements.{All-push}
-use Rattle.sixel_palette.specs.declared.palette.bins.Bin.{Bin}
-use Rattle.sixel_palette.specs.Lloyd.{mean_bytes}
-use Rattle.sixel_palette.specs.inside.Codes.{code_count, color_of}
-use Rattle.sixel_palette.specs.inside.Sums.{total}
+use Rattle.std.proofs.{Common.{◌≡◌, ◌<◌, get_or, ap, ◌∙◌, arith}, lemmas.List.get_or_default}
+use Rattle.std.proofs.{lemmas.List.length_push, lemmas.List.Elements.All-push}
+use Rattle.sixel_palette.specs.{Lloyd.mean_bytes, declared.palette.bins.Bin.Bin}
+use Rattle.sixel_palette.specs.{inside.Codes.{code_count, color_of}, inside.Sums.total}
 use Rattle.sixel_palette.proofs.colors.Lists.{each_push}
 use Rattle.sixel_palette.proofs.palette.lloyd.mean_codes.Goals as goal
 

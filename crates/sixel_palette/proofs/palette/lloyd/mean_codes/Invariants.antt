@@ -1,8 +1,6 @@
 use Rattle.std.proofs.Common.{◌≡◌, ℕ, ◌<◌, get_or, length}
-use Rattle.sixel_palette.specs.declared.palette.bins.Bin.{Bin}
-use Rattle.sixel_palette.specs.Lloyd.{mean_bytes}
-use Rattle.sixel_palette.specs.inside.Codes.{AreColorCodes, color_of}
-use Rattle.sixel_palette.specs.inside.Sums.{total}
+use Rattle.sixel_palette.specs.{Lloyd.mean_bytes, declared.palette.bins.Bin.Bin}
+use Rattle.sixel_palette.specs.{inside.Codes.{AreColorCodes, color_of}, inside.Sums.total}
 use Rattle.sixel_palette.proofs.palette.lloyd.mean_codes.Given as goal
 
 abbrev pub invariant-loop-bin : goal.invariant-loop-bin

@@ -1,12 +1,8 @@
 use Rattle.std.proofs.Common.{◌≡◌, ◌<◌, [], get_or, length, ap, ◌∙◌, arith}
-use Rattle.std.proofs.lemmas.List.{get_or_default, length_push}
-use Rattle.std.proofs.lemmas.List.Elements.{All-push}
-use Rattle.sixel_palette.specs.declared.palette.color_sums.ColorSums.{ColorSums}
-use Rattle.sixel_palette.specs.ColorSums.{mean_or}
-use Rattle.sixel_palette.specs.Refined.{IsRegisterColor}
-use Rattle.sixel_palette.specs.inside.Sums.{total}
-use Rattle.sixel_palette.proofs.colors.Lists.{each_push}
-use Rattle.sixel_palette.proofs.refinement.Sums.{mean_or-same}
+use Rattle.std.proofs.{lemmas.List.{get_or_default, length_push}, lemmas.List.Elements.All-push}
+use Rattle.sixel_palette.specs.{ColorSums.mean_or, Refined.IsRegisterColor}
+use Rattle.sixel_palette.specs.{declared.palette.color_sums.ColorSums.ColorSums, inside.Sums.total}
+use Rattle.sixel_palette.proofs.{colors.Lists.each_push, refinement.Sums.mean_or-same}
 use Rattle.sixel_palette.proofs.palette.lloyd.means_of.Goals as goal
 
 pub loop-position-preserved : goal.loop-position-preserved

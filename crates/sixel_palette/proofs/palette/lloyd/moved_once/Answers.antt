@@ -1,8 +1,7 @@
 use Rattle.std.proofs.Common.{◌<◌, length, ap, ◌∙◌, arith}
-use Rattle.sixel_palette.specs.Lloyd.{nearest_index}
-use Rattle.sixel_palette.specs.inside.Sums.{AreIndicesBy}
-use Rattle.sixel_palette.proofs.colors.Colors.{IsColor-color_of}
-use Rattle.sixel_palette.proofs.refinement.Lloyd.{entry_of, moved_is, nearest_index-is}
+use Rattle.sixel_palette.specs.{Lloyd.nearest_index, inside.Sums.AreIndicesBy}
+use Rattle.sixel_palette.proofs.{colors.Colors.IsColor-color_of, refinement.Lloyd.entry_of}
+use Rattle.sixel_palette.proofs.refinement.Lloyd.{moved_is, nearest_index-is}
 use Rattle.sixel_palette.proofs.refinement.Refined.{nearest_entry-lt}
 use Rattle.sixel_palette.proofs.palette.lloyd.moved_once.Goals as goal
 

@@ -1,6 +1,5 @@
 use Rattle.std.proofs.Common.{◌≡◌, take}
-use Rattle.sixel_palette.specs.inside.Codes.{color_of}
-use Rattle.sixel_palette.specs.inside.Keys.{least_key}
+use Rattle.sixel_palette.specs.inside.{Codes.color_of, Keys.least_key}
 use Rattle.sixel_palette.proofs.palette.nearest.least_key.Given as goal
 
 abbrev pub invariant-loop-entry : goal.invariant-loop-entry

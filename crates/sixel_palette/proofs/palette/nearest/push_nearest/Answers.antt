@@ -1,6 +1,5 @@
 use Rattle.std.proofs.Common.{◌≡◌, ◌≢◌, ℕ, ◌+◌, ◌-◌, ◌%◌, ◌<◌, ◌≤◌, List, length, get_or, ⊎_elim}
-use Rattle.std.proofs.Common.{arith}
-use Rattle.std.proofs.lemmas.Bool.Decides.{leb_tells, nat_tests}
+use Rattle.std.proofs.{Common.arith, lemmas.Bool.Decides.{leb_tells, nat_tests}}
 use Rattle.std.proofs.lemmas.List.{take_more, take_more_set, take-set-le, length-set}
 use Rattle.sixel_palette.proofs.nearest_entries.Keys.{none, pushed_taken, pushed_skipped}
 use Rattle.sixel_palette.proofs.nearest_entries.Keys.{AreLeastKeys}

@@ -1,5 +1,4 @@
-use Rattle.std.proofs.Common.{[], take, get_or, sym, arith}
-use Rattle.std.proofs.lemmas.List.{take_more}
+use Rattle.std.proofs.{Common.{[], take, get_or, sym, arith}, lemmas.List.take_more}
 use Rattle.sixel_palette.proofs.nearest_entries.Nearest.{nearest-nil, nearest-push}
 use Rattle.sixel_palette.proofs.palette.nearest_entry.squared_to_nearest.Goals as goal
 

@@ -1,7 +1,6 @@
 use Rattle.std.proofs.Common.{◌<◌, [], take, get_or, arith}
 use Rattle.std.specs.Prelude.{All}
-use Rattle.std.proofs.lemmas.List.{get_or_default, take_more}
-use Rattle.std.proofs.lemmas.List.Elements.{All-push}
+use Rattle.std.proofs.lemmas.{List.{get_or_default, take_more}, List.Elements.All-push}
 use Rattle.sixel_palette.proofs.palette.nearest_indices.color_bytes.Goals as goal
 
 pub loop-index-preserved : goal.loop-index-preserved

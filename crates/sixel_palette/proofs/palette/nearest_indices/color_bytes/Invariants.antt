@@ -1,5 +1,4 @@
-use Rattle.std.proofs.Common.{◌<◌, take}
-use Rattle.std.specs.Prelude.{All}
+use Rattle.std.{proofs.Common.{◌<◌, take}, specs.Prelude.All}
 use Rattle.sixel_palette.proofs.palette.nearest_indices.color_bytes.Given as goal
 
 abbrev pub invariant-loop-index : goal.invariant-loop-index

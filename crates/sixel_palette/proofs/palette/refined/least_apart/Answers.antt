@@ -1,6 +1,5 @@
 use Rattle.std.proofs.Common.{◌≡◌, ◌<◌, [], get_or, take, ⊎_elim, arith}
-use Rattle.std.proofs.lemmas.Bool.{cases_lt}
-use Rattle.std.proofs.lemmas.List.{get_or_default, get_or-take, length-take}
+use Rattle.std.proofs.lemmas.{Bool.cases_lt, List.{get_or_default, get_or-take, length-take}}
 use Rattle.sixel_palette.proofs.nearest_entries.Nearest.{nearest-le, nearest-reached}
 use Rattle.sixel_palette.proofs.palette.refined.least_apart.Goals as goal
 

@@ -1,10 +1,7 @@
 use Rattle.std.proofs.Common.{◌≡◌, ◌∙◌, [], length, inr, refl, ap, arith, rules}
-use Rattle.std.proofs.lemmas.Bool.Decides.{nat_tests}
-use Rattle.std.proofs.lemmas.List.{nil_from_length}
-use Rattle.std.proofs.lemmas.List.Elements.{All-nil}
+use Rattle.std.proofs.lemmas.{Bool.Decides.nat_tests, List.nil_from_length, List.Elements.All-nil}
 use Rattle.sixel_palette.specs.Refined.{IsRegisterColor, sum_to}
-use Rattle.sixel_palette.proofs.refinement.Counts.{error_is, error-small}
-use Rattle.sixel_palette.proofs.refinement.Tops.{tops_longer}
+use Rattle.sixel_palette.proofs.refinement.{Counts.{error_is, error-small}, Tops.tops_longer}
 use Rattle.sixel_palette.proofs.palette.refined.refined_entries.Goals as goal
 
 pub summed-requires-clause-small : goal.summed-requires-clause-small

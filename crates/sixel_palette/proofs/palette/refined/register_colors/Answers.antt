@@ -1,8 +1,6 @@
-use Rattle.std.proofs.Common.{get_or, sym, arith}
-use Rattle.std.proofs.lemmas.List.{map_more}
+use Rattle.std.proofs.{Common.{get_or, sym, arith}, lemmas.List.map_more}
 use Rattle.std.proofs.lemmas.List.Elements.{All-push}
-use Rattle.sixel_palette.specs.Refined.{IsRegisterColor, register_color}
-use Rattle.sixel_palette.specs.inside.Codes.{color_of}
+use Rattle.sixel_palette.specs.{Refined.{IsRegisterColor, register_color}, inside.Codes.color_of}
 use Rattle.sixel_palette.proofs.refinement.Refined.{register_color-shown}
 use Rattle.sixel_palette.proofs.palette.refined.register_colors.Goals as goal
 

@@ -1,7 +1,6 @@
 use Rattle.std.proofs.Common.{◌≡◌, map, take}
 use Rattle.std.specs.List.{All}
-use Rattle.sixel_palette.specs.Refined.{IsRegisterColor, register_color}
-use Rattle.sixel_palette.specs.inside.Codes.{color_of}
+use Rattle.sixel_palette.specs.{Refined.{IsRegisterColor, register_color}, inside.Codes.color_of}
 use Rattle.sixel_palette.proofs.palette.refined.register_colors.Given as goal
 
 abbrev pub invariant-loop-position : goal.invariant-loop-position

@@ -1,7 +1,6 @@
 use Rattle.std.proofs.Common.{◌≡◌, ◌<◌, ◌≤◌, length, ap, sym, ◌∙◌, arith, refl}
 use Rattle.std.proofs.lemmas.List.Sorted.{All-permutation}
-use Rattle.sixel_palette.specs.Refined.{cut_boxes, cut_entries}
-use Rattle.sixel_palette.specs.GainCut.{is_final}
+use Rattle.sixel_palette.specs.{GainCut.is_final, Refined.{cut_boxes, cut_entries}}
 use Rattle.sixel_palette.specs.inside.Sums.{IsWholeBin, counted_pixels}
 use Rattle.sixel_palette.proofs.palette.refined.start_of_bins.Goals as goal
 

@@ -1,10 +1,7 @@
 use Rattle.std.proofs.Common.{◌≡◌, ℕ, refl, inl, inr, ap, sym, subst, ◌∙◌, arith}
-use Rattle.std.specs.Prelude.{slice_index}
-use Rattle.std.proofs.lemmas.Bool.{cases_lt, false≢true}
-use Rattle.sixel_palette.specs.Palette.{rank}
-use Rattle.sixel_palette.specs.Refined.{IsRegisterColor, register_color}
-use Rattle.sixel_palette.specs.inside.Codes.{color_of}
-use Rattle.sixel_palette.proofs.colors.Colors.{rank-color_of}
+use Rattle.std.{proofs.lemmas.Bool.{cases_lt, false≢true}, specs.Prelude.slice_index}
+use Rattle.sixel_palette.{specs.Palette.rank, specs.Refined.{IsRegisterColor, register_color}}
+use Rattle.sixel_palette.{specs.inside.Codes.color_of, proofs.colors.Colors.rank-color_of}
 use Rattle.sixel_palette.proofs.refinement.Refined.{register_color-own, register_color-shown}
 use Rattle.sixel_palette.proofs.palette.register_color.are_exact.Goals as goal
 

@@ -1,6 +1,5 @@
 use Rattle.std.proofs.Common.{ℕ, ◌<◌, slice_index}
-use Rattle.sixel_palette.specs.Refined.{IsRegisterColor}
-use Rattle.sixel_palette.specs.inside.Codes.{color_of}
+use Rattle.sixel_palette.specs.{Refined.IsRegisterColor, inside.Codes.color_of}
 use Rattle.sixel_palette.proofs.palette.register_color.are_exact.Given as goal
 
 abbrev pub invariant-loop-code : goal.invariant-loop-code

@@ -1,7 +1,6 @@
 use Rattle.std.proofs.Common.{arith}
 use Rattle.sixel_palette.specs.Palette.{IsShown}
-use Rattle.sixel_palette.proofs.traversal.Choices.{size_from_codes}
-use Rattle.sixel_palette.proofs.traversal.Law.{size_same}
+use Rattle.sixel_palette.proofs.traversal.{Choices.size_from_codes, Law.size_same}
 use Rattle.sixel_palette.proofs.palette.register_color.count_colors.Goals as goal
 
 pub returns-clause-count : goal.returns-clause-count

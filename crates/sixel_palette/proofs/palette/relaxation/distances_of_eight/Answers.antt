@@ -1,6 +1,5 @@
 use Rattle.std.proofs.Common.{◌≡◌, ◌∙◌, ℕ, [], ◌∷◌, ap, get_or}
-use Rattle.sixel_palette.specs.Palette.{distance}
-use Rattle.sixel_palette.specs.inside.Codes.{color_of}
+use Rattle.sixel_palette.specs.{Palette.distance, inside.Codes.color_of}
 use Rattle.sixel_palette.proofs.colors.Lists.{eight_cases}
 use Rattle.sixel_palette.proofs.palette.relaxation.distances_of_eight.Goals as goal
 

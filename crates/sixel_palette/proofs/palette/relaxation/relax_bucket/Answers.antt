@@ -1,12 +1,9 @@
 use Rattle.std.proofs.Common.{◌≡◌, ℕ, ◌<◌, ◌++◌, [], ◌∷◌, List, length, get_or, arith}
-use Rattle.std.proofs.lemmas.List.{get_or-set_same}
-use Rattle.sixel_palette.specs.inside.Codes.{color_of}
-use Rattle.sixel_palette.specs.inside.Nearest.{IsNearestEntry}
-use Rattle.sixel_palette.specs.inside.Buckets.{AreNearestIn}
+use Rattle.std.proofs.lemmas.{Bool.Decides.nat_tests, List.get_or-set_same}
+use Rattle.sixel_palette.specs.inside.{Buckets.AreNearestIn, Codes.color_of, Nearest.IsNearestEntry}
 use Rattle.sixel_palette.proofs.traversal.Relaxation.{get_or-set_before, greatest_more, old_more}
 use Rattle.sixel_palette.proofs.traversal.Relaxation.{relaxed_more}
 use Rattle.sixel_palette.proofs.palette.relaxation.relax_bucket.Goals as goal
-use Rattle.std.proofs.lemmas.Bool.Decides.{nat_tests}
 
 -- the nearest entry of the color at the position, after the new entry
 near_at : (c : goal.After-max-greatest) (entries : List (List ℕ))

@@ -1,8 +1,7 @@
-use Rattle.std.proofs.Common.{◌≡◌, ◌+◌, ◌-◌, ◌<◌, ℕ, length, take, drop, get_or, replicate}
-use Rattle.std.proofs.Common.{refl, ap, cond, nat_lt, sym, ◌∙◌, arith}
-use Rattle.std.proofs.lemmas.Simd.{length-chunk, get_or-chunk, length-replicate, get_or-replicate}
-use Rattle.sixel_palette.specs.Palette.{distance}
-use Rattle.sixel_palette.specs.inside.Codes.{color_of}
+use Rattle.std.proofs.Common.{◌≡◌, ◌+◌, ◌-◌, ◌<◌, ℕ, length, take, drop, get_or, replicate, refl}
+use Rattle.std.proofs.{Common.{ap, cond, nat_lt, sym, ◌∙◌, arith}, lemmas.Simd.length-chunk}
+use Rattle.std.proofs.lemmas.Simd.{get_or-chunk, length-replicate, get_or-replicate}
+use Rattle.sixel_palette.specs.{Palette.distance, inside.Codes.color_of}
 use Rattle.sixel_palette.proofs.traversal.Lanes.{length-chosen, length-smaller, stored_outside}
 use Rattle.sixel_palette.proofs.traversal.Lanes.{length-narrow, stored_at, mask_each, least_at}
 use Rattle.sixel_palette.proofs.traversal.Lanes.{narrow_chosen, near_stored, stored_here}

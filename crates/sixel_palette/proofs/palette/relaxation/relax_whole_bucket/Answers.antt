@@ -1,5 +1,4 @@
-use Rattle.std.proofs.Common.{◌≡◌, ◌+◌, ◌*◌, inl, inr, arith}
-use Rattle.std.proofs.lemmas.Bool.{cases_lt}
+use Rattle.std.proofs.{Common.{◌≡◌, ◌+◌, ◌*◌, inl, inr, arith}, lemmas.Bool.cases_lt}
 use Rattle.sixel_palette.proofs.traversal.Lanes.{greatest_from_lanes, greatest_lanes_more}
 use Rattle.sixel_palette.proofs.traversal.Lanes.{length-chosen, length-smaller}
 use Rattle.sixel_palette.proofs.palette.relaxation.relax_whole_bucket.Goals as goal

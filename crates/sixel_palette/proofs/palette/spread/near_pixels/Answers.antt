@@ -1,8 +1,6 @@
-use Rattle.std.proofs.Common.{◌≡◌, ◌+◌, get_or, take, arith}
-use Rattle.std.proofs.lemmas.List.Sums.{sum_by_more}
+use Rattle.std.{proofs.Common.{◌≡◌, ◌+◌, get_or, take, arith}, proofs.lemmas.List.Sums.sum_by_more}
 use Rattle.std.specs.List.{sum}
-use Rattle.sixel_palette.specs.inside.Refinement.{near_count}
-use Rattle.sixel_palette.proofs.refinement.Sums.{sum_to-more}
+use Rattle.sixel_palette.{proofs.refinement.Sums.sum_to-more, specs.inside.Refinement.near_count}
 use Rattle.sixel_palette.proofs.palette.spread.near_pixels.Goals as goal
 
 pub loop-position-preserved : goal.loop-position-preserved

@@ -1,7 +1,5 @@
-use Rattle.std.proofs.Common.{◌≡◌, ◌≤◌, get_or, take}
-use Rattle.std.specs.List.{sum}
-use Rattle.sixel_palette.specs.Refined.{sum_to}
-use Rattle.sixel_palette.specs.inside.Refinement.{near_count}
+use Rattle.std.{proofs.Common.{◌≡◌, ◌≤◌, get_or, take}, specs.List.sum}
+use Rattle.sixel_palette.{specs.Refined.sum_to, specs.inside.Refinement.near_count}
 use Rattle.sixel_palette.proofs.palette.spread.near_pixels.Given as goal
 
 abbrev pub invariant-loop-position : goal.invariant-loop-position

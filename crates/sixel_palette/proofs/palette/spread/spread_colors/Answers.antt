@@ -1,6 +1,5 @@
 use Rattle.std.proofs.Common.{[], get_or, arith}
-use Rattle.std.proofs.lemmas.List.{get_or_default}
-use Rattle.std.proofs.lemmas.List.Edits.{map_over_more}
+use Rattle.std.proofs.lemmas.{List.get_or_default, List.Edits.map_over_more}
 use Rattle.sixel_palette.specs.Spread.{spread_color}
 use Rattle.sixel_palette.proofs.palette.spread.spread_colors.Goals as goal
 

@@ -1,8 +1,6 @@
-use Rattle.std.proofs.Common.{◌≡◌, ◌+◌, ◌*◌, get_or, take, arith}
-use Rattle.std.proofs.lemmas.List.Sums.{sum_by_more}
+use Rattle.std.proofs.{Common.{◌≡◌, ◌+◌, ◌*◌, get_or, take, arith}, lemmas.List.Sums.sum_by_more}
 use Rattle.std.specs.List.{sum}
-use Rattle.sixel_palette.specs.ColorSums.{share}
-use Rattle.sixel_palette.specs.inside.Codes.{color_of}
+use Rattle.sixel_palette.specs.{ColorSums.share, inside.Codes.color_of}
 use Rattle.sixel_palette.proofs.refinement.Sums.{sum_to-more}
 use Rattle.sixel_palette.proofs.palette.spread.sums_of.Goals as goal
 

@@ -1,8 +1,5 @@
-use Rattle.std.proofs.Common.{◌≡◌, ℕ, ◌*◌, get_or, take}
-use Rattle.std.specs.List.{sum}
-use Rattle.sixel_palette.specs.ColorSums.{share}
-use Rattle.sixel_palette.specs.Refined.{sum_to}
-use Rattle.sixel_palette.specs.inside.Codes.{color_of}
+use Rattle.std.{proofs.Common.{◌≡◌, ℕ, ◌*◌, get_or, take}, specs.List.sum}
+use Rattle.sixel_palette.{specs.ColorSums.share, specs.Refined.sum_to, specs.inside.Codes.color_of}
 use Rattle.sixel_palette.specs.inside.Sums.{total}
 use Rattle.sixel_palette.proofs.palette.spread.sums_of.Given as goal
 

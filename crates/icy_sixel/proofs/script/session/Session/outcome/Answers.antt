@@ -1,7 +1,6 @@
 use Rattle.icy_sixel.proofs.Outcomes.{fails}
+use Rattle.std.proofs.{Common.arith, lemmas.Bool.Decides.nat_tests}
 use Rattle.icy_sixel.proofs.script.session.Session.outcome.Goals as goal
-use Rattle.std.proofs.Common.{arith}
-use Rattle.std.proofs.lemmas.Bool.Decides.{nat_tests}
 
 pub returns-in-Err : goal.returns-in-Err
 returns-in-Err c = grind (arith, nat_tests, fails, c.requires.begun, c.in-Err.ensures.error)

@@ -1,5 +1,16 @@
 -- `into_box` hands what the parts own to `from_raw`.
+use mir.{MapTy.inst_fn, Syntax.Fn}
+use contract.BorrowLft.{◌⊑◌}
+use denote.Triple.Clauses.{Ended}
+use Rattle.std_alloc.proofs.BoxSteps.{Form.{Bx, D, R, P, B, args, box_ty, box_typed}, Steps.box_out}
+use Rattle.std_alloc.proofs.BoxSteps.Steps.{box_in}
+use Rattle.icysixel.proofs.state_pointer.box_parts.BoxParts.into_box.Statement.{statement}
 use Rattle.icysixel.proofs.Steps
+use Rattle.icysixel.specs.contracts.state_pointer.box_parts.BoxParts as parts
+use Rattle.std_alloc.specs.contracts.boxed.Box.from_raw as Fr
+use Rattle.std_alloc.proofs.boxed.Box.from_raw.Met as raw_met
+use Rattle.icysixel.specs.contracts.state_pointer.box_parts.BoxParts.into_box as F
+use Rattle.icysixel.proofs.state_pointer.box_parts.BoxParts.into_box.Code as code
 use Steps.{◌≡◌, List, [], ◌∷◌, ◌++◌, refl, sym, ap, Goes-blank, proved_at, subst, T, id⊢, ftrue}
 use Steps.{fsep, flft, Val, vptr, has_ty, WT, fact, tables, WpFn, Item, ‵, raw, prop, at_ret, ◌⊛◌}
 use Steps.{some, later, ◌$◌, ◌∵◌, !, qed, move, drop, use1, join, split, split3, regoal, rewrite}
@@ -7,18 +18,6 @@ use Steps.{pick, await, fsplit, fjoin, feq_i, suffices, done, whole, sub, stop, 
 use Steps.{and_then, of_opd, first, blocks, exec, returns, enter, alloc_all, pass_all, free_all}
 use Steps.{look_at, get, get_in, sets, lands_last, env, no, block_ptr, Slot, plain, heard, nothing}
 use Steps.{only, calls_at_last, triple_of, framed, says, Stays, stay_dropped, walk_of, ends_at}
-use mir.Syntax.{Fn}
-use mir.MapTy.{inst_fn}
-use contract.BorrowLft.{◌⊑◌}
-use denote.Triple.Clauses.{Ended}
-use Rattle.std_alloc.proofs.BoxSteps.Form.{Bx, D, R, P, B, args, box_ty, box_typed}
-use Rattle.std_alloc.proofs.BoxSteps.Steps.{box_out, box_in}
-use Rattle.icysixel.specs.contracts.state_pointer.box_parts.BoxParts as parts
-use Rattle.std_alloc.specs.contracts.boxed.Box.from_raw as Fr
-use Rattle.std_alloc.proofs.boxed.Box.from_raw.Met as raw_met
-use Rattle.icysixel.specs.contracts.state_pointer.box_parts.BoxParts.into_box as F
-use Rattle.icysixel.proofs.state_pointer.box_parts.BoxParts.into_box.Statement.{statement}
-use Rattle.icysixel.proofs.state_pointer.box_parts.BoxParts.into_box.Code as code
 
 pub into_box_spec : {M : Type 1} → statement M
 into_box_spec 𝓤 𝓛 𝓜 𝓡 wired X Z LX LZ g d dd allocator md =

@@ -1,29 +1,25 @@
 -- `of` takes the box apart, and the parts own what it owned.
+use mir.{MapTy.inst_fn, Syntax.{Args, Fn, a_type, dcons, dnil}}
+use contract.BorrowLft.{◌⊑◌}
+use denote.{Param.bounded, Struct.Tuple.Tuple, Triple.Clauses.Ended}
+use Rattle.std_alloc.proofs.BoxSteps.Form.{Bx, D, τ, R, P, B, word, box_typed}
+use Rattle.std_alloc.{proofs.BoxSteps.Steps.{box_out, box_in}, specs.Box.Ownership.box_owns}
+use Rattle.icysixel.proofs.state_pointer.box_parts.BoxParts.of.Statement.{statement}
 use Rattle.icysixel.proofs.Steps
+use mir.Raw.{raw as bare}
+use Rattle.icysixel.specs.contracts.state_pointer.box_parts.BoxParts as parts
+use Rattle.std_alloc.specs.contracts.boxed.Box.into_raw_with_allocator as Ra
+use Rattle.std_alloc.proofs.boxed.Box.into_raw_with_allocator.Met as raw_met
+use Rattle.icysixel.specs.contracts.state_pointer.box_parts.BoxParts.of as F
+use Rattle.icysixel.proofs.state_pointer.box_parts.BoxParts.of.Code as code
 use Steps.{◌≡◌, List, [], ◌∷◌, ◌++◌, refl, ap, ◌∙◌, token, Goes-blank, handle_tells, proved_at}
 use Steps.{never, id⊢, fst∗, ftrue, fsep, flft, Val, vstruct, of_list, fact, tables, WpFn, sem}
 use Steps.{Item, ‵, raw, prop, ◌⊛◌, some, later, ◌$◌, ◌∵◌, !, qed, move, drop, use1, join, split}
 use Steps.{split3, regoal, rewrite, pick, await, fsplit, fjoin, fpick, feq_l, suffices, done, whole}
 use Steps.{sub, agg, stop, fld, no_more, and_then, of_opd, returns, enter, alloc_all, pass_all}
-use Steps.{free_all, look_at, get, get_in, sets, lands_as, no, Ptr, RawPtr, block_ptr}
-use Steps.{null_ptr, ptr_val, in_a_block, Slot, plain, heard, nothing, only, calls_at, triple_of}
-use Steps.{framed, says, Stays, stay_dropped, walk_of, ends_at}
-use mir.Syntax.{Args, Fn, a_type, dcons, dnil}
-use mir.MapTy.{inst_fn}
-use mir.Raw.{raw as bare}
-use contract.BorrowLft.{◌⊑◌}
-use denote.Param.{bounded}
-use denote.Struct.Tuple.{Tuple}
-use denote.Triple.Clauses.{Ended}
-use Rattle.std_alloc.specs.Box.Ownership.{box_owns}
-use Rattle.std_alloc.proofs.BoxSteps.Form.{Bx, D, τ, R, P, B, word, box_typed}
-use Rattle.std_alloc.proofs.BoxSteps.Steps.{box_out, box_in}
-use Rattle.icysixel.specs.contracts.state_pointer.box_parts.BoxParts as parts
-use Rattle.std_alloc.specs.contracts.boxed.Box.into_raw_with_allocator as Ra
-use Rattle.std_alloc.proofs.boxed.Box.into_raw_with_allocator.Met as raw_met
-use Rattle.icysixel.specs.contracts.state_pointer.box_parts.BoxParts.of as F
-use Rattle.icysixel.proofs.state_pointer.box_parts.BoxParts.of.Statement.{statement}
-use Rattle.icysixel.proofs.state_pointer.box_parts.BoxParts.of.Code as code
+use Steps.{free_all, look_at, get, get_in, sets, lands_as, no, Ptr, RawPtr, block_ptr, null_ptr}
+use Steps.{ptr_val, in_a_block, Slot, plain, heard, nothing, only, calls_at, triple_of, framed}
+use Steps.{says, Stays, stay_dropped, walk_of, ends_at}
 
 pub of_spec : {M : Type 1} → statement M
 of_spec 𝓤 𝓛 𝓜 𝓡 wired X Z LX LZ g d dd dx allocator md glue =

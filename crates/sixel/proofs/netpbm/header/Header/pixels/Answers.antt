@@ -1,5 +1,4 @@
-use Rattle.std.proofs.Common.{arith}
-use Rattle.std.proofs.lemmas.Bool.Decides.{nat_tests}
+use Rattle.std.proofs.{Common.arith, lemmas.Bool.Decides.nat_tests}
 use Rattle.sixel_encoder.proofs.JoinedLists.{joined-more}
 use Rattle.sixel.proofs.netpbm.header.Header.pixels.Goals as goal
 

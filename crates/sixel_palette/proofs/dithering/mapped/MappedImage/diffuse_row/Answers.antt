@@ -1,18 +1,15 @@
 use Rattle.std.proofs.Common.{◌≡◌, ◌+◌, ◌*◌, [], get_or, ap, refl, sym, ◌∙◌, arith}
-use Rattle.std.proofs.lemmas.Nat.{mod-mul-add}
-use Rattle.sixel_palette.specs.declared.dithering.diffusion.Neighbors.{Neighbors}
+use Rattle.std.proofs.{lemmas.Bool.Decides.nat_tests, lemmas.Nat.mod-mul-add}
 use Rattle.sixel_palette.specs.Dithering.{column_of_step, error_above, error_back, errors_of}
-use Rattle.sixel_palette.specs.Palette.{entry_of}
-use Rattle.sixel_palette.specs.inside.Diffusion.{channels}
-use Rattle.sixel_palette.specs.inside.Mapped.{mapped_value}
+use Rattle.sixel_palette.specs.{Palette.entry_of, declared.dithering.diffusion.Neighbors.Neighbors}
+use Rattle.sixel_palette.specs.{inside.Diffusion.channels, inside.Mapped.mapped_value}
 use Rattle.sixel_palette.proofs.mapped_images.DiffusionVisit.{AreErrors-beyond}
 use Rattle.sixel_palette.proofs.mapped_images.DiffusionVisit.{AreReceived-neighbors}
 use Rattle.sixel_palette.proofs.mapped_images.DiffusionVisit.{AreVisited-more, IsLine-more}
 use Rattle.sixel_palette.proofs.mapped_images.DiffusionVisit.{before-more, behind-more, beyond-line}
 use Rattle.sixel_palette.proofs.mapped_images.DiffusionVisit.{errors_of-more}
-use Rattle.sixel_palette.proofs.mapped_images.Serpentine.{column-next_row, serpentine-step}
 use Rattle.sixel_palette.proofs.mapped_images.KeptEntries.{before-none, before-some}
-use Rattle.std.proofs.lemmas.Bool.Decides.{nat_tests}
+use Rattle.sixel_palette.proofs.mapped_images.Serpentine.{column-next_row, serpentine-step}
 use Rattle.sixel_palette.proofs.dithering.mapped.MappedImage.diffuse_row.Goals as goal
 
 pub loop-step-init : goal.loop-step-init

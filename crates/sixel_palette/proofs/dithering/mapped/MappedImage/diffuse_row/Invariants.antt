@@ -1,8 +1,7 @@
-use Rattle.std.proofs.Common.{◌≡◌, ℕ, ◌+◌, ◌*◌, ◌<◌, length}
-use Rattle.std.specs.Prelude.{◌/◌, Some}
+use Rattle.std.{proofs.Common.{◌≡◌, ℕ, ◌+◌, ◌*◌, ◌<◌, length}, specs.Prelude.{◌/◌, Some}}
 use Rattle.sixel_palette.specs.Dithering.{AreVisited, entry_before, error_before, error_behind}
-use Rattle.sixel_palette.specs.Dithering.{errors_of}
-use Rattle.sixel_palette.specs.inside.Diffusion.{AreErrors, ArePrepared, IsLine, channels}
+use Rattle.sixel_palette.{specs.Dithering.errors_of, specs.inside.Diffusion.AreErrors}
+use Rattle.sixel_palette.specs.inside.Diffusion.{ArePrepared, IsLine, channels}
 use Rattle.sixel_palette.specs.inside.Mapped.{AreEntries, mapped_value}
 use Rattle.sixel_palette.proofs.dithering.mapped.MappedImage.diffuse_row.Given as goal
 

@@ -1,8 +1,6 @@
-use Rattle.std.proofs.Common.{ap, sym, ◌∙◌, arith}
-use Rattle.std.specs.Prelude.{◌-◌, ℕ}
-use Rattle.sixel_palette.specs.Palette.{entry_of}
-use Rattle.sixel_palette.specs.inside.Mapped.{mapped_value}
+use Rattle.std.{proofs.Common.{ap, sym, ◌∙◌, arith}, specs.Prelude.{◌-◌, ℕ}}
 use Rattle.sixel_palette.proofs.mapped_images.KeptEntries.{above-none, above-some}
+use Rattle.sixel_palette.{specs.Palette.entry_of, specs.inside.Mapped.mapped_value}
 use Rattle.sixel_palette.proofs.dithering.mapped.MappedImage.entry_above.Goals as goal
 
 pub returns-then-place-eq0-clause-value : goal.returns-then-place-eq0-clause-value

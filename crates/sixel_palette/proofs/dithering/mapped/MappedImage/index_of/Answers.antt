@@ -1,6 +1,5 @@
-use Rattle.std.proofs.Common.{arith}
+use Rattle.std.proofs.{Common.arith, lemmas.Bool.Decides.nat_tests}
 use Rattle.sixel_palette.proofs.nearest_entries.Nearest.{nearest-le}
-use Rattle.std.proofs.lemmas.Bool.Decides.{nat_tests}
 use Rattle.sixel_palette.proofs.dithering.mapped.MappedImage.index_of.Goals as goal
 
 pub returns-then-self-eq0-clause-index : goal.returns-then-self-eq0-clause-index

@@ -1,6 +1,5 @@
-use Rattle.std.proofs.Common.{arith}
+use Rattle.std.proofs.{Common.arith, lemmas.Bool.Decides.nat_tests}
 use Rattle.sixel_palette.proofs.mapped_images.KeptEntries.{neighbor-inside, IsKept-value}
-use Rattle.std.proofs.lemmas.Bool.Decides.{nat_tests}
 use Rattle.sixel_palette.proofs.nearest_entries.Nearest.{nearest-le}
 use Rattle.sixel_palette.proofs.dithering.mapped.MappedImage.neighbors.Goals as goal
 

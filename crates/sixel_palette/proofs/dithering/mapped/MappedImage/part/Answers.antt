@@ -1,9 +1,7 @@
 use Rattle.std.proofs.Common.{◌≡◌, ◌<◌, ◌≤◌, ℕ, ◌*◌, ◌∷◌, [], refl, sym, ◌∙◌, arith}
-use Rattle.std.specs.Prelude.{slice_index}
-use Rattle.std.proofs.lemmas.Nat.{mul-le}
-use Rattle.sixel_palette.proofs.colors.Distance.{below_three}
+use Rattle.std.{proofs.lemmas.Nat.mul-le, specs.Prelude.slice_index}
+use Rattle.sixel_palette.{proofs.colors.Distance.below_three, proofs.colors.Lists.four_cases}
 use Rattle.sixel_palette.proofs.mapped_images.DiffusionLanes.{lanes, lanes-cast, lanes-splat}
-use Rattle.sixel_palette.proofs.colors.Lists.{four_cases}
 use Rattle.sixel_palette.proofs.mapped_images.DiffusionLanes.{lanes-times, small-lanes}
 use Rattle.sixel_palette.proofs.dithering.mapped.MappedImage.part.Goals as goal
 

@@ -1,5 +1,4 @@
-use Rattle.std.proofs.Common.{◌<◌, ◌≤◌, ℕ, ◌*◌, ◌+◌, ◌-◌, ◌∙◌, arith}
-use Rattle.std.specs.Prelude.{slice_index}
+use Rattle.std.{proofs.Common.{◌<◌, ◌≤◌, ℕ, ◌*◌, ◌+◌, ◌-◌, ◌∙◌, arith}, specs.Prelude.slice_index}
 use Rattle.sixel_palette.proofs.mapped_images.DiffusionLanes.{channels-rounded, lanes, lanes-max}
 use Rattle.sixel_palette.proofs.mapped_images.DiffusionLanes.{lanes-minus, lanes-plus}
 use Rattle.sixel_palette.proofs.mapped_images.DiffusionLanes.{lanes-saturating, lanes-splat}

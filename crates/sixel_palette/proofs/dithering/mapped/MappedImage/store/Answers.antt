@@ -1,11 +1,10 @@
 use Rattle.std.proofs.Common.{◌≡◌, ◌<◌, ◌≤◌, ℕ, ◌*◌, ◌+◌, ◌-◌, ◌/◌, ◌∷◌, [], ap, refl, ◌∙◌, arith}
-use Rattle.std.specs.Prelude.{slice_index, slice_index_or}
-use Rattle.std.proofs.lemmas.Nat.{mul-le}
-use Rattle.sixel_palette.specs.Dithering.{passed_on}
-use Rattle.sixel_palette.proofs.mapped_images.DitheredIndices.{AreEntries-set}
+use Rattle.std.{proofs.lemmas.Nat.mul-le, specs.Prelude.{slice_index, slice_index_or}}
 use Rattle.sixel_palette.proofs.mapped_images.DiffusionLanes.{lanes, lanes-plus, lanes-minus}
 use Rattle.sixel_palette.proofs.mapped_images.DiffusionLanes.{lanes-times, lanes-shift, lanes-splat}
 use Rattle.sixel_palette.proofs.mapped_images.DiffusionLanes.{passed-part, small-lanes}
+use Rattle.sixel_palette.proofs.mapped_images.DitheredIndices.{AreEntries-set}
+use Rattle.sixel_palette.specs.Dithering.{passed_on}
 use Rattle.sixel_palette.proofs.dithering.mapped.MappedImage.store.Goals as goal
 
 pub returns : goal.returns

@@ -1,13 +1,11 @@
 use Rattle.std.proofs.Common.{ap, refl, sym, subst, ◌∙◌, arith, length, length-set}
-use Rattle.std.specs.Prelude.{◌+◌, ◌*◌, ◌<◌}
 use Rattle.std.proofs.lemmas.Result.{err_from_is_err_and}
-use Rattle.sixel_palette.specs.Dithering.{IsIndex, neighbor_of}
-use Rattle.sixel_palette.specs.inside.Diffusion.{channels}
-use Rattle.sixel_palette.specs.inside.Mapped.{mapped_value}
-use Rattle.sixel_palette.specs.declared.dithering.mapped.Kept.{Kept}
+use Rattle.std.specs.Prelude.{◌+◌, ◌*◌, ◌<◌}
+use Rattle.sixel_palette.specs.{Dithering.{IsIndex, neighbor_of}, inside.Diffusion.channels}
+use Rattle.sixel_palette.specs.{inside.Mapped.mapped_value, declared.dithering.mapped.Kept.Kept}
 use Rattle.sixel_palette.proofs.mapped_images.DiffusionVisit.{IsVisit-dark, IsVisit-stored}
-use Rattle.sixel_palette.proofs.mapped_images.KeptEntries.{IsIndex-near, IsKept-nearer}
 use Rattle.sixel_palette.proofs.mapped_images.DitheredIndices.{AreEntries-set}
+use Rattle.sixel_palette.proofs.mapped_images.KeptEntries.{IsIndex-near, IsKept-nearer}
 use Rattle.sixel_palette.proofs.dithering.mapped.MappedImage.visit.Goals as goal
 
 pub returns-then-not-is_opaque : goal.returns-then-not-is_opaque

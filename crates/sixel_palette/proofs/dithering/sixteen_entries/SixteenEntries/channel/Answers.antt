@@ -1,5 +1,4 @@
-use Rattle.std.proofs.Common.{arith}
-use Rattle.std.proofs.lemmas.Simd.{Each1-all, Each2-splat}
+use Rattle.std.proofs.{Common.arith, lemmas.Simd.{Each1-all, Each2-splat}}
 use Rattle.sixel_palette.proofs.nearest_entries.SixteenEntries.{channel_at}
 use Rattle.sixel_palette.proofs.dithering.sixteen_entries.SixteenEntries.channel.Goals as goal
 

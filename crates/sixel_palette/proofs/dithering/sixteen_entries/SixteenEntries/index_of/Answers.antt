@@ -1,5 +1,4 @@
-use Rattle.std.proofs.Common.{◌≡◌, get_or, inl, inr, refl, arith}
-use Rattle.std.proofs.lemmas.Bool.{cases_lt}
+use Rattle.std.proofs.{Common.{◌≡◌, get_or, inl, inr, refl, arith}, lemmas.Bool.cases_lt}
 use Rattle.sixel_palette.proofs.nearest_entries.SixteenEntries.{IsIndex-before, IsIndex-keys}
 use Rattle.sixel_palette.proofs.nearest_entries.SixteenEntries.{byte_lanes}
 use Rattle.sixel_palette.proofs.dithering.sixteen_entries.SixteenEntries.index_of.Goals as goal

@@ -1,5 +1,4 @@
-use Rattle.std.proofs.Common.{arith}
-use Rattle.std.proofs.lemmas.Bool.Decides.{nat_tests}
+use Rattle.std.proofs.{Common.arith, lemmas.Bool.Decides.nat_tests}
 use Rattle.sixel_palette.proofs.nearest_entries.SixteenEntries.{byte_lanes, entry_distance-same}
 use Rattle.sixel_palette.proofs.dithering.sixteen_entries.SixteenEntries.is_entry.Goals as goal
 

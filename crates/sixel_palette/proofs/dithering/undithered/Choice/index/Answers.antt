@@ -1,5 +1,4 @@
-use Rattle.std.proofs.Common.{arith}
-use Rattle.std.proofs.lemmas.Bool.Decides.{nat_tests}
+use Rattle.std.proofs.{Common.arith, lemmas.Bool.Decides.nat_tests}
 use Rattle.sixel_palette.specs.inside.Undithered.{choice_value}
 use Rattle.sixel_palette.proofs.mapped_images.Undithered.{cheapest-free}
 use Rattle.sixel_palette.proofs.dithering.undithered.Choice.index.Goals as goal

@@ -1,5 +1,4 @@
-use Rattle.std.proofs.Common.{arith}
-use Rattle.std.proofs.lemmas.Bool.Decides.{nat_tests}
+use Rattle.std.proofs.{Common.arith, lemmas.Bool.Decides.nat_tests}
 use Rattle.sixel_palette.proofs.mapped_images.Undithered.{has_entry-found, has_entry-more}
 use Rattle.sixel_palette.proofs.mapped_images.Undithered.{has_entry-none, has_entry-past}
 use Rattle.sixel_palette.proofs.dithering.undithered.Choice.lacking_below.Goals as goal

@@ -1,6 +1,5 @@
 use Rattle.std.proofs.Common.{◌≡◌, ◌-◌}
-use Rattle.sixel_palette.specs.Undithered.{has_entry}
-use Rattle.sixel_palette.specs.inside.Undithered.{choice_value}
+use Rattle.sixel_palette.specs.{Undithered.has_entry, inside.Undithered.choice_value}
 use Rattle.sixel_palette.proofs.dithering.undithered.Choice.lacking_below.Given as goal
 
 abbrev pub invariant-loop-line : goal.invariant-loop-line

@@ -1,6 +1,5 @@
-use Rattle.std.proofs.Common.{◌-◌, ◌<◌, ◌≤◌, ⊎_elim, arith}
+use Rattle.std.proofs.{Common.{◌-◌, ◌<◌, ◌≤◌, ⊎_elim, arith}, lemmas.Bool.cases_lt}
 use Rattle.std.specs.Int.{abs_diff}
-use Rattle.std.proofs.lemmas.Bool.{cases_lt}
 use Rattle.sixel_palette.proofs.colors.Distance.{square-le}
 use Rattle.sixel_palette.proofs.palette.buckets.Interval.greatest_gap.Goals as goal
 

@@ -1,8 +1,7 @@
 use Rattle.std.proofs.Common.{◌∙◌, ◌≡◌, length, arith}
-use Rattle.std.proofs.lemmas.List.{take_at}
+use Rattle.std.proofs.lemmas.{Bool.Decides.nat_tests, List.take_at}
 use Rattle.sixel_palette.proofs.refinement.Counts.{counts_none}
 use Rattle.sixel_palette.proofs.palette.color_set.ColorSet.counts.Goals as goal
-use Rattle.std.proofs.lemmas.Bool.Decides.{nat_tests}
 
 pub count_pixels-requires-clause-none : goal.count_pixels-requires-clause-none
 count_pixels-requires-clause-none c =

@@ -1,6 +1,5 @@
 use Rattle.std.proofs.Common.{sym, inl, inr, refl, arith}
-use Rattle.sixel_palette.specs.inside.Sums.{total}
-use Rattle.sixel_palette.proofs.refinement.Sums.{gain-none, gain-some}
+use Rattle.sixel_palette.{proofs.refinement.Sums.{gain-none, gain-some}, specs.inside.Sums.total}
 use Rattle.sixel_palette.proofs.palette.color_sums.ColorSums.gain.Goals as goal
 
 pub returns-then-self-eq0 : goal.returns-then-self-eq0

@@ -1,6 +1,5 @@
 use Rattle.std.proofs.Common.{◌≡◌, ◌≤◌, ◌/◌, ◌%◌, get_or, ap, arith}
-use Rattle.sixel_palette.specs.inside.Codes.{color_of}
-use Rattle.sixel_palette.proofs.traversal.Farthest.{nearest_from_entry}
+use Rattle.sixel_palette.{proofs.traversal.Farthest.nearest_from_entry, specs.inside.Codes.color_of}
 use Rattle.sixel_palette.proofs.palette.indices.LookUp.index_of.Goals as goal
 
 pub returns : goal.returns

@@ -1,7 +1,6 @@
 use Rattle.std.proofs.Common.{◌≡◌, ℕ, ◌<◌, length, refl, ap, ◌∙◌, arith}
-use Rattle.sixel_palette.specs.declared.palette.nearest.Lists.{Lists}
-use Rattle.sixel_palette.specs.inside.Codes.{color_of, code_count}
-use Rattle.sixel_palette.specs.inside.Keys.{HasNearest, cube_position}
+use Rattle.sixel_palette.specs.{declared.palette.nearest.Lists.Lists, inside.Codes.color_of}
+use Rattle.sixel_palette.specs.{inside.Codes.code_count, inside.Keys.{HasNearest, cube_position}}
 use Rattle.sixel_palette.proofs.palette.nearest.Search.fill_cube.Goals as goal
 
 -- the group has the nearest entry of each color of the cube

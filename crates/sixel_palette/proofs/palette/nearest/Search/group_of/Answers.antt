@@ -1,8 +1,7 @@
-use Rattle.std.proofs.Common.{rules, ◌≡◌, ℕ, ◌<◌, refl, ◌∙◌, arith}
-use Rattle.std.proofs.lemmas.List.{get_or_read}
+use Rattle.std.proofs.{Common.{rules, ◌≡◌, ℕ, ◌<◌, refl, ◌∙◌, arith}, lemmas.List.get_or_read}
 use Rattle.sixel_palette.proofs.nearest_entries.Keys.{no_span}
-use Rattle.sixel_palette.specs.inside.Codes.{color_of, code_count}
-use Rattle.sixel_palette.specs.inside.Keys.{HasNearest, group_position, span_at}
+use Rattle.sixel_palette.specs.{inside.Codes.{color_of, code_count}, inside.Keys.HasNearest}
+use Rattle.sixel_palette.specs.inside.Keys.{group_position, span_at}
 use Rattle.sixel_palette.proofs.palette.nearest.Search.group_of.Goals as goal
 
 pub returns-then-span : goal.returns-then-span

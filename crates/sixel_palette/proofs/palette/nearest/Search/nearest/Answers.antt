@@ -1,6 +1,5 @@
 use Rattle.std.proofs.Common.{◌∙◌}
-use Rattle.sixel_palette.specs.inside.Codes.{color_of}
-use Rattle.sixel_palette.proofs.nearest_entries.Keys.{nearest_from_key}
+use Rattle.sixel_palette.{proofs.nearest_entries.Keys.nearest_from_key, specs.inside.Codes.color_of}
 use Rattle.sixel_palette.proofs.palette.nearest.Search.nearest.Goals as goal
 
 pub returns-clause-nearest : goal.returns-clause-nearest

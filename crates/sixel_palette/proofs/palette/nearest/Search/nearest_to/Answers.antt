@@ -1,7 +1,6 @@
 use Rattle.sixel_palette.proofs.traversal.Farthest.{nearest_from_entry}
+use Rattle.std.proofs.{Common.arith, lemmas.Bool.Decides.nat_tests}
 use Rattle.sixel_palette.proofs.palette.nearest.Search.nearest_to.Goals as goal
-use Rattle.std.proofs.Common.{arith}
-use Rattle.std.proofs.lemmas.Bool.Decides.{nat_tests}
 
 pub returns-clause-search : goal.returns-clause-search
 returns-clause-search c =

@@ -1,6 +1,5 @@
 use Rattle.std.proofs.Common.{[], get_or, arith}
-use Rattle.sixel_palette.specs.inside.Codes.{color_of}
-use Rattle.sixel_palette.specs.inside.Keys.{cube_position, group_position}
+use Rattle.sixel_palette.specs.inside.{Codes.color_of, Keys.{cube_position, group_position}}
 use Rattle.sixel_palette.proofs.colors.Colors.{IsColor, IsColor-color_of, distance-lt}
 use Rattle.sixel_palette.proofs.nearest_entries.Nearest.{nearest-le}
 use Rattle.sixel_palette.proofs.palette.nearest.Search.new.Goals as goal

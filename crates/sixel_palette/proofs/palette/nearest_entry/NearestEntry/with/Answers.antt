@@ -1,8 +1,7 @@
-use Rattle.std.proofs.Common.{◌≤◌, arith}
+use Rattle.std.proofs.{Common.{◌≤◌, arith}, lemmas.Bool.Decides.nat_tests}
 use Rattle.sixel_palette.specs.Palette.{distance}
 use Rattle.sixel_palette.proofs.nearest_entries.NearestEntry.{near_taken, near_kept}
 use Rattle.sixel_palette.proofs.palette.nearest_entry.NearestEntry.with.Goals as goal
-use Rattle.std.proofs.lemmas.Bool.Decides.{nat_tests}
 
 pub returns-then-squared-self : goal.returns-then-squared-self
 returns-then-squared-self c entries p color at same h =

@@ -1,13 +1,8 @@
 use Rattle.std.proofs.Common.{◌≡◌, ◌∙◌, ◌++◌, ◌||◌, ℕ, Bool, List, ap, arith, false, length, map}
-use Rattle.std.proofs.Common.{nat_eq, refl, sym, true}
-use Rattle.std.proofs.Math.Bool.{or-false, or-true}
-use Rattle.std.proofs.lemmas.Bool.{cond-false, cond-true}
-use Rattle.std.proofs.lemmas.Bool.Decides.{nat_tests}
-use Rattle.std.proofs.lemmas.List.{length-map, with_items_is}
-use Rattle.std.proofs.lemmas.List.Elements.{All-map}
-use Rattle.sixel_palette.specs.ColorSums.{share}
-use Rattle.sixel_palette.specs.Lloyd.{mean_bytes}
-use Rattle.sixel_palette.specs.Refined.{IsRegisterColor}
+use Rattle.std.proofs.{Common.{nat_eq, refl, sym, true}, Math.Bool.{or-false, or-true}}
+use Rattle.std.proofs.{lemmas.Bool.{cond-false, cond-true}, lemmas.Bool.Decides.nat_tests}
+use Rattle.std.proofs.{lemmas.List.{length-map, with_items_is}, lemmas.List.Elements.All-map}
+use Rattle.sixel_palette.specs.{ColorSums.share, Lloyd.mean_bytes, Refined.IsRegisterColor}
 use Rattle.sixel_palette.specs.Spread.{spread_color}
 use Rattle.sixel_palette.specs.declared.palette.refined.RefinedEntries.{RefinedEntries}
 use Rattle.sixel_palette.specs.inside.Refinement.{AreRefinedEntries, AreSpreadEntries}

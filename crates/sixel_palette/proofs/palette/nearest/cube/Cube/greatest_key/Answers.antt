@@ -1,5 +1,4 @@
-use Rattle.std.proofs.Common.{take, get_or, arith}
-use Rattle.std.proofs.lemmas.List.{take_more}
+use Rattle.std.proofs.{Common.{take, get_or, arith}, lemmas.List.take_more}
 use Rattle.sixel_palette.proofs.nearest_entries.Keys.{none, least_key-nil, least_key-push}
 use Rattle.sixel_palette.proofs.palette.nearest.cube.Cube.greatest_key.Goals as goal
 

@@ -1,6 +1,5 @@
-use Rattle.std.proofs.Common.{arith}
-use Rattle.std.proofs.lemmas.List.{get_or-take, get_or-drop, get_or-set_same, get_or-set_other}
-use Rattle.std.proofs.lemmas.List.{length-set}
+use Rattle.std.proofs.{Common.arith, lemmas.List.{get_or-take, get_or-drop, get_or-set_same}}
+use Rattle.std.proofs.lemmas.List.{get_or-set_other, length-set}
 use Rattle.sixel_palette.specs.inside.Keys.{key_of}
 use Rattle.sixel_palette.proofs.palette.nearest.cube.Cube.least_keys.Goals as goal
 

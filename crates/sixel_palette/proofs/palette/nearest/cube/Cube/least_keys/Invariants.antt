@@ -1,6 +1,5 @@
 use Rattle.std.proofs.Common.{◌≡◌, ℕ, ◌+◌, ◌<◌, ◌≤◌, List, length, get_or}
-use Rattle.sixel_palette.specs.inside.Keys.{key_of, IsInCube}
-use Rattle.sixel_palette.proofs.nearest_entries.Keys.{none}
+use Rattle.sixel_palette.{proofs.nearest_entries.Keys.none, specs.inside.Keys.{key_of, IsInCube}}
 use Rattle.sixel_palette.proofs.palette.nearest.cube.Cube.least_keys.Given as goal
 
 abbrev pub invariant-loop-lane : goal.invariant-loop-lane
