@@ -31,10 +31,11 @@
  *     icysixel_block rattle_realloc(uint8_t *at, size_t held, size_t size, size_t align);
  *     void rattle_dealloc(uint8_t *at);
  *
- * `given` says whether the allocation succeeded, and `at` is never null. `align` is at most 16, and
- * 1 for a block that is transferred. `held` is the size of the block so far, and `size` the new
- * one. The shared library always uses malloc, and exports none of the three. If an allocation
- * fails, the call returns ICYSIXEL_OUT_OF_MEMORY. No function aborts the process.
+ * `given` is true if the allocation succeeded. `at` must not be null even if it failed: return the
+ * address of any static byte then. `align` is at most 16, and 1 for a block that is transferred.
+ * `held` is the size of the block so far, and `size` the new one. The shared library always uses
+ * malloc, and exports none of the three. If an allocation fails, the call returns
+ * ICYSIXEL_OUT_OF_MEMORY. No function aborts the process.
  *
  * Sizes are in bytes unless a comment names another unit. A pixel is four bytes: red, green, blue
  * and alpha, unless an icysixel_encoding names another format. Pixels are stored row by row from
@@ -137,12 +138,12 @@ typedef struct {
 /* The different colors of opaque pixels. */
 typedef struct {
     uint16_t count;    /* how many there are, where 257 means more than 256 */
-    uint8_t are_exact; /* 1 if each is a color that a register can have, else 0 */
+    uint8_t are_exact; /* 1 if each channel of each is the byte of a whole percentage, else 0 */
 } icysixel_distinct;
 
 /* How each pixel gets an entry of the palette. Zeros mean the nearest entry. An amount of 0 means
- * the default: 7 for diffusion, and for the pattern of ordered dithering the square root of the
- * palette's mean squared error, twice that in a given palette. */
+ * the default. For diffusion it is 7. For ordered dithering it is the square root of the palette's
+ * mean squared error, and twice that root in a given palette. */
 typedef struct {
     uint8_t kind;   /* an enum icysixel_dither */
     uint8_t amount; /* diffusion: eighths of the error; ordered: the amplitude in levels; or 0 */
@@ -194,7 +195,7 @@ enum icysixel_code {
     ICYSIXEL_BUFFER_MISMATCH = 11, /* the sizes need more pixels, or the last pixel is incomplete */
     /* about SIXEL data */
     ICYSIXEL_NO_SIXEL_DATA = 12,     /* the data do not begin with an introducer, ESC P or 0x90 */
-    ICYSIXEL_MALFORMED = 13,         /* a command breaks the grammar or a limit */
+    ICYSIXEL_MALFORMED = 13,         /* a limit is exceeded, or a control ends the header */
     ICYSIXEL_TOO_LARGE = 14,         /* the image has more pixels than the decoder's limit */
     ICYSIXEL_BAD_HEADER = 15,        /* the header has an invalid byte: another DCS sequence */
     ICYSIXEL_MISSING_COMMAND = 16,   /* the data end in the header; from icysixel_decode only */
@@ -303,8 +304,8 @@ void icysixel_begin_payload(icysixel *handle, int32_t p1, int32_t p2);
 /* Reads a chunk of the open image. A chunk can end anywhere, and chunk boundaries have no effect on
  * the image. After the end of the image a feed consumes nothing and returns the same status again.
  * The errors are ICYSIXEL_NO_SESSION if no image is open, those of the data so far, and
- * ICYSIXEL_OUT_OF_MEMORY. After an error each feed and finish of the image returns that error
- * again.
+ * ICYSIXEL_OUT_OF_MEMORY. After an error each later feed of the image returns that error again. So
+ * does icysixel_finish, which closes the image.
  *
  * Errors have no effect on which bytes belong to the image. If an image is open, a feed that fails
  * writes the number of bytes consumed and the status, too. So the caller goes on to feed until the
@@ -313,9 +314,9 @@ void icysixel_begin_payload(icysixel *handle, int32_t p1, int32_t p2);
 uint32_t icysixel_feed(icysixel *handle, const uint8_t *chunk, size_t length, icysixel_fed *fed);
 
 /* Reads a chunk of the open image as icysixel_feed does, but only up to its first graphics new
- * line, the byte `-`. So a host can draw each band of six rows at once. The caller feeds the rest
- * of the chunk after the bytes consumed. The status is ICYSIXEL_ROWS in place of ICYSIXEL_MORE if
- * icysixel_get_rows_so_far has become greater. */
+ * line, the byte `-`. So a host can draw each band of six rows before it feeds the next one. The
+ * caller feeds the rest of the chunk after the bytes consumed. The status is ICYSIXEL_ROWS in place
+ * of ICYSIXEL_MORE if icysixel_get_rows_so_far has become greater. */
 uint32_t icysixel_feed_band(icysixel *handle, const uint8_t *chunk, size_t length,
                             icysixel_fed *fed);
 
@@ -424,7 +425,7 @@ void icysixel_discard_image(icysixel *handle);
 
 /* -- Registers and settings -- */
 
-/* Writes the color of a register, as the last finished image left it. */
+/* Writes the current color of a register. An open image changes it only when it is finished. */
 uint32_t icysixel_get_register(const icysixel *handle, uint8_t number, icysixel_color *color);
 
 /* Sets the color of a register, for images that are begun afterwards. */
@@ -513,13 +514,13 @@ void icysixel_set_clip(icysixel *handle, size_t width, size_t height);
  * last row have no effect. Pixels of other formats than RGBA, and rows with gaps, are copied first.
  *
  * - A refined palette has at most max_colors entries. A decoder shows them without rounding. With
- *   diffusion and at most 64 as max_colors, they are moved away from the mean color, unless the
- *   image is flat art: at least a quarter of its opaque pixels have a squared distance of at most
- *   12 to their nearest entry.
+ *   diffusion and a max_colors of at most 64, the entries are moved away from the mean color. Those
+ *   of flat art are not moved. In flat art, at least a quarter of the opaque pixels have a squared
+ *   distance of at most 12 to their nearest entry.
  * - A farthest palette has at most max_colors entries, where 1 is taken as 2 and a number above 256
- *   as 256. It has neither dithering nor a tolerance.
+ *   as 256. With it, dithering and tolerance are ignored.
  * - In a given palette pixels have the indices of icysixel_palette_indices. Indexed pixels have
- *   their own, without dithering or tolerance.
+ *   their own. With them, dithering and tolerance are ignored.
  *
  * With diffusion and a tolerance a pixel keeps the entry of an opaque neighbor, unless the nearest
  * entry is nearer by the tolerance or more. Neighbors are the pixel above in the same band of six
@@ -528,9 +529,9 @@ void icysixel_set_clip(icysixel *handle, size_t width, size_t height);
  * Without diffusion a pixel has the cheapest of up to four entries: its nearest one, those of the
  * opaque pixels on the left and above in its band, and the nearest one of the opaque pixel on the
  * right. An entry costs twice its squared distance to the color of the pixel, which ordered
- * dithering has moved. The tolerance is added if no pixel of the band in the column on the left has
- * the entry, and added again if none in the column on the right has it. It is not added if the
- * pixel above in the band has the entry. So runs are longer, and the output is shorter.
+ * dithering has moved. For each of the columns on the left and on the right that lacks the entry
+ * within the band, the tolerance is added. Nothing is added if the pixel above in the band has the
+ * entry. So runs are longer, and the output is shorter.
  *
  * The errors, in this order, are:
  *
@@ -582,12 +583,13 @@ uint32_t icysixel_choose_palette(const uint8_t *pixels, size_t length, uint16_t 
 
 /* Refines a palette of pixels for a small summed squared error. It needs no handle.
  *
- * The palette has at most max_colors entries, 1 to 256, each a color that a register can have. If
- * there are no more opaque colors than that, each has an entry: the color, rounded to percentages.
- * Otherwise the colors are cut into boxes where the error falls most, and each box has an entry.
- * Two rounds of Lloyd's algorithm move these entries if that lowers the error. At least a sixteenth
- * of max_colors, rounded down, is left for further entries. They are chosen farthest first, until
- * the palette is full or no color has a squared distance above 6 to its nearest entry.
+ * The palette has at most max_colors entries, 1 to 256. Each channel of an entry is the byte of a
+ * whole percentage. If there are no more opaque colors than max_colors, each has an entry: the
+ * color, rounded to percentages. Otherwise the colors are divided into boxes, each time by the cut
+ * that lowers the error most, and each box has an entry. Two rounds of Lloyd's algorithm move these
+ * entries if that lowers the error. At least a sixteenth of max_colors, rounded down, is left for
+ * further entries. They are chosen farthest first, until the palette is full or no color has a
+ * squared distance above 6 to its nearest entry.
  *
  * `colors` and `indices` receive what those of icysixel_choose_palette receive. A buffer is too
  * small if `colors` has fewer than max_colors, or `indices` fewer than one byte for each pixel.
