@@ -24,6 +24,9 @@ pub fn total_of(counts: &[u32]) -> u64
 
 impl ColorSet {
     /// The number of an image's opaque pixels of each color.
+    ///
+    /// Four pixels that are equal to the one before them are counted without a search.
+    #[inline(never)]
     pub fn counts(&self, alloc: Global, pixels: &[u8]) -> Result<Vec<u32>, AllocError>
         requires area { length pixels.now / 4 ≤ area_limit }
         requires colors { IsColorSetOf pixels.now self.now }
@@ -31,20 +34,6 @@ impl ColorSet {
             AreCounts pixels.now self.now.codes.items counts.items (length pixels.now / 4)) }
     {
         let mut counts = vec![in alloc; 0; self.codes.len()]?;
-        self.count_pixels(&mut counts, pixels);
-        Ok(counts)
-    }
-
-    /// Counts the opaque pixels of each color.
-    ///
-    /// Four pixels that are equal to the one before them are counted without a search.
-    #[inline(never)]
-    fn count_pixels(&self, counts: &mut [u32], pixels: &[u8])
-        requires area { length pixels.now / 4 ≤ area_limit }
-        requires colors { IsColorSetOf pixels.now self.now }
-        requires none { AreCounts pixels.now self.now.codes.items counts.old 0 }
-        ensures { AreCounts pixels.now self.now.codes.items counts.new (length pixels.now / 4) }
-    {
         let count = pixels.len() / 4;
         let mut last = 0;
         let mut position = 0;
@@ -52,7 +41,7 @@ impl ColorSet {
             if !are_four_of(pixels, 4 * four, last) {
                 let words = four_words(pixels, 4 * four);
                 for lane in 0..4 {
-                    position = self.count_word(counts, pixels, 4 * four + lane, words[lane]);
+                    position = self.count_word(&mut counts, pixels, 4 * four + lane, words[lane]);
                 }
                 last = words[3];
             } else if last % 256 >= 128 {
@@ -60,8 +49,9 @@ impl ColorSet {
             }
         }
         for pixel in count / 4 * 4..count {
-            self.count_word(counts, pixels, pixel, pixel_word(pixels, pixel));
+            self.count_word(&mut counts, pixels, pixel, pixel_word(pixels, pixel));
         }
+        Ok(counts)
     }
 
     /// Counts a pixel of this word, if it is opaque, and returns the position of its color.

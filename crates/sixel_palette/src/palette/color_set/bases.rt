@@ -1,6 +1,6 @@
 //! The bases of the words of flags, for the ranks of the codes.
 
-ghost use Rattle.std.specs.Prelude.{◌≡◌, ◌+◌, ◌*◌, ◌/◌, ◌<◌, length};
+ghost use Rattle.std.specs.Prelude.{◌≡◌, ◌/◌, length};
 ghost use Rattle.sixel_palette.specs.inside.{Codes.code_count, Flags.{HasBases, IsPaged, rank_of}};
 
 use crate::palette::color_set::flags::{Flags, PAGE_WORDS, PAGES};
@@ -16,29 +16,13 @@ impl Flags {
     {
         let mut count = 0;
         for page in 0..PAGES {
-            count = self.store_page_bases(bases, count, page);
-        }
-        count
-    }
-
-    /// Stores the bases of a page, and returns how many flags are set up to its end.
-    #[inline(always)]
-    fn store_page_bases(&self, bases: &mut [u32], before: u32, page: usize) -> u32
-        requires paged { IsPaged self.now }
-        requires page { page < 4096 }
-        requires before { before ≡ rank_of self.now (4096 * page) }
-        requires bases { HasBases self.now bases.old (64 * page) }
-        ensures count { result ≡ rank_of self.now (4096 * (page + 1)) }
-        ensures bases { HasBases self.now bases.new (64 * (page + 1)) }
-    {
-        let start = self.starts[page];
-        if start == 0 {
-            return before;
-        }
-        let mut count = before;
-        for word in 0..PAGE_WORDS {
-            bases[start + word] = count;
-            count += self.words[start + word].count_ones();
+            let start = self.starts[page];
+            if start != 0 {
+                for word in 0..PAGE_WORDS {
+                    bases[start + word] = count;
+                    count += self.words[start + word].count_ones();
+                }
+            }
         }
         count
     }
