@@ -3,7 +3,6 @@ pub mod Nearest
 pub mod Buckets
 pub mod Flags
 pub mod Ranks
-pub mod LookUp
 pub mod Chosen
 pub mod Traversal
 pub mod Counts

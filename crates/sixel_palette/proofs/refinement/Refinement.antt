@@ -1,9 +1,8 @@
 -- A palette with refined entries is the refined palette, and each color has its nearest entry.
 use Rattle.std.proofs.Common.{◌≡◌, ℕ, zero, suc, ◌+◌, ◌*◌, ◌/◌, ◌<◌, ◌≤◌, List, [], ◌∷◌, ◌++◌}
-use Rattle.std.proofs.Common.{length, get_or, map, ap, subst, sym, ◌∙◌, refl, arith, inl, inr}
-use Rattle.std.proofs.lemmas.{Bool.cases_lt, List.{get_or_append_left, length-append, length-map}}
+use Rattle.std.proofs.Common.{length, get_or, map, ap, sym, ◌∙◌, refl, arith, inl, inr}
+use Rattle.std.proofs.lemmas.{Bool.cases_lt, List.{length-map, length_push}}
 use Rattle.std.proofs.lemmas.Simd.{map-map}
-use Rattle.std.proofs.Math.Seq.{get_or-append_seam}
 use Rattle.std.specs.List.{All}
 use Rattle.std.specs.declared.{alloc.Global.Global, vec.Vec.Vec}
 use Rattle.sixel_palette.specs.declared.palette.refined.RefinedPalette.{RefinedPalette}
@@ -13,69 +12,56 @@ use Rattle.sixel_palette.specs.Refined.{IsRefined, IsRegisterColor, base_entries
 use Rattle.sixel_palette.specs.Refined.{opaque_bins, opaque_pixels, register_color, summed_error}
 use Rattle.sixel_palette.specs.Spread.{spread_entries}
 use Rattle.sixel_palette.specs.inside.Codes.{AreShownCodes, IsListed, color_of}
-use Rattle.sixel_palette.specs.inside.Nearest.{AreIndicesTo, AreNearest, IsIndex}
+use Rattle.sixel_palette.specs.inside.Nearest.{AreIndicesTo, IsIndex}
 use Rattle.sixel_palette.specs.inside.Refinement.{HasEntries, IsRefinement}
+use Rattle.sixel_palette.proofs.colors.Lists.{each_push}
 use Rattle.sixel_palette.proofs.traversal.Choices.{members_from_codes, IsColor-shown}
-use Rattle.sixel_palette.proofs.traversal.Farthest.{nearest_from_entry}
+use Rattle.sixel_palette.proofs.traversal.Farthest.{indices_nearest}
 use Rattle.sixel_palette.proofs.refinement.{Counts.pixels_from_counts, Refined.nearest_entry-lt}
 use Rattle.sixel_palette.proofs.refinement.{Refined.bound_of_shown, Tops.{near_listed, tops_alike}}
 use Rattle.sixel_palette.proofs.refinement.Tops.{tops_fall, tops_none, tops_occur}
 
-module _ (pixels codes : List ℕ) (entries : List (List ℕ)) (squares color_indices : List ℕ)
-    (bytes : (k : ℕ) → get_or pixels k 0 < 256) (are : AreShownCodes pixels codes)
-    (some : 0 < length codes → 0 < length entries) (register : All IsRegisterColor entries)
-    (near_codes : AreNearest entries codes squares color_indices) where
-  -- with an opaque pixel there is an entry
-  entries-below : (c : List ℕ) → IsShown pixels c → nearest entries c < no_entry
-  entries-below c m =
-      let listed = are.shown c m in
-      let l = listed.1 in
-      nearest_entry-lt _ _ (some (omega (arith, l))) register (IsColor-shown _ _ bytes m)
+-- with an opaque pixel there is an entry
+entries-below : (pixels codes : List ℕ) (entries : List (List ℕ))
+    → ((k : ℕ) → get_or pixels k 0 < 256) → AreShownCodes pixels codes
+    → (0 < length codes → 0 < length entries) → All IsRegisterColor entries
+    → (c : List ℕ) → IsShown pixels c → nearest entries c < no_entry
+entries-below pixels codes entries bytes are some register c m =
+    let l = (are.shown c m).1 in
+    nearest_entry-lt _ _ (some (omega (arith, l))) register (IsColor-shown _ _ bytes m)
 
-  -- each pixel has its index
-  indexed : (pixel : ℕ) → pixel < length pixels / 4
-      → (index : ℕ) × IsIndex pixels entries pixel index
-  indexed pixel l =
-      elim (cases_lt (get_or pixels (4 * pixel + 3) 0) 128) [
-        | inl dark ↦
-            (0, record { opaque = λ light. absurd (omega (arith, dark)); hidden = λ _. refl })
-        | inr light ↦
-            let c = color_at pixels pixel in
-            let shown : IsShown pixels c = (pixel, l, light, refl) in
-            let (k, inside, same) = are.shown c shown in
-            let near = rw same at (near_codes k inside) in (
-              get_or color_indices k 0,
-              record {
-                opaque = λ _.
-                    nearest_from_entry entries c _ (entries-below c shown) near;
-                hidden = λ dark. absurd (omega (arith, dark, light));
-              },
-            )
-      ]
+-- each pixel has its index
+indexed : (pixels codes color_indices : List ℕ) → AreShownCodes pixels codes → (pixel : ℕ)
+    → pixel < length pixels / 4 → (index : ℕ) × IsIndex pixels codes color_indices pixel index
+indexed pixels codes color_indices are pixel l =
+    elim (cases_lt (get_or pixels (4 * pixel + 3) 0) 128) [
+      | inl dark ↦
+          (0, record { opaque = λ light. absurd (omega (arith, dark)); hidden = λ _. refl })
+      | inr light ↦
+          let (k, inside, same) = are.shown (color_at pixels pixel) (pixel, l, light, refl) in (
+            get_or color_indices k 0,
+            record {
+              opaque = λ _. (k, inside, same, refl);
+              hidden = λ dark. absurd (omega (arith, dark, light));
+            },
+          )
+    ]
 
-  -- and so do the first n
-  first-indexed : (n : ℕ) → n ≤ length pixels / 4
-      → (indices : List ℕ) × (length indices ≡ n) × AreIndicesTo pixels entries n indices
-  first-indexed zero l = ([], refl, λ k m. absurd (omega (arith, m)))
-  first-indexed (suc n) l =
-      let (indices, size, before) = first-indexed n (omega arith) in
-      let (index, own) = indexed n (omega arith) in (
-        indices ++ index ∷ [],
-        omega (arith, length-append indices (index ∷ []), size),
-        λ k m.
-            elim (cases_lt k n) [
-              | inl less ↦
-                  rw (get_or_append_left indices (index ∷ []) 0 k (omega (arith, size, less)))
-                  (before k less)
-              | inr more ↦
-                  let here : k ≡ n = omega (arith, m, more) in
-                  let last : get_or (indices ++ index ∷ []) k 0 ≡ index =
-                  ap (λ i. get_or (indices ++ index ∷ []) i 0) (here ∙ sym size)
-                  ∙ get_or-append_seam indices index [] 0 in
-                  subst (IsIndex pixels entries k) (sym last)
-                  (subst (λ i. IsIndex pixels entries i index) (sym here) own)
-            ],
-      )
+-- and so do the first n
+first-indexed : (pixels codes color_indices : List ℕ) → AreShownCodes pixels codes → (n : ℕ)
+    → n ≤ length pixels / 4 → (indices : List ℕ) × (length indices ≡ n)
+    × AreIndicesTo pixels codes color_indices n indices
+first-indexed pixels codes color_indices are zero l = ([], refl, λ k m. absurd (omega (arith, m)))
+first-indexed pixels codes color_indices are (suc n) l =
+    let (indices, size, before) =
+    first-indexed pixels codes color_indices are n (omega arith) in
+    let (index, own) = indexed pixels codes color_indices are n (omega arith) in (
+      indices ++ index ∷ [],
+      omega (arith, length_push indices index, size),
+      λ k m.
+          each_push (IsIndex pixels codes color_indices) indices index 0 n size before own k
+          (omega (arith, m)),
+    )
 
 -- the error is that of all pixels
 pub refinement-error : (pixels : List ℕ) (room amount : ℕ) (it : Refinement)
@@ -89,10 +75,8 @@ module _ (pixels : List ℕ) (room amount : ℕ) (it : Refinement)
   pub refinement-below : (c : List ℕ) → IsShown pixels c
       → nearest it.entries.colors.items c < no_entry
   refinement-below =
-      entries-below pixels it.colors.codes.items it.entries.colors.items is.entries.squares
-      it.entries.indices.items is.bytes is.colors.codes
+      entries-below pixels it.colors.codes.items it.entries.colors.items is.bytes is.colors.codes
       (λ l. omega (arith, is.entries.size, is.entries.are.some l)) is.entries.shown
-      is.entries.nearest
 
   -- with the palette indices of nearest entries, the entries before the spread are the refined
   -- palette
@@ -162,10 +146,10 @@ module _ (pixels : List ℕ) (room amount : ℕ) (it : Refinement)
   refinement-some indices size =
       let refined = is.entries.refined in
       let made = is.entries.are in
+      let codes = it.colors.codes.items in
       let (own, many, each) =
-      first-indexed pixels it.colors.codes.items refined.colors.items made.squares
-      refined.indices.items is.bytes is.colors.codes made.some made.shown made.nearest
-      (length pixels / 4) (omega arith) in
+      first-indexed pixels codes refined.indices.items is.colors.codes (length pixels / 4)
+      (omega arith) in
       let palette : RefinedPalette = record {
         colors = refined.colors;
         indices = record {
@@ -185,11 +169,9 @@ module _ (pixels : List ℕ) (room amount : ℕ) (it : Refinement)
         palette,
         refinement-palette palette
             (record { colors = refl; error = refl; initial = refl; witnesses = refl; apart = refl })
-            (record {
-              one_each = many;
-              opaque = λ k l. (each k l).opaque;
-              hidden = λ k l. (each k l).hidden;
-            }),
+            (indices_nearest _ _ _ _ _ _ made.nearest
+            (entries-below pixels codes _ is.bytes is.colors.codes made.some made.shown) many
+            each),
         is.entries.spread
             ∙ ap (λ p. spread_entries amount p.sum refined.colors.items)
             (pixels_from_counts _ _ _ is.counted),

@@ -1,14 +1,15 @@
 -- From the distances of the colors to the farthest one, and from their palette indices to those of
 -- the pixels.
-use Rattle.std.proofs.Common.{◌≡◌, ℕ, ◌/◌, ◌%◌, ◌<◌, ◌≤◌, List, [], length, get_or, refl, ap, sym}
-use Rattle.std.proofs.{Common.{◌∙◌, arith}, lemmas.Bool.Decides.nat_tests}
-use Rattle.std.proofs.lemmas.List.{get_or_default}
+use Rattle.std.proofs.Common.{◌≡◌, ℕ, ◌+◌, ◌/◌, ◌%◌, ◌<◌, ◌≤◌, List, [], length, get_or, refl, ap}
+use Rattle.std.proofs.{Common.{◌∙◌, arith, set, sym}, lemmas.Bool.Decides.nat_tests}
+use borrow.Author.Count.{below_more}
+use Rattle.std.proofs.lemmas.List.{get_or_default, get_or-set_same, get_or-set_other}
 use Rattle.std.specs.{List.Contains, List.Sorted.IsStrictlyIncreasing}
 use Rattle.sixel_palette.specs.declared.palette.nearest_entry.NearestEntry.{NearestEntry}
-use Rattle.sixel_palette.specs.Palette.{nearest, rank, color_at, IsShown, IsFarthest, IsNearest}
-use Rattle.sixel_palette.specs.{Palette.no_entry, inside.Codes.{color_of, IsListed, IsPixelWord}}
-use Rattle.sixel_palette.specs.inside.Nearest.{IsNearestEntry, AreNearest, IsIndexOf, IsIndex}
-use Rattle.sixel_palette.specs.inside.Buckets.{IsFirstGreatest}
+use Rattle.sixel_palette.specs.Palette.{AreIndices, nearest, rank, color_at, IsShown, IsFarthest}
+use Rattle.sixel_palette.specs.{Palette.{IsNearest, no_entry}, inside.Buckets.IsFirstGreatest}
+use Rattle.sixel_palette.specs.inside.{Codes.{IsListed, IsPixelWord, color_of}, Nearest.IsIndexOf}
+use Rattle.sixel_palette.specs.inside.Nearest.{AreIndicesTo, AreNearest, IsIndex, IsNearestEntry}
 use Rattle.sixel_palette.proofs.{colors.Colors.rank-color_of, colors.Lists.increasing-le}
 use Rattle.sixel_palette.proofs.nearest_entries.Nearest.{nearest-nil, nearest-le}
 
@@ -59,16 +60,37 @@ Contains-word pixels codes pixel word is l opaque listed =
     let m = listed (color_at pixels pixel) (pixel, l, omega (arith, is.alpha), refl) in
     (m.0, m.1, grind (arith, nat_tests, get_or_default, code_from_listed))
 
--- a bound on opaque pixels' colors applies to that of an opaque pixel's word
-pub word_below : (pixels : List ℕ) (entries : List (List ℕ)) (pixel word : ℕ)
-    → IsPixelWord pixels pixel word → pixel < length pixels / 4 → 128 ≤ word % 256
-    → ((c : List ℕ) → IsShown pixels c → nearest entries c < no_entry)
-    → nearest entries (color_of (word / 256)) < no_entry
-word_below pixels entries pixel word is l opaque below =
-    rw is.color (below _ (pixel, l, omega (arith, is.alpha), refl))
-
 -- the index for a word is that of each pixel with the word
-pub index_from_word : (pixels : List ℕ) (entries : List (List ℕ)) (pixel word index : ℕ)
-    → IsPixelWord pixels pixel word → IsIndexOf entries word index
-    → IsIndex pixels entries pixel index
-index_from_word pixels entries pixel word index is h = grind (arith, nat_tests)
+pub index_from_word : (pixels codes color_indices : List ℕ) (pixel word index : ℕ)
+    → IsPixelWord pixels pixel word → IsIndexOf codes color_indices word index
+    → IsIndex pixels codes color_indices pixel index
+index_from_word pixels codes color_indices pixel word index is h = grind (arith, nat_tests)
+
+-- the index of one more pixel
+pub indices_more : (pixels codes color_indices indices : List ℕ) (pixel word index : ℕ)
+    → pixel < length indices → IsPixelWord pixels pixel word
+    → IsIndexOf codes color_indices word index
+    → AreIndicesTo pixels codes color_indices pixel indices
+    → AreIndicesTo pixels codes color_indices (pixel + 1) (set indices pixel index)
+indices_more pixels codes color_indices indices pixel word index l is own h =
+    below_more (λ k. IsIndex pixels codes color_indices k (get_or (set indices pixel index) k 0))
+    pixel (λ k m. rw (get_or-set_other indices pixel k index 0 (omega (arith, m))) (h k m))
+    (rw (get_or-set_same indices pixel index 0 l)
+    (index_from_word _ _ _ pixel word index is own))
+
+-- where the indices of the colors are those of nearest entries, so are the indices of the pixels
+pub indices_nearest : (pixels codes squares color_indices : List ℕ) (entries : List (List ℕ))
+    (indices : List ℕ) → AreNearest entries codes squares color_indices
+    → ((c : List ℕ) → IsShown pixels c → nearest entries c < no_entry)
+    → length indices ≡ length pixels / 4
+    → AreIndicesTo pixels codes color_indices (length pixels / 4) indices
+    → AreIndices pixels entries indices
+indices_nearest pixels codes squares color_indices entries indices near below size each = record {
+  one_each = size;
+  opaque = λ pixel l o.
+      let (k, inside, same, index) = (each pixel l).opaque o in
+      let c = color_at pixels pixel in
+      rw (← index) (nearest_from_entry entries c _ (below c (pixel, l, o, refl))
+      (rw same at (near k inside)));
+  hidden = λ pixel l. (each pixel l).hidden;
+}

@@ -3,7 +3,7 @@
 use Rattle.std.specs.Prelude.{◌≡◌, ℕ, ◌+◌, ◌*◌, ◌/◌, ◌%◌, ◌<◌, ◌≤◌, List, [], length}
 use Rattle.std.specs.Prelude.{slice_index, slice_index_or}
 use Rattle.sixel_palette.specs.declared.palette.nearest_entry.NearestEntry.{NearestEntry}
-use Rattle.sixel_palette.specs.Palette.{distance, nearest, color_at, IsOpaque, IsNearest, no_entry}
+use Rattle.sixel_palette.specs.Palette.{distance, nearest, color_at, IsOpaque, no_entry}
 use Rattle.sixel_palette.specs.inside.Codes.{color_of}
 
 -- this is the nearest entry of the color, if there is an entry: the first of the nearest
@@ -29,18 +29,20 @@ AreNearest entries codes squares indices =
     (k : ℕ) → k < length codes
     → IsNearestEntry entries (color_of (slice_index codes k)) (nearest_at squares indices k)
 
--- the palette index for a pixel of this word, 0 if it is transparent: the word is 256 times the
--- code of the pixel's color and its alpha
-pub record IsIndexOf (entries : List (List ℕ)) (word index : ℕ) : Type 0 where
-  pub opaque : 128 ≤ word % 256 → IsNearest entries (color_of (word / 256)) index
+-- the palette index for a pixel of this word: that of its code, 0 if the pixel is transparent
+pub record IsIndexOf (codes color_indices : List ℕ) (word index : ℕ) : Type 0 where
+  pub opaque : 128 ≤ word % 256 → (k : ℕ) × (k < length codes)
+      × (slice_index codes k ≡ word / 256) × (slice_index color_indices k ≡ index)
   pub hidden : word % 256 < 128 → index ≡ 0
 
--- the palette index of the nearest entry of an opaque pixel, 0 for a transparent one
-pub record IsIndex (pixels : List ℕ) (entries : List (List ℕ)) (pixel index : ℕ) : Type 0 where
-  pub opaque : IsOpaque pixels pixel → IsNearest entries (color_at pixels pixel) index
+-- the palette index of a pixel: that of a code of its color, 0 if the pixel is transparent
+pub record IsIndex (pixels codes color_indices : List ℕ) (pixel index : ℕ) : Type 0 where
+  pub opaque : IsOpaque pixels pixel → (k : ℕ) × (k < length codes)
+      × (color_of (slice_index codes k) ≡ color_at pixels pixel)
+      × (slice_index color_indices k ≡ index)
   pub hidden : slice_index pixels (4 * pixel + 3) < 128 → index ≡ 0
 
 -- so it is for each of the first pixels
-abbrev pub AreIndicesTo : List ℕ → List (List ℕ) → ℕ → List ℕ → Type 0
-AreIndicesTo pixels entries count indices =
-    (k : ℕ) → k < count → IsIndex pixels entries k (slice_index indices k)
+abbrev pub AreIndicesTo : List ℕ → List ℕ → List ℕ → ℕ → List ℕ → Type 0
+AreIndicesTo pixels codes color_indices count indices =
+    (k : ℕ) → k < count → IsIndex pixels codes color_indices k (slice_index indices k)
