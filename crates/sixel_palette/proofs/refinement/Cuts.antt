@@ -31,14 +31,6 @@ pub best_to-more : (gains : ℕ → ℕ) (channel : Channel) (n : ℕ) (cut : Cu
 unfolding best_to
 best_to-more gains channel n cut = grind (arith, nat_tests, best_to)
 
--- no gain is greater
-best_to-ge : (gains : ℕ → ℕ) (channel : Channel) (n : ℕ) (cut : Cut) (value : ℕ) → value < n
-    → gains value ≤ (best_to gains channel n cut).gain
-unfolding best_to
-best_to-ge gains channel zero cut value l = absurd (omega arith)
-best_to-ge gains channel (suc n) cut value l =
-    grind (arith, nat_tests, best_to-ge gains channel n cut value)
-
 -- values without a gain change nothing
 pub best_to-same : (gains : ℕ → ℕ) (channel : Channel) (m n : ℕ) (cut : Cut) → m ≤ n
     → ((value : ℕ) → m ≤ value → value < n → gains value ≡ 0)
@@ -59,46 +51,6 @@ gain-same a b c d same other = λ i. gain (λ k. same k i) (λ k. other k i)
 pub prefix-more : (sums : List ColorSums) (n k : ℕ) (d : ColorSums) → n < length sums
     → prefix_sums sums (n + 1) k ≡ prefix_sums sums n k + total (get_or sums n d) k
 prefix-more sums n k d l = sum_by_more (λ s. total s k) sums n d l
-
-pub suffix-more : (sums : List ColorSums) (n k : ℕ) (d : ColorSums) → n < length sums
-    → suffix_sums sums n k ≡ total (get_or sums n d) k + suffix_sums sums (n + 1) k
-suffix-more sums n k d l = omega (arith, sum_by-drop_more (λ s. total s k) sums n d l)
-
--- sums of no pixel are 0
-pub no_totals : (s : ColorSums) → s.count ≡ 0 → (k : ℕ) → total s k ≡ 0
-no_totals s e k = grind (arith, nat_tests)
-
--- a value without a pixel gains no more than the one before it
-skipped_gain : (sums : List ColorSums) (sides : Sides) (gains : ℕ → ℕ) (channel : Channel)
-    (cut : Cut)
-    (n : ℕ) (s : ColorSums) → AreGains sums sides gains → n < sides.high - sides.low
-    → n < length sums → s ≡ get_or sums n s → s.count ≡ 0
-    → gains (sides.low + n) ≤ (best_to gains channel (sides.low + n) cut).gain
-skipped_gain sums sides gains channel cut zero s are l within own none =
-    let first : prefix_sums sums 1 0 ≡ 0 = grind (arith, nat_tests, prefix-more) in
-    omega (arith, are.at 0 l, gain-none (prefix_sums sums 1) (suffix_sums sums 1) (inl first))
-skipped_gain sums sides gains channel cut (suc n) s are l within own none =
-    let zero_here : (k : ℕ) → total (get_or sums (suc n) s) k ≡ 0 =
-    λ k. grind (arith, nat_tests, no_totals) in
-    let next : n + 1 ≡ suc n = omega arith in
-    let same =
-    gain-same (prefix_sums sums (suc n + 1)) (prefix_sums sums (suc n))
-    (suffix_sums sums (suc n + 1)) (suffix_sums sums (suc n))
-    (λ k. omega (arith, prefix-more sums (suc n) k s within, zero_here k))
-    (λ k. omega (arith, suffix-more sums (suc n) k s within, zero_here k)) in
-    let le = best_to-ge gains channel (sides.low + suc n) cut (sides.low + n) (omega arith) in
-    omega (arith, are.at (suc n) l, rw next at (are.at n (omega arith)), same)
-
--- so it is skipped
-pub skipped : (sums : List ColorSums) (sides : Sides) (gains : ℕ → ℕ) (channel : Channel)
-    (cut : Cut)
-    (n : ℕ) (s : ColorSums) → AreGains sums sides gains → n < sides.high - sides.low
-    → n < length sums → s ≡ get_or sums n s → s.count ≡ 0
-    → best_to gains channel (sides.low + (n + 1)) cut ≡ best_to gains channel (sides.low + n) cut
-skipped sums sides gains channel cut n s are l within own none =
-    let place : sides.low + (n + 1) ≡ sides.low + n + 1 = omega arith in
-    rw place (best_to-more gains channel (sides.low + n) cut ∙ better-kept _ _
-    (skipped_gain sums sides gains channel cut n s are l within own none))
 
 -- ---- sums at each value of a channel
 

@@ -352,16 +352,14 @@ fn best_cut(
     let mut best = cut;
     let mut left = ColorSums::none();
     for position in 0..sides.high - sides.low {
-        if lower[position].count > 0 {
-            left = left.plus(lower[position]);
-            let gain = left.gain(upper[position]);
-            if best.gain < gain {
-                best = Cut {
-                    channel,
-                    value: (sides.low + position) as u8,
-                    gain,
-                };
-            }
+        left = left.plus(lower[position]);
+        let gain = left.gain(upper[position]);
+        if best.gain < gain {
+            best = Cut {
+                channel,
+                value: (sides.low + position) as u8,
+                gain,
+            };
         }
     }
     best

@@ -2,11 +2,10 @@ use Rattle.std.proofs.Common.{◌≡◌, ℕ, ◌+◌, ◌<◌, length, ap, sym,
 use Rattle.std.proofs.lemmas.List.Sums.{sum_by_more_le}
 use Rattle.sixel_palette.specs.declared.palette.color_sums.ColorSums.{ColorSums}
 use Rattle.sixel_palette.specs.declared.{palette.gain_cut.Cut.Cut, palette.gain_cut.Sides.Sides}
-use Rattle.sixel_palette.specs.GainCut.{best_to, gain}
+use Rattle.sixel_palette.specs.GainCut.{best_to, better, gain}
 use Rattle.sixel_palette.specs.inside.{Boxes.AreGains, Sums.{prefix_sums, suffix_sums, total}}
 use Rattle.sixel_palette.proofs.refinement.Cuts.{best_to-more, best_to-same, better-kept}
-use Rattle.sixel_palette.proofs.refinement.Cuts.{better-taken, gain-same, no_totals, prefix-more}
-use Rattle.sixel_palette.proofs.refinement.Cuts.{skipped}
+use Rattle.sixel_palette.proofs.refinement.Cuts.{better-taken, gain-same, prefix-more}
 use Rattle.sixel_palette.proofs.palette.gain_cut.best_cut.Goals as goal
 
 pub loop-position-init : goal.loop-position-init
@@ -35,58 +34,38 @@ loop-position-preserved c =
     let low = c.args.sides.low in
     let n = c.loop-position.position in
     let h = c.loop-position.invariant in
-    let s = c.index-lower-position.result in
+    let item = c.index-lower-position in
     let inside : n < length lower = omega (arith, c.requires.lower, c.loop-position-test.true) in
     let next : low + (n + 1) ≡ low + n + 1 = omega arith in
-    let old = λ (gains : ℕ → ℕ). best_to gains c.args.channel (low + n) c.args.cut in
     let cut : ℕ → Cut = λ g. record { channel = c.args.channel; value = low + n; gain = g } in
-    let right = λ (x : ColorSums) (k : ℕ). c.requires.sums n k x inside in
-    let more = λ (x : ColorSums) (own : x ≡ get_or lower n x) (k : ℕ).
-    prefix-more lower n k x inside ∙ ap (λ (y : ColorSums). prefix_sums lower n k + total y k)
-    (sym own) in
-    elim c.if-lower-position-gt0.branch [
-      | goal.then-lower-position-gt0+then-best-gain w ↦
-          let item = w.index-lower-position-then-lower-position-gt0 in
-          let left : (k : ℕ) → total w.plus-left.result k ≡ prefix_sums lower (n + 1) k = λ k.
-          omega (arith, w.plus-left.ensures.sums k, h.left k, more item.result item.is k) in
-          rw (w.left-is, w.best-is) (record {
+    let left : (k : ℕ) → total c.plus-left.result k ≡ prefix_sums lower (n + 1) k = λ k.
+    omega (
+      arith,
+      c.plus-left.ensures.sums k,
+      h.left k,
+      prefix-more lower n k item.result inside,
+      ap (λ (y : ColorSums). total y k) item.is,
+    ) in
+    let more : (gains : ℕ → ℕ) → AreGains lower c.args.sides gains
+    → best_to gains c.args.channel (low + (n + 1)) c.args.cut
+    ≡ better c.loop-position.best (cut c.gain-gain.result) = λ gains are.
+    let gain =
+    c.gain-gain.ensures
+    ∙ gained lower c.args.upper.now c.args.sides gains n c.plus-left.result
+    c.index-upper-position.result are c.loop-position-test.true left
+    (λ k. c.requires.sums n k _ inside) c.index-upper-position.is in
+    rw next (best_to-more gains c.args.channel (low + n) c.args.cut
+    ∙ (λ i. better (sym (h.best gains are) i) (cut (sym gain i)))) in
+    elim c.if-best-gain.branch [
+      | goal.then-best-gain w ↦
+          rw w.best-is (record {
             left = left;
-            best = λ gains are.
-                let g =
-                w.gain-gain.ensures
-                ∙ gained lower c.args.upper.now c.args.sides gains n w.plus-left.result
-                w.index-upper-position.result are c.loop-position-test.true left (right _)
-                w.index-upper-position.is in
-                let own = ap (λ (x : Cut). x.gain) (h.best gains are) in
-                rw next (ap cut g ∙ sym (best_to-more _ _ _ _ ∙ better-taken (old gains)
-                (cut (gains (low + n))) (omega (arith, own, g, w.if-best-gain.true))));
+            best = λ gains are. sym (more gains are ∙ better-taken _ _ w.if-best-gain.true);
           })
-      | goal.then-lower-position-gt0+else-best-gain w ↦
-          let item = w.index-lower-position-then-lower-position-gt0 in
-          let left : (k : ℕ) → total w.plus-left.result k ≡ prefix_sums lower (n + 1) k = λ k.
-          omega (arith, w.plus-left.ensures.sums k, h.left k, more item.result item.is k) in
-          rw (w.left-is, w.best-is) (record {
+      | goal.else-best-gain w ↦
+          rw w.best-is (record {
             left = left;
-            best = λ gains are.
-                let g =
-                w.gain-gain.ensures
-                ∙ gained lower c.args.upper.now c.args.sides gains n w.plus-left.result
-                w.index-upper-position.result are c.loop-position-test.true left (right _)
-                w.index-upper-position.is in
-                let own = ap (λ (x : Cut). x.gain) (h.best gains are) in
-                rw next (h.best gains are ∙ sym (best_to-more _ _ _ _ ∙ better-kept (old gains)
-                (cut (gains (low + n))) (omega (arith, own, g, w.if-best-gain.false))));
-          })
-      | goal.else-lower-position-gt0 w ↦
-          let none : s.count ≡ 0 =
-          omega (arith, ap (λ (x : ColorSums). x.count) c.index-lower-position.is) in
-          rw (w.left-is, w.best-is) (record {
-            left = λ k.
-                omega (arith, h.left k, more s c.index-lower-position.is k, no_totals s none k);
-            best = λ gains are.
-                h.best gains are
-                ∙ sym (skipped lower c.args.sides gains _ _ n s are c.loop-position-test.true inside
-                c.index-lower-position.is none);
+            best = λ gains are. sym (more gains are ∙ better-kept _ _ w.if-best-gain.false);
           })
     ]
 
