@@ -37,7 +37,6 @@ pub fn add_farthest(
     assignment: Assignment,
     room: usize,
 ) -> Result<Topped, AllocError>
-    requires some { 0 < length codes.now }
     requires ascending { IsStrictlyIncreasing codes.now }
     requires small { AreColorCodes codes.now }
     requires room { room ≤ 256 }
@@ -54,6 +53,13 @@ pub fn add_farthest(
     let mut colors = assignment.colors;
     let mut traversal = assignment.traversal;
     let mut witnesses = Vec::new(alloc);
+    if codes.is_empty() {
+        return Ok(Topped {
+            colors,
+            witnesses,
+            traversal,
+        });
+    }
     let mut farthest = farthest_of(codes, &traversal.squares, &traversal.buckets);
     for index in colors.len()..room {
         if traversal.squares[farthest] <= NEAR_ENOUGH {

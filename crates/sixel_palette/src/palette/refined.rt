@@ -171,18 +171,6 @@ fn refined_entries(
     requires weighed { IsWeighed codes.now counts.now }
     ensures { IfOk result (AreRefinedEntries codes.now counts.now room) }
 {
-    if codes.is_empty() {
-        return Ok(RefinedEntries {
-            colors: Vec::new(alloc),
-            indices: Vec::new(alloc),
-            error: 0,
-            opaque: 0,
-            is_flat: true,
-            initial: Vec::new(alloc),
-            witnesses: Vec::new(alloc),
-            apart: 0,
-        });
-    }
     let start = start_of(alloc, codes, counts, room)?;
     let topped = add_farthest(alloc, codes, start.assignment, room)?;
     let Topped {

@@ -1,11 +1,23 @@
-use Rattle.std.proofs.Common.{◌<◌, ◌++◌, length, get_or, map, sym, append_assoc, append-nil, inl}
-use Rattle.std.proofs.Common.{inr, arith}
+use Rattle.std.proofs.Common.{◌≡◌, ◌<◌, ◌++◌, [], append-nil, append_assoc, get_or, length, map}
+use Rattle.std.proofs.{Common.{arith, inl, inr, sym}, lemmas.Bool.Decides.nat_tests}
 use Rattle.std.proofs.lemmas.{List.{get_or_read, length_push, map_push}, List.Elements.All-push}
 use Rattle.sixel_palette.specs.Refined.{IsFarOff, IsRegisterColor, register_color}
 use Rattle.sixel_palette.specs.inside.Codes.{IsListed, color_of}
 use Rattle.sixel_palette.proofs.traversal.Farthest.{farthest_from_position}
 use Rattle.sixel_palette.proofs.refinement.{Refined.register_color-shown, Tops.far_off_more}
 use Rattle.sixel_palette.proofs.palette.farthest_on_top.add_farthest.Goals as goal
+
+pub returns-then-is_empty-clause-top : goal.returns-then-is_empty-clause-top
+returns-then-is_empty-clause-top c =
+    let none : length c.args.codes.now ≡ 0 = grind (arith, nat_tests) in
+    record {
+      tops = [];
+      whole = sym (append-nil c.args.assignment.colors.items);
+      order = λ i d l. absurd (omega (arith, l));
+      full = inr (λ d m. absurd (omega (arith, m.1)));
+      none = λ e. c.new-witnesses.ensures.items;
+      some = λ l. absurd (omega (arith, l));
+    }
 
 pub loop-index-init : goal.loop-index-init
 loop-index-init c =

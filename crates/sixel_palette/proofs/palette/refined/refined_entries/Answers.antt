@@ -1,6 +1,4 @@
-use Rattle.std.proofs.Common.{◌≡◌, ◌∙◌, [], length, inr, refl, ap, arith, rules}
-use Rattle.std.proofs.lemmas.{Bool.Decides.nat_tests, List.nil_from_length, List.Elements.All-nil}
-use Rattle.sixel_palette.specs.Refined.{IsRegisterColor, sum_to}
+use Rattle.std.proofs.Common.{◌∙◌, arith}
 use Rattle.sixel_palette.proofs.refinement.{Counts.{error_is, error-small}, Tops.tops_longer}
 use Rattle.sixel_palette.proofs.palette.refined.refined_entries.Goals as goal
 
@@ -12,42 +10,6 @@ summed-requires-clause-small c =
       error_is _ _ _ _ _ weighed.same c.in_ok-topped.ensures.relaxed,
       error-small c.in_ok-topped.topped.colors.items _ _ weighed,
     ))
-
-pub returns-then-is_empty : goal.returns-then-is_empty
-unfolding sum_to
-returns-then-is_empty c =
-    let none : length c.args.codes.now ≡ 0 = grind (arith, nat_tests) in
-    let uncounted : length c.args.counts.now ≡ 0 = omega (arith, c.requires.weighed.same) in
-    let no_codes = nil_from_length c.args.codes.now none in
-    let colors = c.new.ensures.items in
-    let initial = c.new-then-is_empty-2.ensures.items in
-    let witnesses = c.new-then-is_empty-3.ensures.items in
-    record {
-      shown = rw colors (All-nil IsRegisterColor);
-      few = omega (arith, ap length colors);
-      some = λ l. absurd (omega (arith, l));
-      initial_shown = rw initial (All-nil IsRegisterColor);
-      initial_few = omega (arith, ap length initial);
-      base = [];
-      whole = λ l. (rw no_codes initial, rw no_codes refl);
-      cut = λ l. absurd (omega arith);
-      falls = grind arith;
-      top = record {
-        tops = [];
-        whole = colors;
-        order = λ i d l. absurd (omega arith);
-        full = inr (λ d h. absurd (omega (arith, h.1)));
-        none = λ e. witnesses;
-        some = λ l. absurd (omega (arith, l));
-      };
-      same = omega (arith, ap length c.new-then-is_empty.ensures.items);
-      squares = [];
-      nearest = λ k l. absurd (omega (arith, l));
-      error = grind arith;
-      opaque = rw (nil_from_length c.args.counts.now uncounted) refl;
-      flat = rw no_codes refl;
-      apart = rw witnesses (search rules);
-    }
 
 pub returns : goal.returns
 returns c =
