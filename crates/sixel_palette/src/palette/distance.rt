@@ -10,15 +10,10 @@ pub fn distance(a: [u8; 3], b: [u8; 3]) -> u32
     ensures value { result ≡ distance a b }
     ensures small { result < no_entry }
 {
-    square_gap(a[0], b[0]) + square_gap(a[1], b[1]) + square_gap(a[2], b[2])
-}
-
-/// The square of the difference of two channels.
-fn square_gap(a: u8, b: u8) -> u32
-    ensures value { result ≡ abs_diff a b * abs_diff a b }
-    ensures small { result ≤ 65025 }
-{
-    wrapped_gap(u32::from(a), u32::from(b))
+    let red = wrapped_gap(u32::from(a[0]), u32::from(b[0]));
+    let green = wrapped_gap(u32::from(a[1]), u32::from(b[1]));
+    let blue = wrapped_gap(u32::from(a[2]), u32::from(b[2]));
+    red + green + blue
 }
 
 /// The squared distance of a code's color to another one, without a branch.

@@ -1,13 +1,9 @@
-use Rattle.std.proofs.{Common.{◌/◌, arith, length}, lemmas.List.get_or_default}
+use Rattle.std.proofs.{Common.{◌/◌, arith, length}}
 use Rattle.sixel_palette.specs.declared.mapping.Mapping.{Mapping}
 use Rattle.sixel_palette.proofs.mapped_images.DitheredIndices.{AreRowsOf}
 use Rattle.sixel_palette.proofs.mapped_images.GraySource.{dithered-count, dithered-entry}
 use Rattle.sixel_palette.proofs.refinement.Refinement.{refinement-some}
 use Rattle.sixel_palette.proofs.dithering.map_to_refined.Goals as goal
-
-pub returns-clause-bytes : goal.returns-clause-bytes
-returns-clause-bytes c = λ k d inside.
-    omega (arith, get_or_default c.args.pixels.now k d 0 inside, c.type_inv.pixels k)
 
 pub returns-clause-count : goal.returns-clause-count
 returns-clause-count c =

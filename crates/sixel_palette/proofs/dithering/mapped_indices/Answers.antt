@@ -7,15 +7,6 @@ use Rattle.sixel_palette.proofs.mapped_images.PaletteError.{held-none}
 use Rattle.std.proofs.lemmas.{Bool.Decides.nat_tests, Result.IfOk-weaker}
 use Rattle.sixel_palette.proofs.dithering.mapped_indices.Goals as goal
 
-pub returns-in_ok-nearest-in-Off : goal.returns-in_ok-nearest-in-Off
-returns-in_ok-nearest-in-Off c =
-    let image = c.args.image.now in
-    let m = mapped_of c.args.mapping image.width image.pixels.now image.colors.now in
-    IfOk-weaker c.chosen_indices.result _ _ (λ indices have.
-    subst (λ (d : Dither). HaveIndices d m indices.items) (sym c.in-Off.is)
-    (rw c.in_ok-tolerance.ensures at have))
-    c.chosen_indices.ensures
-
 pub returns-in-Diffusion : goal.returns-in-Diffusion
 returns-in-Diffusion c =
     let image = c.args.image.now in

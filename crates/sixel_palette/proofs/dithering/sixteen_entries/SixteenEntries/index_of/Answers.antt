@@ -1,5 +1,5 @@
-use Rattle.std.proofs.{Common.{◌≡◌, get_or, inl, inr, refl, arith}, lemmas.Bool.cases_lt}
-use Rattle.sixel_palette.proofs.nearest_entries.SixteenEntries.{IsIndex-before, IsIndex-keys}
+use Rattle.std.proofs.{Common.{◌≡◌, get_or, inl, inr, arith}, lemmas.Bool.cases_lt}
+use Rattle.sixel_palette.proofs.nearest_entries.SixteenEntries.{IsIndex-keys}
 use Rattle.sixel_palette.proofs.nearest_entries.SixteenEntries.{byte_lanes}
 use Rattle.sixel_palette.proofs.dithering.sixteen_entries.SixteenEntries.index_of.Goals as goal
 
@@ -17,13 +17,6 @@ loop-lane-preserved c =
         | inr above ↦ (h.reached.0, h.reached.1, omega (arith, h.reached.2, above))
       ];
     })
-
-pub returns-clause-index : goal.returns-clause-index
-returns-clause-index c = λ m all same are.
-    let entry = c.requires.before c.in-Some.index c.in-Some.is in
-    rw (c.in-Some.is) (IsIndex-before m _ c.in-Some.index c.args.above
-    (omega (arith, all, entry)) (omega (arith, same, c.if-tolerance-gt0.true))
-    (c.if-is_entry.ensures m.colors m.tolerance refl are))
 
 pub returns-2-clause-index : goal.returns-2-clause-index
 returns-2-clause-index c = λ m all same are.
