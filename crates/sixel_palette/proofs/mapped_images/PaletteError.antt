@@ -10,6 +10,7 @@ use Rattle.sixel_palette.specs.declared.dither.Dither.TheVariants.{Diffusion}
 use Rattle.sixel_palette.specs.declared.mapping.Tolerance.TheVariants.{Auto}
 use Rattle.sixel_palette.proofs.{colors.Colors.Contains-nearest, colors.Distance.distance_self}
 use Rattle.sixel_palette.proofs.nearest_entries.Nearest.{nearest-cap, nearest-le}
+use Rattle.sixel_palette.proofs.refinement.Sums.{sum_to-more, sum_to-part}
 
 -- the number of a transparent pixel is 0
 pub number-dark : (number : List ℕ → ℕ) (pixels : List ℕ) (pixel : ℕ)
@@ -21,12 +22,6 @@ pub number-light : (number : List ℕ → ℕ) (pixels : List ℕ) (pixel : ℕ)
     → opaque_number number pixels pixel ≡ number (color_at pixels pixel)
 number-light number pixels pixel light = grind (arith, nat_tests)
 
--- equal numbers have equal sums
-pub sum_to-same : (f g : ℕ → ℕ) (n : ℕ) → ((k : ℕ) → k < n → f k ≡ g k) → sum_to f n ≡ sum_to g n
-unfolding sum_to
-sum_to-same f g zero same = refl
-sum_to-same f g (suc n) same = grind (arith, nat_tests, sum_to-same f g n)
-
 -- sums of numbers that are not greater
 pub sum_to-le : (f g : ℕ → ℕ) (k n : ℕ) → ((i : ℕ) → i < n → f i ≤ k * g i)
     → sum_to f n ≤ k * sum_to g n
@@ -34,12 +29,6 @@ unfolding sum_to
 sum_to-le f g k zero le = omega arith
 sum_to-le f g k (suc n) le =
     omega (arith, sum_to-le f g k n (λ i l. le i (omega arith)), le n (omega arith))
-
--- the sum is at least each number
-pub sum_to-part : (f : ℕ → ℕ) (n i : ℕ) → i < n → f i ≤ sum_to f n
-unfolding sum_to
-sum_to-part f zero i l = absurd (omega arith)
-sum_to-part f (suc n) i l = grind (arith, nat_tests, sum_to-part f n i, cases_lt i n)
 
 -- ---- the square root
 
@@ -64,9 +53,11 @@ module _ (colors : List (List ℕ)) (pixels : List ℕ) where
   pub held-none : All (λ p. length p ≡ 3) colors → summed_error colors pixels ≡ 0 → (pixel : ℕ)
       → pixel < length pixels / 4 → IsOpaque pixels pixel → Contains colors (color_at pixels pixel)
   held-none three none pixel l light =
-      let part = sum_to-part (opaque_number (nearest colors) pixels) (length pixels / 4) pixel l in
+      let number = opaque_number (nearest colors) pixels in
+      let part = sum_to-part number (pixel + 1) (length pixels / 4) (omega arith) in
+      let more = sum_to-more number pixel in
       let own = number-light (nearest colors) pixels pixel light in
-      Contains-nearest colors (color_at pixels pixel) three refl (omega (arith, none, part, own))
+      Contains-nearest colors (color_at pixels pixel) three refl (omega (arith, none, part, more, own))
 
   -- as one has whose automatic tolerance is 0
   pub error-none : (strength : ℕ) → tolerance_of (Diffusion strength) Auto colors pixels ≡ 0

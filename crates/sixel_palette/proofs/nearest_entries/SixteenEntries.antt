@@ -277,21 +277,6 @@ entry_distance-same colors s t tolerance k are l low code =
     (omega (arith, all, code, red, green, blue, low 0, low 1, low 2))
     (omega (arith, all, code, red, green, blue, low 0, low 1, low 2))
 
-nearer-same : (colors : List (List ℕ)) (c : List ℕ) (e : ℕ) (second : Option ℕ)
-    → entry_distance colors c e ≡ 0 → nearer_entry colors c (Some e) second ≡ Some e
-nearer-same colors c e None none = refl
-nearer-same colors c e (Some b) none = grind (arith, nat_tests)
-
-pub IsIndex-before : (m : Mapped) (c : List ℕ) (e : ℕ) (second : Option ℕ)
-    → e < length m.colors → 0 < m.tolerance → entry_distance m.colors c e ≡ 0
-    → IsIndex m c (nearer_entry m.colors c (Some e) second) e
-IsIndex-before m c e second l some none =
-    rw (nearer-same m.colors c e second none) (record {
-      entry = l;
-      kept = λ entry is near. grind (arith, is);
-      nearest = λ beyond. absurd (omega (arith, beyond e refl, none, some));
-    })
-
 -- so it is of the keys in lanes
 pub IsIndex-keys : (m : Mapped) (s : SixteenEntries) (t keys : List ℕ) (first second : Option ℕ)
     (i least : ℕ) → length m.colors ≡ 16 → AreSixteen m.colors m.tolerance s

@@ -6,9 +6,9 @@ use Rattle.std.proofs.lemmas.List.{length-set, length-replicate, get_or-replicat
 use Rattle.std.proofs.{lemmas.List.{get_or-set_other, take_all}, lemmas.List.Sums.sum_by_more}
 use Rattle.std.specs.List.{sum}
 use Rattle.sixel_base.specs.Limits.{area_limit}
-use Rattle.sixel_palette.specs.{GainCut.bin_step, Palette.{nearest, color_at, no_entry, IsShown}}
-use Rattle.sixel_palette.specs.Refined.{sum_to, pixel_error, opaque_bins, opaque_number}
-use Rattle.sixel_palette.specs.{Refined.summed_error, Spread.near_number}
+use Rattle.sixel_palette.specs.{GainCut.bin_step, Palette.{nearest, no_entry}}
+use Rattle.sixel_palette.specs.Refined.{sum_to, opaque_bins, opaque_number}
+use Rattle.sixel_palette.specs.{Spread.near_number}
 use Rattle.sixel_palette.specs.{inside.Assignment.IsWeighed, inside.Codes.{color_of, IsPixelWord}}
 use Rattle.sixel_palette.specs.inside.Counts.{dot, AreCounts, counted_error}
 use Rattle.sixel_palette.specs.{inside.Nearest.AreNearest, inside.Refinement.near_count}
@@ -153,13 +153,6 @@ count-le pixels codes counts count position within h =
       h.sums (λ _. 1),
       opaque-le pixels count,
     )
-
--- without an opaque pixel there is no error
-pub error_none : (entries : List (List ℕ)) (pixels : List ℕ) → ((c : List ℕ) → ¬ IsShown pixels c)
-    → summed_error entries pixels ≡ 0
-error_none entries pixels none =
-    sum_to-zero (pixel_error entries pixels) (length pixels / 4)
-    (λ pixel l. grind (arith, nat_tests, none (color_at pixels pixel)))
 
 -- the pixels of the codes are the opaque pixels
 pub pixels_from_counts : (pixels codes counts : List ℕ)

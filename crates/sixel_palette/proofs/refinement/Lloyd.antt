@@ -11,10 +11,10 @@ use Rattle.sixel_palette.specs.declared.palette.bins.Bin.{Bin}
 use Rattle.sixel_palette.specs.declared.palette.color_sums.ColorSums.{ColorSums}
 use Rattle.sixel_palette.specs.declared.palette.nearest_entry.NearestEntry.{NearestEntry}
 use Rattle.sixel_palette.specs.{ColorSums.{Pixels, mean_or, sums_of}, GainCut.corner}
-use Rattle.sixel_palette.specs.Lloyd.{has_entry, improved_entries, mean_bytes, moved_entries}
+use Rattle.sixel_palette.specs.Lloyd.{has_entry, mean_bytes, moved_entries}
 use Rattle.sixel_palette.specs.{Lloyd.nearest_index, Palette.{distance, nearest, no_entry}}
-use Rattle.sixel_palette.specs.inside.{Counts.counted_error, Nearest.IsNearestEntry, Sums.AreBinsOf}
-use Rattle.sixel_palette.specs.inside.Sums.{AreIndicesBy, IsWholeBin, counted_pixels, entry_sums}
+use Rattle.sixel_palette.specs.inside.{Nearest.IsNearestEntry, Sums.AreBinsOf}
+use Rattle.sixel_palette.specs.inside.Sums.{AreIndicesBy, IsWholeBin, entry_sums}
 use Rattle.sixel_palette.specs.inside.Sums.{total}
 use Rattle.sixel_palette.proofs.refinement.Sums.{mean_or-same}
 
@@ -102,17 +102,3 @@ moved_is pixels entries moved bins are whole size means =
     (same ∙ sym (get_or-map-range_with_len f 0 n k k d inside (omega arith))))
 
 -- ---- the better entries
-
-pub improved_kept : (codes counts : List ℕ) (entries moved : List (List ℕ))
-    → moved ≡ moved_entries (counted_pixels codes counts)
-    (moved_entries (counted_pixels codes counts) entries)
-    → counted_error entries codes counts ≤ counted_error moved codes counts
-    → entries ≡ improved_entries (counted_pixels codes counts) entries
-improved_kept codes counts entries moved is l = grind (arith, nat_tests)
-
-pub improved_taken : (codes counts : List ℕ) (entries moved : List (List ℕ))
-    → moved ≡ moved_entries (counted_pixels codes counts)
-    (moved_entries (counted_pixels codes counts) entries)
-    → counted_error moved codes counts < counted_error entries codes counts
-    → moved ≡ improved_entries (counted_pixels codes counts) entries
-improved_taken codes counts entries moved is l = grind (arith, nat_tests)

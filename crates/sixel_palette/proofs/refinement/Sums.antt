@@ -1,5 +1,5 @@
 -- Sums over pixels, their gain, and the sums over bins.
-use Rattle.std.proofs.Common.{◌≡◌, ◌≢◌, ◌⊎◌, ℕ, zero, suc, ◌+◌, ◌*◌, ◌/◌, ◌<◌, ◌≤◌, Bool, true}
+use Rattle.std.proofs.Common.{◌≡◌, ◌≢◌, ◌⊎◌, ℕ, zero, suc, ◌+◌, ◌*◌, ◌<◌, ◌≤◌, Bool, true}
 use Rattle.std.proofs.Common.{◌&&◌, List, [], ◌∷◌, length, get_or, take, drop, refl, ◌∙◌, ⊎_elim}
 use Rattle.std.proofs.{Common.{add-one, add-suc, add-zero, arith}, lemmas.Bool.cases_lt}
 use Rattle.std.proofs.{lemmas.Bool.Decides.nat_tests, lemmas.List.Sums.sum_by-cons}
@@ -7,7 +7,7 @@ use Rattle.std.proofs.lemmas.List.Sums.{sum_by-take-le, sum_by-take-drop}
 use Rattle.std.specs.List.{sum_by}
 use Rattle.sixel_base.specs.Limits.{area_limit}
 use Rattle.sixel_palette.specs.{declared.palette.bins.Bin.Bin, ColorSums.{Pixels, mean_or, sums_of}}
-use Rattle.sixel_palette.specs.{GainCut.{Box, box_sums, corner, gain, mean_gap}, Refined.sum_to}
+use Rattle.sixel_palette.specs.{GainCut.{Box, box_sums, corner, gain}, Refined.sum_to}
 use Rattle.sixel_palette.specs.{inside.Boxes.binned_pixels, inside.Sums.{AreBinsOf, total}}
 
 -- ---- sums of sequences
@@ -82,13 +82,6 @@ sum_by_zero f (x ∷ xs) h =
 pub gain-none : (a b : ℕ → ℕ) → (a 0 ≡ 0) ⊎ (b 0 ≡ 0) → gain a b ≡ 0
 unfolding gain
 gain-none a b h = grind (arith, nat_tests)
-
--- the gain of two parts with pixels
-pub gain-some : (a b : ℕ → ℕ) → 0 < a 0 → 0 < b 0 → gain a b
-    ≡ (mean_gap (a 1) (a 0) (b 1) (b 0) + 2 * mean_gap (a 2) (a 0) (b 2) (b 0)
-    + mean_gap (a 3) (a 0) (b 3) (b 0)) * (16 * a 0 * b 0 / (a 0 + b 0)) / 65536
-unfolding gain
-gain-some a b some other = grind (arith, nat_tests)
 
 -- ---- means
 

@@ -68,6 +68,7 @@ impl ColorSums {
     }
 
     /// The code of the mean color, rounded down, or 0 if there is no pixel.
+    #[tactic(auto, unfolding(crate::specs::Lloyd::mean_bytes, crate::specs::inside::Codes::color_of))]
     pub fn mean_code(self) -> u32
         ensures small { result < code_count }
         ensures mean { color_of result ≡ mean_bytes (total self) }
@@ -101,6 +102,7 @@ impl ColorSums {
     ///
     /// Green counts twice, because eyes tell it apart best. It is in units of 1/16, and rounded
     /// down: a guide.
+    #[tactic(auto, unfolding(crate::specs::GainCut::gain))]
     pub fn gain(self, other: ColorSums) -> u64
         ensures { result ≡ gain (total self) (total other) }
     {
