@@ -11,6 +11,7 @@ use Rattle.sixel_palette.specs.declared.mapping.Tolerance.TheVariants.{Auto}
 use Rattle.sixel_palette.proofs.{colors.Colors.Contains-nearest, colors.Distance.distance_self}
 use Rattle.sixel_palette.proofs.nearest_entries.Nearest.{nearest-cap, nearest-le}
 use Rattle.sixel_palette.proofs.refinement.Sums.{sum_to-more, sum_to-part}
+pub use Rattle.sixel_palette.proofs.refinement.Sums.{sum_to-same}
 
 -- the number of a transparent pixel is 0
 pub number-dark : (number : List ℕ → ℕ) (pixels : List ℕ) (pixel : ℕ)

@@ -6,6 +6,7 @@ ghost use Rattle.sixel_palette.specs.{ColorSums.{share, mean_or, mean_percent}, 
 ghost use Rattle.sixel_palette.specs.{GainCut.{gain, mean_gap}, Lloyd.mean_bytes};
 ghost use Rattle.sixel_palette.specs.{Refined.IsRegisterColor, inside.Codes.{code_count, color_of}};
 
+use crate::palette::colors::code_of;
 use crate::palette::register_color::percent_color;
 
 /// The number of some pixels and the sums of their channels.
@@ -68,18 +69,17 @@ impl ColorSums {
     }
 
     /// The code of the mean color, rounded down, or 0 if there is no pixel.
-    #[tactic(auto, unfolding(crate::specs::Lloyd::mean_bytes, crate::specs::inside::Codes::color_of))]
+    #[tactic(auto, unfolding(crate::specs::Lloyd::mean_bytes))]
     pub fn mean_code(self) -> u32
         ensures small { result < code_count }
         ensures mean { color_of result ≡ mean_bytes (total self) }
     {
-        if self.count == 0 {
-            return 0;
-        }
-        let red = mean_byte(self.red, self.count);
-        let green = mean_byte(self.green, self.count);
-        let blue = mean_byte(self.blue, self.count);
-        65536 * red + 256 * green + blue
+        let count = self.count.max(1);
+        code_of([
+            (self.red / count) as u8,
+            (self.green / count) as u8,
+            (self.blue / count) as u8,
+        ])
     }
 
     /// The register color next to the mean, or `color` if there is no pixel.
@@ -115,16 +115,6 @@ impl ColorSums {
         let blue = mean_gap(self.blue, self.count, other.blue, other.count);
         scaled(red + 2 * green + blue, weight)
     }
-}
-
-/// A mean, rounded down.
-fn mean_byte(sum: u64, count: u64) -> u32
-    requires some { 0 < count }
-    requires mean { sum ≤ 255 * count }
-    ensures value { result ≡ sum / count }
-    ensures small { result ≤ 255 }
-{
-    (sum / count) as u32
 }
 
 /// The percentage next to a mean.
