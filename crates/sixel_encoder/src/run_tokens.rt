@@ -1,11 +1,11 @@
 //! A row of sixels as run-length tokens: single sixels, and repeats with a count.
 
 ghost use Rattle.std.specs.Prelude.{◌≡◌, ◌<◌, ◌++◌, OnOk, All, string_bytes};
-ghost use Rattle.sixel_encoder.specs.RunTokens.{One, Many, spelling, Spells, IsShortest, written};
-ghost use Rattle.sixel_encoder.specs.RunTokens.{run_tokens, rest_tokens, row_tokens};
+ghost use Rattle.sixel_encoder.specs.RunTokens.{Many, spelling, Spells, IsShortest, written};
+ghost use Rattle.sixel_encoder.specs.RunTokens.{run_tokens, row_tokens};
 
 use crate::decimal::push_number;
-use crate::runs::run_from;
+use crate::runs::end_of_sixels;
 use sixel_base::limits::MAX_REPEAT;
 use std::alloc::AllocError;
 
@@ -14,6 +14,7 @@ const LONGEST_REPEAT: usize = MAX_REPEAT as usize;
 
 /// Appends a row of sixels, each given by its six bits, in the fewest bytes.
 #[inline(never)]
+#[tactic(auto, using(crate::proofs::band_rows::ShortestRows::row_rules))]
 pub fn push_row(text: &mut String, row: &[u8]) -> Result<(), AllocError>
     requires { All (λ bits. bits < 64) row.now }
     ensures text { OnOk result
@@ -21,62 +22,30 @@ pub fn push_row(text: &mut String, row: &[u8]) -> Result<(), AllocError>
     ensures spells { Spells (row_tokens row.now) row.now }
     ensures shortest { IsShortest (row_tokens row.now) row.now }
 {
-    let mut count = 0;
-    let mut bits = 0;
     let mut at = 0;
-    'sixels: while at < row.len() {
-        let same = run_from(row, at, bits);
-        if same > 0 {
-            count += same;
-            at += same;
-        } else {
-            push_run(text, count, bits)?;
-            bits = row[at];
-            count = 1;
-            at += 1;
-        }
+    'runs: while at < row.len() {
+        let end = end_of_sixels(row, at);
+        push_run(text, end - at, row[at])?;
+        at = end;
     }
-    push_run(text, count, bits)
+    Ok(())
 }
 
-/// Appends a run of equal sixels: repeats of the greatest count, then the rest.
+/// Appends a run of equal sixels: repeats, and up to three sixels singly.
 #[inline(always)]
 fn push_run(text: &mut String, count: usize, bits: u8) -> Result<(), AllocError>
     requires { bits < 64 }
     ensures { OnOk result
         (string_bytes text.new ≡ string_bytes text.old ++ written (run_tokens count bits)) }
 {
-    if count < LONGEST_REPEAT {
-        return push_rest(text, count, bits);
+    let mut rest = count;
+    'repeats: while rest > 3 {
+        let repeat = rest.min(LONGEST_REPEAT);
+        push_many(text, repeat, bits)?;
+        rest -= repeat;
     }
-    push_long(text, count, bits)
-}
-
-/// Appends a run of the greatest count or more. Out of line because it is rare.
-#[inline(never)]
-fn push_long(text: &mut String, count: usize, bits: u8) -> Result<(), AllocError>
-    requires { bits < 64 }
-    ensures { OnOk result
-        (string_bytes text.new ≡ string_bytes text.old ++ written (run_tokens count bits)) }
-{
-    for _ in 0..count / LONGEST_REPEAT {
-        push_many(text, LONGEST_REPEAT, bits)?;
-    }
-    push_rest(text, count % LONGEST_REPEAT, bits)
-}
-
-/// Appends the rest of a run: up to three sixels singly, more as one repeat.
-#[inline(always)]
-fn push_rest(text: &mut String, count: usize, bits: u8) -> Result<(), AllocError>
-    requires { bits < 64 }
-    ensures { OnOk result
-        (string_bytes text.new ≡ string_bytes text.old ++ written (rest_tokens count bits)) }
-{
-    if count > 3 {
-        return push_many(text, count, bits);
-    }
-    for _ in 0..count {
-        push_sixel(text, bits)?;
+    for _ in 0..rest {
+        text.push(char::from(63 + bits))?;
     }
     Ok(())
 }
@@ -90,13 +59,5 @@ fn push_many(text: &mut String, count: usize, bits: u8) -> Result<(), AllocError
 {
     text.push('!')?;
     push_number(text, count)?;
-    push_sixel(text, bits)
-}
-
-/// Appends one sixel.
-fn push_sixel(text: &mut String, bits: u8) -> Result<(), AllocError>
-    requires { bits < 64 }
-    ensures { OnOk result (string_bytes text.new ≡ string_bytes text.old ++ spelling (One bits)) }
-{
     text.push(char::from(63 + bits))
 }

@@ -1,6 +1,6 @@
-//! Runs of equal sixels in a row, counted sixteen or 64 at a time.
+//! Runs of equal sixels in a row, counted sixteen at a time.
 
-ghost use Rattle.std.specs.Prelude.{◌≡◌, ◌≢◌, ◌+◌, ◌<◌, ◌≤◌, true, length, slice_index};
+ghost use Rattle.std.specs.Prelude.{◌≡◌, ◌≢◌, ◌+◌, ◌-◌, ◌<◌, ◌≤◌, length, slice_index};
 ghost use Rattle.sixel_encoder.specs.inside.Runs.{IsRun};
 
 use std::simd::prelude::*;
@@ -8,21 +8,13 @@ use std::simd::prelude::*;
 /// How many sixels one comparison covers.
 const LANES: usize = 16;
 
-/// How many sixels one comparison of a long run covers.
-const LONG_LANES: usize = 64;
-
-/// Returns how many sixels from `at` on equal `bits`, up to sixteen.
-///
-/// At least 1 if the first one does; 1 at most if fewer than sixteen are left.
+/// Returns how many of the sixteen sixels from `at` on equal `bits`, up to the first other one.
 #[inline(always)]
 pub fn equal_from(row: &[u8], at: usize, bits: u8) -> usize
-    requires { at < length row.now }
+    requires { at + 16 ≤ length row.now }
     ensures run { IsRun row.now at bits result }
-    ensures stop { result ≡ 0 → slice_index row.now at ≢ bits }
+    ensures stop { result < 16 → slice_index row.now (at + result) ≢ bits }
 {
-    if row.len() - at < LANES {
-        return usize::from(row[at] == bits);
-    }
     let sixels = u8x16::from_slice(&row[at..]);
     let others = sixels.simd_ne(u8x16::splat(bits)).to_bitmask();
     if others == 0 {
@@ -32,33 +24,25 @@ pub fn equal_from(row: &[u8], at: usize, bits: u8) -> usize
     }
 }
 
-/// Returns how many sixels from `at` on equal `bits`, of a long run maybe fewer.
-///
-/// At least 1 if the first one does. After sixteen of them it compares 64 at once.
+/// Returns the end of the run of equal sixels that begins at `at`.
 #[inline(always)]
-pub fn run_from(row: &[u8], at: usize, bits: u8) -> usize
+pub fn end_of_sixels(row: &[u8], at: usize) -> usize
     requires { at < length row.now }
-    ensures run { IsRun row.now at bits result }
-    ensures stop { result ≡ 0 → slice_index row.now at ≢ bits }
+    ensures some { at < result }
+    ensures run { IsRun row.now at (slice_index row.now at) (result - at) }
+    ensures stop { result < length row.now → slice_index row.now result ≢ slice_index row.now at }
 {
-    let same = equal_from(row, at, bits);
-    if same < LANES {
-        return same;
+    let bits = row[at];
+    let mut end = at + 1;
+    'lanes: while row.len() - end >= LANES {
+        let same = equal_from(row, end, bits);
+        end += same;
+        if same < LANES {
+            return end;
+        }
     }
-    let mut end = at + same;
-    'run: while row.len() - end >= LONG_LANES && is_long_run(row, end, bits) {
-        end += LONG_LANES;
+    'rest: while end < row.len() && row[end] == bits {
+        end += 1;
     }
-    end - at
-}
-
-/// Returns whether 64 sixels all equal `bits`.
-#[inline(always)]
-fn is_long_run(row: &[u8], at: usize, bits: u8) -> bool
-    requires { at + 64 ≤ length row.now }
-    ensures { result ≡ true → IsRun row.now at bits 64 }
-{
-    let sixels = u8x64::from_slice(&row[at..]);
-    let others = sixels.simd_ne(u8x64::splat(bits)).to_bitmask();
-    others == 0
+    end
 }

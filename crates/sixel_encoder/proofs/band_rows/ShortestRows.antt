@@ -2,16 +2,17 @@
 -- are where equal sixels follow.
 use Rattle.std.proofs.Common.{◌≡◌, ◌≢◌, ℕ, zero, suc, ◌+◌, ◌*◌, ◌<◌, ◌≤◌, List, ◌∷◌, ◌++◌, length}
 use Rattle.std.proofs.Common.{replicate, refl, ap, sym, ◌∙◌, arith, length-append, append_assoc}
-use Rattle.std.proofs.Common.{◌/◌, ◌%◌, [], get_or, drop}
+use Rattle.std.proofs.Common.{◌/◌, ◌%◌, [], get_or, drop, ◌-◌, min, inl, inr}
 use Rattle.std.specs.Prelude.{flat_map, All}
-use Rattle.std.proofs.lemmas.{Bool.cases_eq, Bool.Decides.nat_tests, Grind.flat_map-append}
-use Rattle.std.proofs.lemmas.{Grind.common_steps, List.{append-nil, replicate-append-replicate}}
-use Rattle.std.proofs.lemmas.{List.replicate_more, List.Elements.{All-head, All-tail, All-append}}
-use Rattle.std.proofs.Math.Seq.{drop-cons}
+use Rattle.std.proofs.lemmas.{Bool.{cases_eq, cases_lt}, Bool.Decides.nat_tests, List.append-nil}
+use Rattle.std.proofs.lemmas.{Grind.{common_steps, flat_map-append}, List.{get_or-drop, length-drop}}
+use Rattle.std.proofs.lemmas.List.{replicate_more, replicate-append-replicate}
+use Rattle.std.proofs.lemmas.List.Elements.{All-head, All-tail, All-append}
+use Rattle.std.proofs.Math.{Seq.drop-cons, Nat.{div-eq-sub-div, mod-eq-sub-mod}}
 use Rattle.sixel_base.specs.Limits.{repeat_limit}
 use Rattle.sixel_encoder.specs.RunTokens.{RunToken, One, Many, sixels, spelling, written, cost}
 use Rattle.sixel_encoder.specs.RunTokens.{IsRunToken, Spells, IsShortest, rest_tokens, run_tokens}
-use Rattle.sixel_encoder.specs.RunTokens.{tokens_after, row_tokens}
+use Rattle.sixel_encoder.specs.{RunTokens.{tokens_after, row_tokens}, inside.Runs.IsRun}
 use Rattle.sixel_encoder.proofs.band_rows.RunCost.{run_cost, run_cut, run_cost0, run_cost1}
 use Rattle.sixel_encoder.proofs.band_rows.RunCost.{cost-append, cost-run, length-decimal1}
 use Rattle.sixel_encoder.proofs.band_rows.RunCost.{length-decimal5}
@@ -104,12 +105,12 @@ sixels-cut n k b h =
 sixels-run : (n b : ℕ) → flat_map sixels (run_tokens n b) ≡ replicate n b
 sixels-run n b = sixels-cut n repeat_limit b (omega arith)
 
-sixels-after : (n b : ℕ) (row : List ℕ)
+pub sixels_after : (n b : ℕ) (row : List ℕ)
     → flat_map sixels (tokens_after n b row) ≡ replicate n b ++ row
-sixels-after n b [] = sixels-run n b ∙ sym (append-nil (replicate n b))
-sixels-after n b (c ∷ row) =
-    let same = sixels-after (n + 1) b row in
-    let other = sixels-after 1 c row in
+sixels_after n b [] = sixels-run n b ∙ sym (append-nil (replicate n b))
+sixels_after n b (c ∷ row) =
+    let same = sixels_after (n + 1) b row in
+    let other = sixels_after 1 c row in
     let more = replicate_more n b in
     let joined = append_assoc (replicate n b) (b ∷ []) row in
     let parts = flat_map-append sixels (run_tokens n b) (tokens_after 1 c row) in
@@ -118,19 +119,19 @@ sixels-after n b (c ∷ row) =
 All-run : (n b : ℕ) → All IsRunToken (run_tokens n b)
 All-run n b = grind (arith, common_steps, nat_tests)
 
-All-after : (n b : ℕ) (row : List ℕ) → All IsRunToken (tokens_after n b row)
-All-after n b [] = All-run n b
-All-after n b (c ∷ row) =
-    let same = All-after (n + 1) b row in
-    let other = All-append IsRunToken _ _ (All-run n b) (All-after 1 c row) in
+pub all_after : (n b : ℕ) (row : List ℕ) → All IsRunToken (tokens_after n b row)
+all_after n b [] = All-run n b
+all_after n b (c ∷ row) =
+    let same = all_after (n + 1) b row in
+    let other = All-append IsRunToken _ _ (All-run n b) (all_after 1 c row) in
     grind (arith, nat_tests, cases_eq c b, tokens_after-same, tokens_after-other)
 
 -- the tokens of a row spell it
 pub spells : (row : List ℕ) → Spells (row_tokens row) row
-spells row = record { each = All-after 0 0 row; joined = sixels-after 0 0 row }
+spells row = record { each = all_after 0 0 row; joined = sixels_after 0 0 row }
 
 -- equal sixels add to the run
-pub tokens_skip : (n : ℕ) (row : List ℕ) (at count bits : ℕ) → at + n ≤ length row
+tokens_skip : (n : ℕ) (row : List ℕ) (at count bits : ℕ) → at + n ≤ length row
     → ((k : ℕ) → at ≤ k → k < at + n → get_or row k 0 ≡ bits)
     → tokens_after count bits (drop at row) ≡ tokens_after (count + n) bits (drop (at + n) row)
 tokens_skip zero row at count bits l same = grind (arith, nat_tests)
@@ -143,3 +144,50 @@ tokens_skip (suc n) row at count bits l same =
     ∙ tokens_after-same count bits (get_or row at 0) (drop (at + 1) row)
     (same at (omega arith) (omega arith))
     ∙ rw (a, c) (grind (arith, nat_tests, tokens_skip n row (at + 1) (count + 1) bits))
+
+-- a run ends where the row does, or another sixel follows
+tokens_stop : (n b : ℕ) (row : List ℕ) → (0 < length row → get_or row 0 0 ≢ b)
+    → tokens_after n b row ≡ run_tokens n b ++ row_tokens row
+tokens_stop n b [] other = sym (append-nil (run_tokens n b))
+tokens_stop n b (c ∷ row) other = grind (arith, nat_tests)
+
+-- no sixel is before the first run
+tokens_first : (b : ℕ) (row : List ℕ) → row_tokens (b ∷ row) ≡ tokens_after 0 b (b ∷ row)
+tokens_first b row = grind (arith, nat_tests)
+
+-- a row is written as its first run, and then as the row after it
+pub tokens_run : (row : List ℕ) (at end bits : ℕ) → at < end → IsRun row at bits (end - at)
+    → (end < length row → get_or row end 0 ≢ bits)
+    → written (row_tokens (drop at row))
+    ≡ written (run_tokens (end - at) bits) ++ written (row_tokens (drop end row))
+tokens_run row at end bits some run other =
+    let to : at + (end - at) ≡ end = omega arith in
+    let one : at + 1 ≡ suc at = omega arith in
+    let inside : at < length row = omega (arith, run.within) in
+    let cut : drop at row ≡ get_or row at 0 ∷ drop (at + 1) row = grind (arith, one, drop-cons) in
+    let first : get_or row at 0 ≡ bits = run.same at (omega arith) (omega arith) in
+    let skip = rw to at (tokens_skip (end - at) row at 0 bits run.within run.same) in
+    let stop = tokens_stop (end - at) bits (drop end row)
+    (grind (arith, nat_tests, length-drop, get_or-drop)) in
+    let parts = flat_map-append spelling (run_tokens (end - at) bits) (row_tokens (drop end row)) in
+    grind (arith, nat_tests, tokens_first)
+
+-- a run of more than three sixels begins with a repeat
+tokens_cut : (n k b : ℕ) → 0 < k → k ≤ n
+    → replicate (n / k) (Many k b) ++ rest_tokens (n % k) b
+    ≡ Many k b ∷ replicate ((n - k) / k) (Many k b) ++ rest_tokens ((n - k) % k) b
+tokens_cut n k b some l =
+    let more : n / k ≡ suc ((n - k) / k) = omega (arith, div-eq-sub-div some l) in
+    rw (more, mod-eq-sub-mod l) refl
+
+pub tokens_repeat : (n repeat b : ℕ) → 3 < n → repeat ≡ min n repeat_limit
+    → run_tokens n b ≡ Many repeat b ∷ run_tokens (n - repeat) b
+tokens_repeat n repeat b many is = elim (cases_lt n repeat_limit) [
+  | inl few ↦ grind (arith, nat_tests)
+  | inr all ↦
+      let e : repeat ≡ repeat_limit = omega arith in
+      rw e (tokens_cut n repeat_limit b (omega arith) all)
+]
+
+-- what a row is written as: it spells the row in the fewest bytes
+pub ruleset row_rules = (shortest, all_after, sixels_after)

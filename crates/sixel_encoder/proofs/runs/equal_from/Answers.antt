@@ -4,20 +4,18 @@ use Rattle.sixel_encoder.proofs.runs.equal_from.Goals as goal
 
 pub returns-then-others-eq0-clause-run : goal.returns-then-others-eq0-clause-run
 returns-then-others-eq0-clause-run c =
-    all_equal 16 c.args.row.now c.args.at c.args.bits _ (omega arith)
-    (mask_is 16 c.args.row.now c.args.at c.args.bits (omega arith) (omega arith))
-    c.if-others-eq0.true
+    all_equal 16 c.args.row.now c.args.at c.args.bits _ c.requires
+    (mask_is 16 c.args.row.now c.args.at c.args.bits (omega arith) c.requires) c.if-others-eq0.true
 
 pub returns-else-others-eq0-clause-run : goal.returns-else-others-eq0-clause-run
 returns-else-others-eq0-clause-run c =
-    first_equal c.args.row.now c.args.at c.args.bits _ (omega arith)
-    (mask_is 16 c.args.row.now c.args.at c.args.bits (omega arith) (omega arith))
-    c.if-others-eq0.false
+    first_equal c.args.row.now c.args.at c.args.bits _ c.requires
+    (mask_is 16 c.args.row.now c.args.at c.args.bits (omega arith) c.requires) c.if-others-eq0.false
 
 pub returns-else-others-eq0-clause-stop : goal.returns-else-others-eq0-clause-stop
-returns-else-others-eq0-clause-stop c = λ none.
+returns-else-others-eq0-clause-stop c = λ few.
     let other =
-    first_other c.args.row.now c.args.at c.args.bits _ (omega arith)
-    (mask_is 16 c.args.row.now c.args.at c.args.bits (omega arith) (omega arith))
-    c.if-others-eq0.false (omega (arith, none)) in
+    first_other c.args.row.now c.args.at c.args.bits _ c.requires
+    (mask_is 16 c.args.row.now c.args.at c.args.bits (omega arith) c.requires)
+    c.if-others-eq0.false (omega (arith, few)) in
     grind (arith, nat_tests)
