@@ -2,7 +2,7 @@
 
 ghost use Rattle.std.specs.Prelude.{◌≡◌, ◌≢◌, ℕ, ◌+◌, ◌*◌, ◌^◌, ◌<◌, ◌≤◌, ◌++◌, IfOk, OnOk};
 ghost use Rattle.std.specs.Prelude.{string_bytes, true, false, length, slice_index};
-ghost use Rattle.sixel_base.specs.{Limits.side_limit, Picture.joined};
+ghost use Rattle.sixel_base.specs.Picture.{joined};
 ghost use Rattle.sixel_encoder.specs.Text.{sixel_of, row_text, band_text};
 ghost use Rattle.sixel_encoder.specs.inside.Grid.{cell, pixel_bit, grid_row, grid_text, AreRows};
 ghost use Rattle.sixel_encoder.specs.inside.Grid.{AreBelow, AreMarks, AreClear, IsPart};
@@ -39,9 +39,12 @@ impl BandRows {
     /// Returns empty rows: for all entries, or for as many as fit into the capacity.
     pub fn new(alloc: Global, image: &IndexedImage<'_>) -> Result<BandRows, AllocError>
         requires { IsIndexed image.now }
-        ensures { IfOk result (AreEmptyRows image.now) }
+        ensures empty { IfOk result (AreEmptyRows image.now) }
+        ensures most { IfOk result (λ band. (count : ℕ) → count ≤ length image.now.colors.now
+            → count * (image.now.width + 1) ≤ 2097152 → count ≤ length band.used.items) }
     {
-        let count = entries_at_once(image.width, image.colors.len());
+        let most = CAPACITY / (image.width + 1);
+        let count = most.min(image.colors.len()).max(1);
         let rows = vec![in alloc; 0; count * image.width]?;
         let used = vec![in alloc; false; count]?;
         Ok(BandRows {
@@ -122,38 +125,18 @@ impl BandRows {
             self.old.width (length self.old.used.items)) }
     {
         for row in 0..self.used.len() {
-            if self.used[row] {
-                self.push_entry(text, row)?;
-                self.used[row] = false;
+            if !self.used[row] {
+                continue;
             }
+            let start = row * self.width;
+            let end = start + self.width;
+            text.push('#')?;
+            push_number(text, self.first + row)?;
+            push_row(text, &self.rows[start..end])?;
+            text.push('$')?;
+            self.rows[start..end].fill(0);
+            self.used[row] = false;
         }
-        Ok(())
-    }
-
-    /// Appends an entry and its row, and empties the row.
-    fn push_entry(&mut self, text: &mut String, row: usize) -> Result<(), AllocError>
-        requires number { self.old.first + row < 512 }
-        requires within { row * self.old.width + self.old.width ≤ length self.old.rows.items }
-        requires below { (x : ℕ) → x < self.old.width
-            → cell self.old.rows.items self.old.width row x < 64 }
-        ensures text { OnOk result (string_bytes text.new ≡ string_bytes text.old
-            ++ row_text (self.old.first + row)
-            (grid_row self.old.rows.items self.old.width row)) }
-        ensures shape { IsSameShape self.old self.new }
-        ensures used { self.new.used.items ≡ self.old.used.items }
-        ensures blank { OnOk result ((x : ℕ) → x < self.old.width
-            → cell self.new.rows.items self.old.width row x ≡ 0) }
-        ensures others { OnOk result ((e x : ℕ) → e ≢ row → x < self.old.width
-            → cell self.new.rows.items self.old.width e x
-            ≡ cell self.old.rows.items self.old.width e x) }
-    {
-        let start = row * self.width;
-        let end = start + self.width;
-        text.push('#')?;
-        push_number(text, self.first + row)?;
-        push_row(text, &self.rows[start..end])?;
-        text.push('$')?;
-        self.rows[start..end].fill(0);
         Ok(())
     }
 }
@@ -163,18 +146,6 @@ impl BandRows {
 struct Line {
     start: usize,
     weight: u8,
-}
-
-/// Returns how many entries have rows at once: as many as fit, at least one.
-fn entries_at_once(width: usize, entries: usize) -> usize
-    requires { width ≤ side_limit }
-    ensures some { 0 < result }
-    ensures few { 0 < entries → result ≤ entries }
-    ensures capacity { result * (width + 1) ≤ 2097152 }
-    ensures most { (count : ℕ) → count ≤ entries → count * (width + 1) ≤ 2097152
-        → count ≤ result }
-{
-    (CAPACITY / (width + 1)).min(entries).max(1)
 }
 
 /// Sets the opaque pixels of a line, in rows of all entries.
@@ -229,9 +200,12 @@ fn add_sixteen(
     ensures marks { AreMarks rows.new used.new image.now.width }
 {
     let pixel = line.start + column;
-    if is_run(image, pixel) {
-        let row = usize::from(image.indices[pixel]);
-        add_weight(rows, row * image.width + column, line.weight);
+    let entry = image.indices[pixel];
+    if equal_from(image.indices, pixel, entry) >= RUN_LANES && are_opaque(image.pixels, pixel) {
+        let row = usize::from(entry);
+        let from = row * image.width + column;
+        let sixels = u8x16::from_slice(&rows[from..]) + u8x16::splat(line.weight);
+        sixels.copy_to_slice(&mut rows[from..]);
         used[row] = true;
         return;
     }
@@ -270,33 +244,6 @@ fn add_pixel(
     used[row] = true;
 }
 
-/// Adds a weight to sixteen sixels.
-#[inline(always)]
-fn add_weight(rows: &mut [u8], from: usize, weight: u8)
-    requires within { from + 16 ≤ length rows.old }
-    requires fits { (k : ℕ) → from ≤ k → k < from + 16 → slice_index rows.old k + weight < 256 }
-    ensures { (k : ℕ) → slice_index rows.new k
-        ≡ slice_index rows.old k + between from (from + 16) weight k }
-{
-    let sixels = u8x16::from_slice(&rows[from..]) + u8x16::splat(weight);
-    sixels.copy_to_slice(&mut rows[from..]);
-}
-
-/// Returns whether sixteen pixels from this one on are opaque and have the same entry.
-#[inline(always)]
-fn is_run(image: &IndexedImage<'_>, pixel: usize) -> bool
-    requires image { IsIndexed image.now }
-    requires within { pixel + 16 ≤ image.now.width * image.now.height }
-    ensures { result ≡ true → (k : ℕ) → pixel ≤ k → k < pixel + 16
-        → (slice_index image.now.indices.now pixel ≡ slice_index image.now.indices.now k)
-        × (128 ≤ slice_index image.now.pixels.now (4 * k + 3)) }
-{
-    if equal_from(image.indices, pixel, image.indices[pixel]) < RUN_LANES {
-        return false;
-    }
-    are_opaque(image.pixels, pixel)
-}
-
 /// Sets the opaque pixels of a line, in rows of a part of the entries.
 #[inline(never)]
 fn add_part_of_line(
@@ -325,21 +272,12 @@ fn add_part_of_line(
     'columns: while column < image.width {
         let pixel = line.start + column;
         let entry = usize::from(image.indices[pixel]);
-        if has_row(entry, first, used.len()) && is_opaque(image.pixels, pixel) {
+        let has_row = first <= entry && entry < first + used.len();
+        if has_row && is_opaque(image.pixels, pixel) {
             let row = entry - first;
             rows[row * image.width + column] += line.weight;
             used[row] = true;
         }
         column += 1 + others_from(image.indices, pixel + 1, first, used.len());
     }
-}
-
-/// Returns whether an entry is one of `count` entries from `first` on.
-#[inline(always)]
-fn has_row(entry: usize, first: usize, count: usize) -> bool
-    requires { first + count < 2 ^ 64 }
-    ensures inside { result ≡ true → (first ≤ entry) × (entry < first + count) }
-    ensures outside { result ≡ false → (k : ℕ) → k < count → entry ≢ first + k }
-{
-    first <= entry && entry < first + count
 }

@@ -1,8 +1,7 @@
 //! The SIXEL output of an image whose colors are chosen.
 
 ghost use Rattle.std.specs.Prelude.{◌≡◌, ◌++◌, IfOk, OnOk, string_bytes};
-ghost use Rattle.sixel_encoder.specs.Text.{color_definition, parameters_text, raster_text};
-ghost use Rattle.sixel_encoder.specs.Text.{palette_text, text_of};
+ghost use Rattle.sixel_encoder.specs.Text.{color_definition, parameters_text, raster_text, text_of};
 ghost use Rattle.sixel_encoder.specs.inside.Indexed.{IsIndexed, drawing_of};
 
 use crate::band::BandRows;
@@ -28,7 +27,9 @@ pub fn encode_indexed(alloc: Global, image: &IndexedImage<'_>) -> Result<String,
     ensures { IfOk result (λ text. string_bytes text ≡ text_of (drawing_of image.now)) }
 {
     let mut text = begin_text(alloc, image)?;
-    push_palette(&mut text, image)?;
+    for (entry, color) in image.colors.iter().enumerate() {
+        push_definition(&mut text, entry, *color)?;
+    }
     let mut rows = BandRows::new(alloc, image)?;
     for band in 0..image.height.div_ceil(6) {
         rows.push_band(&mut text, image, band)?;
@@ -54,17 +55,6 @@ pub fn begin_text(alloc: Global, image: &IndexedImage<'_>) -> Result<String, All
     let height = image.height;
     write!(text, "\"{pad};1;{width};{height}")?;
     Ok(text)
-}
-
-/// Appends the definition of each palette entry.
-fn push_palette(text: &mut String, image: &IndexedImage<'_>) -> Result<(), AllocError>
-    ensures { OnOk result
-        (string_bytes text.new ≡ string_bytes text.old ++ palette_text (drawing_of image.now)) }
-{
-    for (entry, color) in image.colors.iter().enumerate() {
-        push_definition(text, entry, *color)?;
-    }
-    Ok(())
 }
 
 /// Appends the definition of one palette entry.

@@ -1,16 +1,15 @@
 -- The dots of a line in the rows of some entries: what a pixel adds there, a step past those that
 -- add none, sixteen of one entry at once, and one part after another.
-use Rattle.std.proofs.lemmas.{Bool.{cases_eq, cases_lt}, Bool.Decides.nat_tests}
-use Rattle.std.proofs.lemmas.List.{get_or-set_other, get_or-set_same, length-set}
-use Rattle.std.proofs.lemmas.{Nat.same_from_place, Simd.get_or-put_chunk_below}
-use Rattle.std.proofs.lemmas.Simd.{get_or-put_chunk_above, get_or-put_chunk_at, length-chunk}
-use Rattle.std.proofs.lemmas.Simd.{get_or-chunk, get_or-zip2, get_or-replicate}
 use Rattle.std.proofs.Common.{ℕ, replicate, nat_lt, get_or, length, arith, cond, List, Bool, true}
 use Rattle.std.proofs.Common.{◌≡◌, ◌≢◌, ◌+◌, ◌-◌, ◌*◌, ◌<◌, ◌≤◌, set, ◌%◌, inl, inr}
+use Rattle.std.{proofs.lemmas.Bool.{cases_eq, cases_lt}, proofs.lemmas.Bool.Decides.nat_tests}
+use Rattle.std.proofs.lemmas.List.{get_or-set_other, get_or-set_same, length-set}
+use Rattle.std.{proofs.lemmas.Nat.same_from_place, proofs.lemmas.Simd.get_or-put_chunk_below}
+use Rattle.std.proofs.lemmas.Simd.{get_or-put_chunk_above, get_or-put_chunk_at, length-chunk}
+use Rattle.std.proofs.lemmas.Simd.{get_or-chunk, get_or-zip2, get_or-replicate}
 use lib.Lanes.{put_chunk, chunk, zip2}
 use Rattle.sixel_encoder.specs.inside.Grid.{cell, dot_at, pixel_bit, between, AreMarks}
-use Rattle.sixel_encoder.specs.inside.Indexed.{entry_of}
-use Rattle.sixel_encoder.proofs.band_rows.Cells.{cell-dot}
+use Rattle.sixel_encoder.{specs.inside.Indexed.entry_of, proofs.band_rows.Cells.cell-dot}
 use Rattle.sixel_palette.proofs.mapped_images.KeptEntries.{entry_of-opaque}
 
 -- a pixel of another entry adds nothing
@@ -42,7 +41,7 @@ pub between-none : (from amount place : ℕ) → between from from amount place 
 between-none from amount place = grind (arith, nat_tests)
 
 -- sixteen sixels that get the weight in lanes
-pub lanes-more : (rows : List ℕ) (from weight : ℕ) → from + 16 ≤ length rows
+lanes-more : (rows : List ℕ) (from weight : ℕ) → from + 16 ≤ length rows
     → ((k : ℕ) → from ≤ k → k < from + 16 → get_or rows k 0 + weight < 256) → (k : ℕ)
     → get_or (put_chunk from rows
     (zip2 (λ a b. (a + b) % 256) (chunk from 16 rows) (replicate 16 weight))) k 0
@@ -67,18 +66,21 @@ lanes-more rows from weight inside fits k =
       ]
     ]
 
--- sixteen sixels of an entry that got the weight
-pub cell-run : (rows new : List ℕ) (width row column weight : ℕ)
-    → ((k : ℕ) → get_or new k 0
-    ≡ get_or rows k 0 + between (row * width + column) (row * width + column + 16) weight k)
-    → column + 16 ≤ width → (e x : ℕ) → x < width
-    → cell new width e x
+-- sixteen sixels of an entry that get the weight in lanes
+pub cell-run : (rows : List ℕ) (width row column weight : ℕ)
+    → row * width + column + 16 ≤ length rows → column + 16 ≤ width
+    → ((x : ℕ) → column ≤ x → x < column + 16 → cell rows width row x + weight < 256)
+    → (e x : ℕ) → x < width
+    → cell (put_chunk (row * width + column) rows (zip2 (λ a b. (a + b) % 256)
+    (chunk (row * width + column) 16 rows) (replicate 16 weight))) width e x
     ≡ cell rows width e x + between column (column + 16) (dot_at weight row x e x) x
-cell-run rows new width row column weight h lc e x lx =
+cell-run rows width row column weight inside lc fits e x lx =
     let place = e * width + x in
-    let other =
-    same_from_place e x row (column + (place - (row * width + column))) width lx in
-    let own = h place in
+    let from = row * width + column in
+    let other = same_from_place e x row (column + (place - from)) width lx in
+    let own = lanes-more rows from weight inside
+    (λ k f t. let there : row * width + (column + (k - from)) ≡ k = omega arith in
+    grind (arith, nat_tests, fits)) place in
     grind (arith, nat_tests)
 
 -- they keep the marks

@@ -1,11 +1,11 @@
-use Rattle.std.proofs.Common.{◌≡◌, ℕ, ◌+◌, ◌-◌, ◌*◌, ◌<◌, length, ap, ◌∙◌, arith}
+use Rattle.std.proofs.Common.{◌≡◌, ◌≢◌, ℕ, ◌+◌, ◌-◌, ◌*◌, ◌<◌, ◌≤◌, length, ap, ◌∙◌, arith, true}
 use Rattle.sixel_encoder.specs.inside.{Grid.{cell, pixel_bit}, Indexed.entry_of}
 use Rattle.sixel_encoder.proofs.band_rows.Cells.{AreMarks-dot, AreMarks-same, place_inside}
 use Rattle.sixel_encoder.proofs.band_rows.Lines.{pixel_bit-other, pixel_bit-dot, column-dot}
-use Rattle.std.proofs.lemmas.Bool.Decides.{nat_tests}
+use Rattle.std.proofs.{Common.false, lemmas.Bool.Decides.nat_tests}
 use Rattle.sixel_encoder.proofs.band.add_part_of_line.Goals as goal
 use goal.{then-has_row+then-is_opaque, else-has_row, else-has_row-via-then-has_row+else-is_opaque}
-use goal.{else-has_row-via-else-has_row}
+use goal.{else-has_row-via-else-has_row, then-first-entry, else-first-entry}
 
 pub columns-preserved : goal.columns-preserved
 columns-preserved c =
@@ -26,11 +26,17 @@ columns-preserved c =
     λ e x one lx from to. pixel_bit-other pixels indices weight (first + e) (c.args.line.start + x)
     (c.others_from.ensures.others (c.args.line.start + x) e (omega arith) (omega arith)
     (omega arith)) in
+    let known : (c.if-first-entry.has_row ≡ true → (first ≤ entry) × (entry < first + length used))
+    × (c.if-first-entry.has_row ≡ false → (e : ℕ) → e < length used → entry ≢ first + e) =
+    elim c.if-first-entry.branch [
+      | then-first-entry v ↦ grind (arith, nat_tests, v.has_row-is)
+      | else-first-entry v ↦ grind (arith, nat_tests, v.has_row-is)
+    ] in
     elim c.if-has_row.branch [
       | then-has_row+then-is_opaque w ↦
           let row = entry - first in
           let opaque = w.is_opaque.ensures.opaque w.if-is_opaque.true in
-          let within = c.has_row.ensures.inside w.if-has_row.true in
+          let within = known.0 w.if-has_row.true in
           let one : row < length used = omega (arith, within.0, within.1) in
           let place =
           place_inside c.args.rows.now _ width row column c.requires.rows
@@ -54,7 +60,7 @@ columns-preserved c =
               | else-has_row-via-then-has_row+else-is_opaque v ↦
                   grind (arith, nat_tests, weight, first)
               | else-has_row-via-else-has_row v ↦
-                  let other = c.has_row.ensures.outside v.if-has_row.false e count in
+                  let other = known.1 v.if-has_row.false e count in
                   grind (arith, nat_tests, pixel_bit-other, weight, first, c.from-entry.ensures)
             ] in
             grind (arith, nat_tests, c.columns.invariant.cells);

@@ -1,30 +1,39 @@
-use Rattle.std.proofs.{Common.{◌≡◌, ◌+◌, ◌-◌, ◌*◌, arith}, lemmas.Bool.Decides.nat_tests}
-use Rattle.sixel_encoder.proofs.band_rows.Lines.{between-none, cell-run, AreMarks-run}
+use Rattle.std.proofs.{Common.{◌+◌, ◌<◌, length, arith}, lemmas.Bool.Decides.nat_tests}
+use Rattle.sixel_encoder.proofs.{band_rows.Cells.place_inside, band_rows.Lines.between-none}
+use Rattle.sixel_encoder.proofs.band_rows.Lines.{cell-run, AreMarks-run}
 use Rattle.sixel_encoder.proofs.band.add_sixteen.Goals as goal
 
-pub returns-then-is_run-clause-cells : goal.returns-then-is_run-clause-cells
-returns-then-is_run-clause-cells c = λ e x le lx.
-    let run = cell-run _ _ _ _ _ _ c.add_weight.ensures c.requires.columns e _ lx in
-    grind (arith, nat_tests, c.from-row.ensures)
-
-pub returns-then-is_run-clause-marks : goal.returns-then-is_run-clause-marks
-returns-then-is_run-clause-marks c =
+pub load-rows : goal.load-rows
+load-rows c =
     let pixel = c.args.line.start + c.args.column in
-    let one = c.is_run.ensures c.if-is_run.true pixel (omega arith) (omega arith) in
-    let known =
-    c.requires.image.opaque pixel (omega (arith, c.requires.line, c.requires.columns)) one.1 in
-    AreMarks-run _ _ _ _ _ _ _ c.requires.marks (cell-run c.args.rows.now _ c.args.image.now.width _
-    c.args.column _ c.add_weight.ensures c.requires.columns)
-    (omega (arith, known, c.from-row.ensures, c.requires.entries)) c.requires.columns
-    c.requires.weight
+    let known = c.requires.image.opaque pixel (omega arith)
+    (c.are_opaque.ensures c.if-are_opaque.true pixel (omega arith) (omega arith)) in
+    let place = place_inside c.args.rows.now c.args.used.now c.args.image.now.width
+    c.from-row.result (c.args.column + 15) c.requires.rows (omega (arith, known)) (omega arith) in
+    omega (arith, place)
 
-pub add_weight-requires-clause-fits : goal.add_weight-requires-clause-fits
-add_weight-requires-clause-fits c = λ k l m.
+pub store-rows : goal.store-rows
+store-rows c = load-rows c
+
+pub returns-then-are_opaque : goal.returns-then-are_opaque
+returns-then-are_opaque c =
     let pixel = c.args.line.start + c.args.column in
-    let start = c.from-row.result * c.args.image.now.width in
-    let one = c.is_run.ensures c.if-is_run.true pixel (omega arith) (omega arith) in
-    let place : start + (c.args.column + (k - (start + c.args.column))) ≡ k = omega (arith, l) in
-    grind (arith, nat_tests, c.requires.fits)
+    let row = c.from-row.result in
+    let width = c.args.image.now.width in
+    let known = c.requires.image.opaque pixel (omega arith)
+    (c.are_opaque.ensures c.if-are_opaque.true pixel (omega arith) (omega arith)) in
+    let one : row < length c.args.used.now = omega (arith, known) in
+    let run = cell-run c.args.rows.now width row c.args.column c.args.line.weight (load-rows c)
+    c.requires.columns (λ x. c.requires.fits row x one) in
+    record {
+      cells = λ e x le lx.
+          let same = c.equal_from.ensures.run.same (c.args.line.start + x) in
+          let opaque = c.are_opaque.ensures c.if-are_opaque.true (c.args.line.start + x) in
+          let sixel = run e x lx in
+          grind (arith, nat_tests, c.from-row.ensures);
+      marks = AreMarks-run _ _ _ _ _ _ _ c.requires.marks run one c.requires.columns
+          c.requires.weight;
+    }
 
 pub loop-one-init : goal.loop-one-init
 loop-one-init c = grind (arith, nat_tests, between-none, c.requires.marks)

@@ -1,4 +1,4 @@
-use Rattle.std.proofs.Common.{arith, false, sym, ◌∙◌}
+use Rattle.std.proofs.Common.{arith, sym, ◌∙◌}
 use Rattle.std.proofs.lemmas.Simd.{none_from_empty_mask, run_in_chunk_fails, run_in_chunk_le}
 use Rattle.sixel_encoder.proofs.band_rows.Lanes.{entries_mask, first_one, is_one, other_from}
 use Rattle.sixel_encoder.proofs.entries.others_from.Goals as goal

@@ -1,7 +1,6 @@
 use Rattle.std.proofs.Common.{List, ap, arith, ℕ, ◌*◌, ◌+◌, ◌%◌, ◌∙◌, ◌≡◌, slice_index}
-use Rattle.std.proofs.lemmas.Bool.Decides.{nat_tests}
-use Rattle.std.specs.Prelude.{◌==◌}
-use Rattle.sixel_encoder.{specs.Text.mask, proofs.band_rows.ColumnLanes.uniform-lanes}
+use Rattle.std.{proofs.lemmas.Bool.Decides.nat_tests, specs.Prelude.{◌==◌}}
+use Rattle.sixel_encoder.{proofs.band_rows.ColumnLanes.uniform-lanes, specs.Text.mask}
 use Rattle.sixel_encoder.proofs.band_entries.BandEntries.is_uniform.Goals as goal
 
 pub returns : goal.returns
