@@ -26,10 +26,9 @@ pub extern "C" fn icysixel_decode(
         handle.old.pointer.state handle.new.pointer.state }
     ensures told { result ≢ 0 → shape.new ≡ shape.old }
 {
-    if !handle.is_held() {
+    let Some(state) = handle.state() else {
         return Code::NoHandle as u32;
-    }
-    let state = handle.state();
+    };
     let answer = state.receiver.decode_drawn(alloc, bytes);
     state.store(answer, true, shape)
 }
@@ -50,10 +49,9 @@ pub extern "C" fn icysixel_decode_payload(
         handle.old.pointer.state handle.new.pointer.state }
     ensures told { result ≢ 0 → shape.new ≡ shape.old }
 {
-    if !handle.is_held() {
+    let Some(state) = handle.state() else {
         return Code::NoHandle as u32;
-    }
-    let state = handle.state();
+    };
     let answer = state
         .receiver
         .decode_from_dcs_drawn(alloc, bytes, dcs_settings(p1, p2));

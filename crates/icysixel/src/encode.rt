@@ -2,14 +2,10 @@
 
 ghost use Rattle.std.specs.Prelude.{◌≡◌, ◌≢◌, ◌*◌, ◌≤◌, None, not, length, IfOk, IfErr, true};
 ghost use Rattle.std.specs.Prelude.{false, string_bytes};
-ghost use Rattle.sixel_base.specs.{CallFault.FailsBy, Size.encode_fault};
-ghost use Rattle.sixel_encoder.specs.Encoding.{image_fault, source_value};
-ghost use Rattle.sixel_encoder.specs.IndexedDrawing.{index_count_fault};
-ghost use Rattle.icysixel.specs.Encodings.{FailsByCode, IsEncoded, IsRowsText, IsTextIn};
-ghost use Rattle.icysixel.specs.Encodings.{IsTransferred, colors_fault, format_of, has_options};
-ghost use Rattle.icysixel.specs.Encodings.{image_of, mode_of, row_len, rows_fault};
+ghost use Rattle.sixel_base.specs.Size.{encode_fault};
+ghost use Rattle.icysixel.specs.Encodings.{FailsByCode, IsEncoded, IsRowsText, IsTransferred};
+ghost use Rattle.icysixel.specs.Encodings.{format_of, has_options, image_of, row_len, rows_fault};
 ghost use Rattle.icysixel.specs.Formats.{is_rgba};
-ghost use Rattle.icysixel.specs.declared.encoding.PaletteMode.TheVariants.{Indexed};
 
 use crate::bytes::Bytes;
 use crate::code::{Code, code_of};
@@ -18,10 +14,9 @@ use crate::format::Format;
 use crate::layout::stride_of;
 use crate::source_layout::SourceLayout;
 use icy_sixel::encoder::{
-    Source, encode_in_palette, encode_on_background, encode_refined, encode_source,
-    encode_with_indices,
+    encode_in_palette, encode_on_background, encode_refined, encode_source, encode_with_indices,
 };
-use icy_sixel::{SixelError, validate_encode_dimensions};
+use icy_sixel::validate_encode_dimensions;
 use std::alloc::Global;
 
 /// Encodes pixels and transfers the block of the text to the caller.
@@ -105,52 +100,27 @@ impl Encoding {
         ensures refused { IfErr result (λ code. code ≢ 0) }
         ensures text { IfOk result (λ text. IsRowsText self.now rows.now (string_bytes text)) }
     {
-        let source = Source {
-            pixels,
-            width: self.width,
-            height: self.height,
-            aspect_ratio: self.aspect_ratio(),
-            background_mode: self.background_mode(),
-        };
-        match self.encode(alloc, &source, rows) {
-            Ok(text) => Ok(text),
-            Err(error) => Err(code_of(&error)),
-        }
-    }
-
-    /// The SIXEL output of an image with valid sizes.
-    fn encode(
-        &self,
-        alloc: Global,
-        source: &Source<'_>,
-        indices: &[u8],
-    ) -> Result<String, SixelError>
-        requires sizes { image_fault (source_value source.now) ≡ None }
-        requires indices { mode_of self.now ≡ Indexed
-            → index_count_fault (source_value source.now) (length indices.now) ≡ None }
-        ensures fault { FailsBy (colors_fault (mode_of self.now) self.now
-            (source_value source.now) indices.now) result }
-        ensures text { IfOk result (λ text. IsTextIn (mode_of self.now) self.now
-            (source_value source.now) indices.now (string_bytes text)) }
-    {
+        let source = self.source(pixels);
+        let mapping = self.dithering.mapping(self.tolerance);
         let form = self.text_form();
-        match self.mode() {
+        let text = match self.mode() {
             PaletteMode::Refined => {
-                let mapping = self.dithering.mapping(self.tolerance);
-                encode_refined(alloc, source, self.color_limit(), mapping, form)
+                encode_refined(alloc, &source, self.color_limit(), mapping, form)
             }
             PaletteMode::OnBackground => {
-                let mapping = self.dithering.mapping(self.tolerance);
-                encode_on_background(alloc, source, self.color_background(), mapping, form)
+                encode_on_background(alloc, &source, self.color_background(), mapping, form)
             }
-            PaletteMode::Farthest => encode_source(alloc, source, self.color_limit(), form),
+            PaletteMode::Farthest => encode_source(alloc, &source, self.color_limit(), form),
             PaletteMode::Given => {
-                let mapping = self.dithering.mapping(self.tolerance);
-                encode_in_palette(alloc, source, self.given_colors(), mapping, form)
+                encode_in_palette(alloc, &source, self.given_colors(), mapping, form)
             }
             PaletteMode::Indexed => {
-                encode_with_indices(alloc, source, self.given_colors(), indices, form)
+                encode_with_indices(alloc, &source, self.given_colors(), rows, form)
             }
+        };
+        match text {
+            Ok(text) => Ok(text),
+            Err(error) => Err(code_of(&error)),
         }
     }
 }

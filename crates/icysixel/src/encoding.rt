@@ -1,12 +1,13 @@
 //! How pixels in the caller's memory are encoded: `icysixel_encoding` of the header.
 
 ghost use Rattle.std.specs.Prelude.{◌≡◌};
+ghost use Rattle.sixel_encoder.specs.Encoding.{source_value};
 ghost use Rattle.icysixel.specs.Encodings.{background_of, color_background, color_limit};
-ghost use Rattle.icysixel.specs.Encodings.{form_of, format_of, given_colors, has_options, is_kind};
+ghost use Rattle.icysixel.specs.Encodings.{form_of, format_of, given_colors, has_options};
 ghost use Rattle.icysixel.specs.Encodings.{mapping_of, mode_of, ratio_of};
 
 use crate::format::Format;
-use icy_sixel::encoder::{Amplitude, Background, Dither, Mapping, TextForm, Tolerance};
+use icy_sixel::encoder::{Amplitude, Background, Dither, Mapping, Source, TextForm, Tolerance};
 use icy_sixel::{BackgroundMode, PixelAspectRatio};
 
 /// How each pixel gets an entry of the palette.
@@ -22,13 +23,6 @@ pub struct Dithering {
 }
 
 impl Dithering {
-    /// Whether the header names the kind.
-    pub fn is_kind(&self) -> bool
-        ensures { result ≡ is_kind self.now }
-    {
-        self.kind <= 2
-    }
-
     /// How pixels get their entries, with this tolerance.
     pub fn mapping(&self, tolerance: u32) -> Mapping
         ensures { result ≡ mapping_of self.now tolerance }
@@ -110,7 +104,7 @@ impl Encoding {
         self.format <= 5
             && self.background <= 2
             && self.palette <= 2
-            && self.dithering.is_kind()
+            && self.dithering.kind <= 2
             && self.form <= 1
             && !(self.background == 2 && self.palette == 1)
     }
@@ -129,26 +123,33 @@ impl Encoding {
         }
     }
 
-    /// The shape of a pixel.
-    pub fn aspect_ratio(&self) -> PixelAspectRatio
-        ensures { result ≡ ratio_of self.now }
+    /// The image of these pixels in RGBA.
+    pub fn source<'a>(&self, pixels: &'a [u8]) -> Source<'a>
+        ensures { source_value result ≡ record {
+          pixels = pixels.now;
+          width = self.now.width;
+          height = self.now.height;
+          aspect_ratio = ratio_of self.now;
+          background_mode = background_of self.now;
+        } }
     {
-        match self.pixel_height {
+        let aspect_ratio = match self.pixel_height {
             2 => PixelAspectRatio::Ratio2To1,
             3 => PixelAspectRatio::Ratio3To1,
             5 => PixelAspectRatio::Ratio5To1,
             _ => PixelAspectRatio::Square,
-        }
-    }
-
-    /// The background.
-    pub fn background_mode(&self) -> BackgroundMode
-        ensures { result ≡ background_of self.now }
-    {
-        if self.background == 0 {
+        };
+        let background_mode = if self.background == 0 {
             BackgroundMode::Transparent
         } else {
             BackgroundMode::Opaque
+        };
+        Source {
+            pixels,
+            width: self.width,
+            height: self.height,
+            aspect_ratio,
+            background_mode,
         }
     }
 

@@ -42,20 +42,16 @@ impl Handle {
         Some(pointer.into_box())
     }
 
-    /// Whether there is a state.
-    pub fn is_held(&self) -> bool
-        ensures { result ≡ is_some self.now.pointer.state }
-    {
-        self.held != 0
-    }
-
-    /// Lends the state.
-    pub fn state(&mut self) -> &mut State
-        requires { is_some self.old.pointer.state ≡ true }
+    /// Lends the state, if there is one.
+    pub fn state(&mut self) -> Option<&mut State>
         ensures* writes_back { sem 𝓛 (LendsHeld self.entry result) }
-        ensures value { self.old.pointer.state ≡ Some result.now }
+        ensures some { IfSome result (λ state. self.old.pointer.state ≡ Some state.now) }
+        ensures none { result ≡ None → self.old.pointer.state ≡ None }
     {
-        self.pointer.lend()
+        if self.held == 0 {
+            return None;
+        }
+        Some(self.pointer.lend())
     }
 
     /// Stores a state.
@@ -104,5 +100,5 @@ pub extern "C" fn icysixel_is_empty(handle: &mut Handle) -> u8
     ensures same { handle.new.pointer.state ≡ handle.old.pointer.state }
     ensures value { result ≡ cond (is_some handle.old.pointer.state) 0 1 }
 {
-    u8::from(!handle.is_held())
+    u8::from(handle.held == 0)
 }

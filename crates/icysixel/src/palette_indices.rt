@@ -37,7 +37,7 @@ pub extern "C" fn icysixel_palette_indices(
     ensures after { result ≡ 0 → IsSameAfter (length pixels.now / 4) indices.old indices.new }
     ensures same { result ≢ 0 → indices.new ≡ indices.old }
 {
-    if !dithering.is_kind() {
+    if dithering.kind > 2 {
         return Code::BadOption as u32;
     }
     if indices.len() < pixels.len() / 4 {

@@ -21,10 +21,10 @@ pub extern "C" fn icysixel_is_receiving(handle: &mut Handle) -> u8
     ensures { Reads (λ state. cond (is_open state.receiver.image.form) 1 0)
         handle.old.pointer.state handle.new.pointer.state result }
 {
-    if !handle.is_held() {
-        return 0;
+    match handle.state() {
+        Some(state) => u8::from(state.receiver.is_receiving()),
+        None => 0,
     }
-    u8::from(handle.state().receiver.is_receiving())
 }
 
 /// Returns 1 if the payload of the open image has begun and no feed has failed.
@@ -34,10 +34,10 @@ pub extern "C" fn icysixel_in_payload(handle: &mut Handle) -> u8
         else cond (in_payload state.receiver.image.form state.receiver.image.bytes) 1 0)
         handle.old.pointer.state handle.new.pointer.state result }
 {
-    if !handle.is_held() {
-        return 0;
+    match handle.state() {
+        Some(state) => u8::from(state.receiver.in_payload()),
+        None => 0,
     }
-    u8::from(handle.state().receiver.in_payload())
 }
 
 /// Returns the last row of the open image with a set pixel, plus one, or 0.
@@ -48,10 +48,10 @@ pub extern "C" fn icysixel_get_drawn_height(handle: &mut Handle) -> usize
         state.receiver.image.form state.receiver.image.bytes)
         handle.old.pointer.state handle.new.pointer.state result }
 {
-    if !handle.is_held() {
-        return 0;
+    match handle.state() {
+        Some(state) => state.receiver.drawn_height(),
+        None => 0,
     }
-    handle.state().receiver.drawn_height()
 }
 
 /// Writes the size of the open image so far.
@@ -75,14 +75,13 @@ pub extern "C" fn icysixel_get_size_so_far(handle: &mut Handle, size: &mut Size)
         → (result ≡ 0) × (size.new ≡ record { width = width; height = height }) }
     ensures told { result ≢ 0 → size.new ≡ size.old }
 {
-    if !handle.is_held() {
+    let Some(state) = handle.state() else {
         return Code::NoHandle as u32;
-    }
-    let receiver = &handle.state().receiver;
-    if !receiver.is_receiving() {
+    };
+    if !state.receiver.is_receiving() {
         return Code::NoSession as u32;
     }
-    match receiver.size_so_far() {
+    match state.receiver.size_so_far() {
         Some((width, height)) => {
             *size = Size { width, height };
             Code::Success as u32

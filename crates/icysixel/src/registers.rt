@@ -34,10 +34,10 @@ pub extern "C" fn icysixel_get_register(handle: &mut Handle, register: u8, color
         ≡ written.red ∷ written.green ∷ written.blue ∷ [])
         handle.old.pointer.state handle.new.pointer.state color.old color.new result }
 {
-    if !handle.is_held() {
+    let Some(state) = handle.state() else {
         return Code::NoHandle as u32;
-    }
-    *color = Color::of(handle.state().receiver.decoder().register(register));
+    };
+    *color = Color::of(state.receiver.decoder().register(register));
     Code::Success as u32
 }
 
@@ -55,8 +55,8 @@ pub extern "C" fn icysixel_set_register(
     })
         handle.old.pointer.state handle.new.pointer.state }
 {
-    if handle.is_held() {
-        let decoder = handle.state().receiver.decoder_mut();
+    if let Some(state) = handle.state() {
+        let decoder = state.receiver.decoder_mut();
         decoder.set_register(register, [red, green, blue]);
     }
 }
@@ -72,10 +72,10 @@ pub extern "C" fn icysixel_get_registers(
         ≡ with_colors colors.old 0 (drop first state.receiver.decoder.registers))
         handle.old.pointer.state handle.new.pointer.state colors.old colors.new result }
 {
-    if !handle.is_held() {
+    let Some(state) = handle.state() else {
         return Code::NoHandle as u32;
-    }
-    let registers = handle.state().receiver.decoder().registers();
+    };
+    let registers = state.receiver.decoder().registers();
     copy_colors(colors, registers.split_at(usize::from(first)).1);
     Code::Success as u32
 }
@@ -97,12 +97,8 @@ pub extern "C" fn icysixel_set_registers(handle: &mut Handle, first: u8, colors:
     })
         handle.old.pointer.state handle.new.pointer.state }
 {
-    if handle.is_held() {
-        handle
-            .state()
-            .receiver
-            .decoder_mut()
-            .set_registers(first, colors);
+    if let Some(state) = handle.state() {
+        state.receiver.decoder_mut().set_registers(first, colors);
     }
 }
 
@@ -112,7 +108,7 @@ pub extern "C" fn icysixel_reset_registers(handle: &mut Handle)
     ensures { IsSet (λ decoder. record decoder { registers = default_registers })
         handle.old.pointer.state handle.new.pointer.state }
 {
-    if handle.is_held() {
-        handle.state().receiver.decoder_mut().reset_palette();
+    if let Some(state) = handle.state() {
+        state.receiver.decoder_mut().reset_palette();
     }
 }

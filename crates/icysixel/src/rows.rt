@@ -17,10 +17,10 @@ pub extern "C" fn icysixel_get_rows_so_far(handle: &mut Handle) -> usize
     ensures { Reads (λ state. rows_so_far state.receiver.image)
         handle.old.pointer.state handle.new.pointer.state result }
 {
-    if !handle.is_held() {
-        return 0;
+    match handle.state() {
+        Some(state) => state.receiver.rows_so_far(),
+        None => 0,
     }
-    handle.state().receiver.rows_so_far()
 }
 
 /// Copies final rows of the open image to the buffer.
@@ -41,13 +41,13 @@ pub extern "C" fn icysixel_copy_rows(
         → AreRowsCopied state first rows layout.now buf.old buf.new result }
     ensures untouched { result ≢ 0 → buf.new ≡ buf.old }
 {
-    if !handle.is_held() {
+    let Some(state) = handle.state() else {
         return Code::NoHandle as u32;
-    }
+    };
     if !is_order(layout.order) {
         return Code::BadOption as u32;
     }
-    copy_rows(handle.state(), first, rows, layout, buf)
+    copy_rows(state, first, rows, layout, buf)
 }
 
 /// Copies final rows of the image, if one is open.
@@ -75,10 +75,9 @@ pub extern "C" fn icysixel_release_rows(handle: &mut Handle, rows: usize) -> u32
     ensures released { Acts (λ before after. AreRowsReleased before after rows result)
         handle.old.pointer.state handle.new.pointer.state }
 {
-    if !handle.is_held() {
+    let Some(state) = handle.state() else {
         return Code::NoHandle as u32;
-    }
-    let state = handle.state();
+    };
     if !state.receiver.is_receiving() {
         return Code::NoSession as u32;
     }

@@ -16,10 +16,10 @@ pub extern "C" fn icysixel_get_height(handle: &mut Handle) -> u8
     ensures { Reads (λ state. number_of state.height)
         handle.old.pointer.state handle.new.pointer.state result }
 {
-    if !handle.is_held() {
-        return 0;
+    match handle.state() {
+        Some(state) => height_number(state.height),
+        None => 0,
     }
-    height_number(handle.state().height)
 }
 
 /// The number of a height.
@@ -45,16 +45,16 @@ pub extern "C" fn icysixel_set_height(handle: &mut Handle, height: u8) -> u32
     ensures done { is_some handle.old.pointer.state ≡ true → is_height height ≡ true → result ≡ 0 }
     ensures same { result ≢ 0 → handle.new.pointer.state ≡ handle.old.pointer.state }
 {
-    if !handle.is_held() {
+    let Some(state) = handle.state() else {
         return Code::NoHandle as u32;
-    }
+    };
     let height = match height {
         0 => Height::Bands,
         1 => Height::Raster,
         2 => Height::Drawn,
         _ => return Code::BadOption as u32,
     };
-    handle.state().height = height;
+    state.height = height;
     Code::Success as u32
 }
 
@@ -64,10 +64,10 @@ pub extern "C" fn icysixel_get_lenient(handle: &mut Handle) -> u8
     ensures { Reads (λ state. cond state.receiver.lenient 1 0)
         handle.old.pointer.state handle.new.pointer.state result }
 {
-    if !handle.is_held() {
-        return 0;
+    match handle.state() {
+        Some(state) => u8::from(state.receiver.is_lenient()),
+        None => 0,
     }
-    u8::from(handle.state().receiver.is_lenient())
 }
 
 /// Sets whether images are lenient: 0 is off, any other number is on.
@@ -76,8 +76,8 @@ pub extern "C" fn icysixel_set_lenient(handle: &mut Handle, on: u8)
     ensures { IsReceiverSet (λ receiver. record receiver { lenient = not (on == 0) })
         handle.old.pointer.state handle.new.pointer.state }
 {
-    if handle.is_held() {
-        handle.state().receiver.set_lenient(on != 0);
+    if let Some(state) = handle.state() {
+        state.receiver.set_lenient(on != 0);
     }
 }
 
@@ -87,10 +87,10 @@ pub extern "C" fn icysixel_get_transparent(handle: &mut Handle) -> u8
     ensures { Reads (λ state. cond state.receiver.transparent 1 0)
         handle.old.pointer.state handle.new.pointer.state result }
 {
-    if !handle.is_held() {
-        return 0;
+    match handle.state() {
+        Some(state) => u8::from(state.receiver.is_transparent()),
+        None => 0,
     }
-    u8::from(handle.state().receiver.is_transparent())
 }
 
 /// Sets whether images have a transparent background: 0 is off, any other number is on.
@@ -99,8 +99,8 @@ pub extern "C" fn icysixel_set_transparent(handle: &mut Handle, on: u8)
     ensures { IsReceiverSet (λ receiver. record receiver { transparent = not (on == 0) })
         handle.old.pointer.state handle.new.pointer.state }
 {
-    if handle.is_held() {
-        handle.state().receiver.set_transparent(on != 0);
+    if let Some(state) = handle.state() {
+        state.receiver.set_transparent(on != 0);
     }
 }
 
@@ -110,10 +110,10 @@ pub extern "C" fn icysixel_get_first_register(handle: &mut Handle) -> u8
     ensures { Reads (λ state. state.receiver.first_register)
         handle.old.pointer.state handle.new.pointer.state result }
 {
-    if !handle.is_held() {
-        return 0;
+    match handle.state() {
+        Some(state) => state.receiver.first_register(),
+        None => 0,
     }
-    handle.state().receiver.first_register()
 }
 
 /// Sets the register in which an image draws until it selects one.
@@ -122,8 +122,8 @@ pub extern "C" fn icysixel_set_first_register(handle: &mut Handle, register: u8)
     ensures { IsReceiverSet (λ receiver. record receiver { first_register = register })
         handle.old.pointer.state handle.new.pointer.state }
 {
-    if handle.is_held() {
-        handle.state().receiver.set_first_register(register);
+    if let Some(state) = handle.state() {
+        state.receiver.set_first_register(register);
     }
 }
 
@@ -133,10 +133,10 @@ pub extern "C" fn icysixel_get_limit(handle: &mut Handle) -> usize
     ensures { Reads (λ state. state.receiver.decoder.pixel_limit.pixels)
         handle.old.pointer.state handle.new.pointer.state result }
 {
-    if !handle.is_held() {
-        return 0;
+    match handle.state() {
+        Some(state) => state.receiver.decoder().pixel_limit(),
+        None => 0,
     }
-    handle.state().receiver.decoder().pixel_limit()
 }
 
 /// Sets how many pixels an image can have: at least 1, and at most 67,108,864.
@@ -145,12 +145,8 @@ pub extern "C" fn icysixel_set_limit(handle: &mut Handle, pixels: usize)
     ensures { IsSet (λ decoder. with_pixel_limit decoder pixels)
         handle.old.pointer.state handle.new.pointer.state }
 {
-    if handle.is_held() {
-        handle
-            .state()
-            .receiver
-            .decoder_mut()
-            .set_pixel_limit(pixels);
+    if let Some(state) = handle.state() {
+        state.receiver.decoder_mut().set_pixel_limit(pixels);
     }
 }
 
@@ -162,10 +158,10 @@ pub extern "C" fn icysixel_get_clip(handle: &mut Handle, clip: &mut Size) -> u32
         × (written.height ≡ state.receiver.decoder.pixel_limit.rows))
         handle.old.pointer.state handle.new.pointer.state clip.old clip.new result }
 {
-    if !handle.is_held() {
+    let Some(state) = handle.state() else {
         return Code::NoHandle as u32;
-    }
-    let (width, height) = handle.state().receiver.decoder().clip();
+    };
+    let (width, height) = state.receiver.decoder().clip();
     *clip = Size { width, height };
     Code::Success as u32
 }
@@ -178,11 +174,7 @@ pub extern "C" fn icysixel_set_clip(handle: &mut Handle, width: usize, height: u
     ensures { IsSet (λ decoder. with_clip decoder width height)
         handle.old.pointer.state handle.new.pointer.state }
 {
-    if handle.is_held() {
-        handle
-            .state()
-            .receiver
-            .decoder_mut()
-            .set_clip(width, height);
+    if let Some(state) = handle.state() {
+        state.receiver.decoder_mut().set_clip(width, height);
     }
 }

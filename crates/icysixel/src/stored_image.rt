@@ -28,13 +28,13 @@ pub extern "C" fn icysixel_copy_pixels(
         → ArePixelsCopied state first rows layout.now buf.old buf.new result }
     ensures untouched { result ≢ 0 → buf.new ≡ buf.old }
 {
-    if !handle.is_held() {
+    let Some(state) = handle.state() else {
         return Code::NoHandle as u32;
-    }
+    };
     if !is_order(layout.order) {
         return Code::BadOption as u32;
     }
-    let Some(image) = &handle.state().image else {
+    let Some(image) = &state.image else {
         return Code::NoImage as u32;
     };
     match image.copy_rows(first, rows, layout.row_layout(image.width), buf) {
@@ -62,13 +62,13 @@ pub extern "C" fn icysixel_take_pixels(
     ensures unwritten { result ≢ 0 → bytes.new ≡ bytes.old }
     ensures same { result ≢ 0 → handle.new.pointer.state ≡ handle.old.pointer.state }
 {
-    if !handle.is_held() {
+    let Some(state) = handle.state() else {
         return Code::NoHandle as u32;
-    }
+    };
     if !is_order(order) {
         return Code::BadOption as u32;
     }
-    let Some(image) = handle.state().image.take() else {
+    let Some(image) = state.image.take() else {
         return Code::NoImage as u32;
     };
     *bytes = Bytes::of(alloc, image.into_pixels(channel_order(order)));
@@ -82,7 +82,7 @@ pub extern "C" fn icysixel_discard_image(handle: &mut Handle)
         (new.image ≡ None) × ((new.receiver ≡ old.receiver) × (new.height ≡ old.height)))
         handle.old.pointer.state handle.new.pointer.state }
 {
-    if handle.is_held() {
-        handle.state().image = None;
+    if let Some(state) = handle.state() {
+        state.image = None;
     }
 }

@@ -44,8 +44,7 @@ pub extern "C" fn icysixel_begin_dcs(alloc: Global, handle: &mut Handle)
     ensures { IsOpened (λ receiver. begun OfString (start_of receiver))
         handle.old.pointer.state handle.new.pointer.state }
 {
-    if handle.is_held() {
-        let state = handle.state();
+    if let Some(state) = handle.state() {
         state.receiver.begin_dcs(alloc);
     }
 }
@@ -56,9 +55,8 @@ pub extern "C" fn icysixel_begin_payload(alloc: Global, handle: &mut Handle, p1:
     ensures { IsOpened (λ receiver. begun (OfPayload (settings_of p1 p2)) (start_of receiver))
         handle.old.pointer.state handle.new.pointer.state }
 {
-    if handle.is_held() {
+    if let Some(state) = handle.state() {
         let settings = dcs_settings(p1, p2);
-        let state = handle.state();
         state.receiver.begin_frame(alloc, settings);
     }
 }
@@ -93,10 +91,10 @@ pub extern "C" fn icysixel_feed(handle: &mut Handle, piece: &[u8], fed: &mut Fed
     ensures told { (before : State) → handle.old.pointer.state ≡ Some before
         → is_open before.receiver.image.form ≡ false → fed.new ≡ fed.old }
 {
-    if !handle.is_held() {
+    let Some(state) = handle.state() else {
         return Code::NoHandle as u32;
-    }
-    feed(handle.state(), piece, fed)
+    };
+    feed(state, piece, fed)
 }
 
 /// Reads a chunk of the open image up to its first graphics new line.
@@ -111,10 +109,10 @@ pub extern "C" fn icysixel_feed_band(handle: &mut Handle, piece: &[u8], fed: &mu
     ensures told { (before : State) → handle.old.pointer.state ≡ Some before
         → is_open before.receiver.image.form ≡ false → fed.new ≡ fed.old }
 {
-    if !handle.is_held() {
+    let Some(state) = handle.state() else {
         return Code::NoHandle as u32;
-    }
-    feed_band(handle.state(), piece, fed)
+    };
+    feed_band(state, piece, fed)
 }
 
 /// Reads a chunk of the image, if one is open, up to its first graphics new line.
@@ -183,10 +181,10 @@ pub extern "C" fn icysixel_finish(handle: &mut Handle, shape: &mut Shape) -> u32
     ensures commanded { result ≢ 16 }
     ensures told { result ≢ 0 → shape.new ≡ shape.old }
 {
-    if !handle.is_held() {
+    let Some(state) = handle.state() else {
         return Code::NoHandle as u32;
-    }
-    finish(handle.state(), shape)
+    };
+    finish(state, shape)
 }
 
 /// Closes the image, if one is open, and replaces the stored one by it.
@@ -209,7 +207,7 @@ fn finish(state: &mut State, shape: &mut Shape) -> u32
 pub extern "C" fn icysixel_abort(handle: &mut Handle)
     ensures { IsOpened (λ _. no_image) handle.old.pointer.state handle.new.pointer.state }
 {
-    if handle.is_held() {
-        handle.state().receiver.abort();
+    if let Some(state) = handle.state() {
+        state.receiver.abort();
     }
 }

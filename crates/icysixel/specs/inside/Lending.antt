@@ -1,5 +1,5 @@
 -- What a handle and its pointer are when the borrow of the state that they lent ends.
-use Rattle.std.specs.{Borrow.{Lends, MutBor, Fml}, Prelude.{◌≡◌, Option, Some, None, is_some}}
+use Rattle.std.specs.{Borrow.{Lends, LendsIf, MutBor, Fml}, Prelude.{◌≡◌, Option, Some, None, is_some}}
 use Rattle.std.specs.Prelude.{nat_lt}
 use Rattle.icysixel.specs.declared.{handle.Handle.Handle, state.State.State}
 use Rattle.icysixel.specs.declared.state_pointer.StatePointer.{StatePointer}
@@ -21,7 +21,7 @@ abbrev pub holding : (h : Handle) (before : Option State) → is_some before ≡
 holding h None agrees x = h
 holding h (Some before) agrees x = record h { pointer = with_state h.pointer x; agrees = agrees }
 
--- a handle ends with the last value of the state behind it
-abbrev pub LendsHeld : MutBor Handle → MutBor State → Fml
+-- a handle ends with the last value of the state behind it, if there is one
+abbrev pub LendsHeld : MutBor Handle → Option (MutBor State) → Fml
 LendsHeld h x =
-    Lends handle.the_row state.the_row h x (holding h.now h.now.pointer.state h.now.agrees)
+    LendsIf handle.the_row state.the_row h x (holding h.now h.now.pointer.state h.now.agrees) h.now
