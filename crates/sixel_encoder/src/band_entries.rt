@@ -78,7 +78,7 @@ impl<'a> BandEntries<'a> {
             ≡ entry_at (drawing_of self.now.image.now) column (6 * self.now.band + 0) }
     {
         let first = self.lane(column, 0);
-        lanes_with(&self.lanes, 8 * column, first) % 64 == 63
+        self.lanes_with(column, first) % 64 == 63
     }
 
     /// Returns whether the pixels of a column have the same entries as those of the one before.
@@ -91,7 +91,10 @@ impl<'a> BandEntries<'a> {
             → entry_at (drawing_of self.now.image.now) column (6 * self.now.band + bit)
             ≡ entry_at (drawing_of self.now.image.now) (column - 1) (6 * self.now.band + bit) }
     {
-        have_equal_lanes(&self.lanes, 8 * column, 8 * (column - 1))
+        let lanes = self.lanes.as_slice();
+        let own = u16x8::from_slice(&lanes[8 * column..]);
+        let before = u16x8::from_slice(&lanes[8 * (column - 1)..]);
+        own.simd_ne(before).to_bitmask() == 0
     }
 
     /// Returns the end of the columns whose pixels have the same entries as those of this one.
@@ -123,7 +126,7 @@ impl<'a> BandEntries<'a> {
         requires entry { entry < 256 }
         ensures { result ≡ sixel_of (drawing_of self.now.image.now) self.now.band entry column }
     {
-        lanes_with(&self.lanes, 8 * column, entry as u16)
+        self.lanes_with(column, entry as u16)
     }
 
     /// Returns the transparent pixels of a column.
@@ -134,7 +137,19 @@ impl<'a> BandEntries<'a> {
         ensures { result
             ≡ transparent_sixel (drawing_of self.now.image.now) self.now.band column }
     {
-        lanes_with(&self.lanes, 8 * column, TRANSPARENT) - 192
+        self.lanes_with(column, TRANSPARENT) - 192
+    }
+
+    /// Returns which lanes of a column have a value, the first one in the lowest bit.
+    #[inline(always)]
+    fn lanes_with(&self, column: usize, value: u16) -> u8
+        requires { 8 * column + 8 ≤ length self.now.lanes.items }
+        ensures { result
+            ≡ mask (λ bit. slice_index self.now.lanes.items (8 * column + bit) == value) 8 }
+    {
+        let lanes = self.lanes.as_slice();
+        let own = u16x8::from_slice(&lanes[8 * column..]);
+        own.simd_eq(u16x8::splat(value)).to_bitmask() as u8
     }
 }
 
@@ -177,27 +192,4 @@ fn lane_at(image: &IndexedImage<'_>, column: usize, row: usize) -> u16
     } else {
         TRANSPARENT
     }
-}
-
-/// Returns which of eight lanes have a value, the first one in the lowest bit.
-#[inline(always)]
-fn lanes_with(lanes: &[u16], at: usize, value: u16) -> u8
-    requires { at + 8 ≤ length lanes.now }
-    ensures { result ≡ mask (λ bit. slice_index lanes.now (at + bit) == value) 8 }
-{
-    let chunk = u16x8::from_slice(&lanes[at..]);
-    chunk.simd_eq(u16x8::splat(value)).to_bitmask() as u8
-}
-
-/// Returns whether eight lanes equal eight others.
-#[inline(always)]
-fn have_equal_lanes(lanes: &[u16], one: usize, other: usize) -> bool
-    requires one { one + 8 ≤ length lanes.now }
-    requires other { other + 8 ≤ length lanes.now }
-    ensures { result ≡ true → (k : ℕ) → k < 8
-        → slice_index lanes.now (one + k) ≡ slice_index lanes.now (other + k) }
-{
-    let first = u16x8::from_slice(&lanes[one..]);
-    let second = u16x8::from_slice(&lanes[other..]);
-    first.simd_ne(second).to_bitmask() == 0
 }

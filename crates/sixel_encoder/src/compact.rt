@@ -48,7 +48,15 @@ fn encode_marked(alloc: Global, image: &IndexedImage<'_>) -> Result<(String, usi
     let numbers = number_entries(alloc, &runs)?;
     let mut text = begin_text(alloc, image)?;
     push_numbered(&mut text, image, &runs, &numbers)?;
-    let mut writer = BandWriter::new(alloc, image, &numbers)?;
+    let mut writer = BandWriter {
+        entries: BandEntries::new(alloc, image)?,
+        numbers: &numbers,
+        pen: Pen {
+            column: 0,
+            register: None,
+        },
+        rows: SegmentRows::new(alloc, image.width)?,
+    };
     let plain_bytes = writer.push_bands(alloc, &mut text)?;
     Ok((text, plain_bytes))
 }
@@ -67,32 +75,6 @@ struct BandWriter<'a> {
 }
 
 impl<'a> BandWriter<'a> {
-    /// Returns a writer at the first band.
-    fn new(
-        alloc: Global,
-        image: &'a IndexedImage<'a>,
-        numbers: &'a [usize],
-    ) -> Result<BandWriter<'a>, AllocError>
-        requires image { IsIndexed image.now }
-        requires numbers { AreNumbersOf image.now numbers.now }
-        ensures writer { IfOk result IsWriter }
-        ensures image { IfOk result (λ writer. writer.entries.image.now ≡ image.now) }
-        ensures register { IfOk result (λ writer. writer.pen.register ≡ None) }
-    {
-        let pen = Pen {
-            column: 0,
-            register: None,
-        };
-        let entries = BandEntries::new(alloc, image)?;
-        let rows = SegmentRows::new(alloc, image.width)?;
-        Ok(BandWriter {
-            entries,
-            numbers,
-            pen,
-            rows,
-        })
-    }
-
     /// Appends all bands and the end of the sequence.
     ///
     /// Returns how many bytes the plain output takes at least.

@@ -1,11 +1,10 @@
 //! The SIXEL output of an image in a given palette.
 
-ghost use Rattle.std.specs.Prelude.{◌≡◌, ◌*◌, ◌<◌, IfOk, None, length, string_bytes};
+ghost use Rattle.std.specs.Prelude.{◌≡◌, ◌*◌, ◌<◌, IfOk, length, string_bytes};
 ghost use Rattle.sixel_base.specs.CallFault.{FailsBy, IsVerdict};
-ghost use Rattle.sixel_encoder.specs.Encoding.{image_fault, source_value};
-ghost use Rattle.sixel_encoder.specs.IndexedDrawing.{IsPaletteText, IsTextOf, indexed_drawing};
-ghost use Rattle.sixel_encoder.specs.IndexedDrawing.{palette_fault, index_count_fault};
-ghost use Rattle.sixel_encoder.specs.IndexedDrawing.{index_range_fault, indexed_fault};
+ghost use Rattle.sixel_encoder.specs.Encoding.{source_value};
+ghost use Rattle.sixel_encoder.specs.IndexedDrawing.{IsPaletteText, IsTextOf, index_range_fault};
+ghost use Rattle.sixel_encoder.specs.IndexedDrawing.{indexed_drawing, indexed_fault, palette_fault};
 
 use crate::form::TextForm;
 use crate::source::{Source, encode_drawing, validate_source};
@@ -63,24 +62,13 @@ pub fn encode_with_indices(
 {
     validate_source(source)?;
     validate_color_count(colors.len())?;
-    validate_index_count(source, indices.len())?;
+    let expected = source.width * source.height;
+    let actual = indices.len();
+    if actual != expected {
+        return Err(SixelError::BufferSizeMismatch { expected, actual });
+    }
     validate_indices(source.pixels, indices, colors.len())?;
     encode_drawing(alloc, source, colors, indices, form)
-}
-
-/// Returns an error unless there are as many indices as pixels.
-fn validate_index_count(source: &Source<'_>, count: usize) -> Result<()>
-    requires { image_fault (source_value source.now) ≡ None }
-    ensures { IsVerdict (index_count_fault (source_value source.now) count) result }
-{
-    let expected = source.width * source.height;
-    if count == expected {
-        return Ok(());
-    }
-    Err(SixelError::BufferSizeMismatch {
-        expected,
-        actual: count,
-    })
 }
 
 /// Returns an error unless the index of each opaque pixel is below `colors`.

@@ -44,7 +44,7 @@ pub fn band_segments(alloc: Global, entries: &BandEntries<'_>) -> Result<Vec<Seg
             let mut above = TRANSPARENT;
             for bit in 0..6 {
                 let lane = entries.lane(column, bit);
-                if is_new(lane, above) {
+                if lane != above && lane != TRANSPARENT {
                     let run = run_of(lane, column, column + 1);
                     push_run(&mut segments, &mut last, gap, run)?;
                 }
@@ -54,15 +54,6 @@ pub fn band_segments(alloc: Global, entries: &BandEntries<'_>) -> Result<Vec<Seg
         }
     }
     Ok(segments)
-}
-
-/// Returns whether the pixel of a lane is opaque, and has another entry than the one above it.
-#[inline(always)]
-fn is_new(lane: u16, above: u16) -> bool
-    ensures opaque { result ≡ true → lane ≢ 256 }
-    ensures same { result ≡ false → lane ≢ 256 → lane ≡ above }
-{
-    lane != above && lane != TRANSPARENT
 }
 
 /// Returns how many blank columns cut a row: as many as none has, if there are few colors.

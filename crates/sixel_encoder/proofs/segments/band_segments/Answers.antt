@@ -9,7 +9,7 @@ use Rattle.sixel_encoder.specs.{Segments.{gap_of, with_pixel}, Text.Drawing}
 use Rattle.sixel_encoder.specs.inside.Indexed.{drawing_of}
 use Rattle.sixel_encoder.proofs.band_rows.ColumnLanes.{opaque-lane, transparent-lane}
 use Rattle.sixel_encoder.proofs.segments.band_segments.Goals as goal
-use goal.{then-is_new+in_ok-push_run-2, else-is_new}
+use goal.{then-lane-above+then-lane-ne-TRANSPARENT-2+in_ok-push_run-2, else-lane-above}
 
 gap-small : (drawing : Drawing) → gap_of drawing ≤ drawing.width + 10
 gap-small drawing = grind (arith, nat_tests)
@@ -50,12 +50,18 @@ pub columns-preserved-else-lane-ne-TRANSPARENT : goal.columns-preserved-else-lan
 columns-preserved-else-lane-ne-TRANSPARENT c =
     grind (arith, transparent-lane, columns-blank, c.columns.invariant)
 
-pub push_run-requires-then-is_new-clause-entry : goal.push_run-requires-then-is_new-clause-entry
-push_run-requires-then-is_new-clause-entry c =
+pub push_run-requires-then-lane-ne-TRANSPARENT-2-clause-entry :
+    goal.push_run-requires-then-lane-ne-TRANSPARENT-2-clause-entry
+push_run-requires-then-lane-ne-TRANSPARENT-2-clause-entry c =
     let lane =
     opaque-lane _ _ _ _ c.requires c.columns-test.true c.lane-lane-in-loop-bit.ensures
-    (c.is_new.ensures.opaque c.if-is_new.true) in
-    omega (arith, c.run_of-run-then-is_new.ensures.entry, lane.1, c.loop-bit.invariant.size)
+    c.if-lane-ne-TRANSPARENT-2.true in
+    omega (
+      arith,
+      c.run_of-run-then-lane-ne-TRANSPARENT-2.ensures.entry,
+      lane.1,
+      c.loop-bit.invariant.size,
+    )
 
 pub loop-bit-preserved : goal.loop-bit-preserved
 loop-bit-preserved c =
@@ -67,17 +73,17 @@ loop-bit-preserved c =
     let is = c.loop-bit.invariant in
     let lc : column < entries.image.now.width = c.columns-test.true in
     let lb : c.loop-bit.bit < 6 = omega (arith, c.loop-bit-test.true, c.loop-bit.auto.bit-end) in
-    elim c.if-is_new.branch [
-      | then-is_new+in_ok-push_run-2 w ↦
-          let run = w.run_of-run-then-is_new.result in
-          let new = w.push_run-then-is_new.new in
+    elim c.if-lane-above.branch [
+      | then-lane-above+then-lane-ne-TRANSPARENT-2+in_ok-push_run-2 w ↦
+          let run = w.run_of-run-then-lane-ne-TRANSPARENT-2.result in
+          let new = w.push_run-then-lane-ne-TRANSPARENT-2.new in
           let at =
           opaque-lane entries column c.loop-bit.bit lane c.requires lc
-          c.lane-lane-in-loop-bit.ensures (c.is_new.ensures.opaque w.if-is_new.true) in
+          c.lane-lane-in-loop-bit.ensures w.if-lane-ne-TRANSPARENT-2.true in
           let made =
-          run-made run lane column (column + 1) w.run_of-run-then-is_new.ensures.entry
-          w.run_of-run-then-is_new.ensures.first w.run_of-run-then-is_new.ensures.end in
-          let items : c.if-is_new.segments.items ≡ new.segments.items = grind (arith, nat_tests) in
+          run-made run lane column (column + 1) w.run_of-run-then-lane-ne-TRANSPARENT-2.ensures.entry
+          w.run_of-run-then-lane-ne-TRANSPARENT-2.ensures.first w.run_of-run-then-lane-ne-TRANSPARENT-2.ensures.end in
+          let items : c.if-lane-above.segments.items ≡ new.segments.items = grind (arith, nat_tests) in
           let pushed : new.segments.items ≡ with_pixel gap column lane was =
           grind (arith, nat_tests, run-pixel, w.in_ok-push_run-2.ensures.segments) in
           record {
@@ -85,10 +91,10 @@ loop-bit-preserved c =
                 items
                 ∙ segment-pixel _ _ _ _ _ lb is.segments _ _ _ c.gap_of-gap.ensures at.0 pushed;
             last = rw (items, w.last-is) (grind (arith, nat_tests, AreLast-later));
-            size = ap length w.last-is ∙ (w.push_run-then-is_new.ensures.size ∙ is.size);
+            size = ap length w.last-is ∙ (w.push_run-then-lane-ne-TRANSPARENT-2.ensures.size ∙ is.size);
             above = λ l. rw (items, pushed) (with_pixel-twice gap column lane was);
           }
-      | else-is_new w ↦ grind (arith, segment-skip, transparent-lane, opaque-lane, segment-pixel)
+      | else-lane-above w ↦ grind (arith, segment-skip, transparent-lane, opaque-lane, segment-pixel)
     ]
 
 pub returns : goal.returns
@@ -102,10 +108,6 @@ columns-preserved c = grind (arith, nat_tests)
 
 pub push_run-requires-clause-small : goal.push_run-requires-clause-small
 push_run-requires-clause-small c =
-    omega (arith, gap-small (drawing_of c.args.entries.now.image.now))
-
-pub push_run-requires-then-is_new-clause-small : goal.push_run-requires-then-is_new-clause-small
-push_run-requires-then-is_new-clause-small c =
     omega (arith, gap-small (drawing_of c.args.entries.now.image.now))
 
 pub returns-in_err-push_run : goal.returns-in_err-push_run
