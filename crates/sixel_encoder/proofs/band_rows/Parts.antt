@@ -77,8 +77,3 @@ module _ (start now first rows : List ℕ) (marks used : List Bool) (width from 
   pub progress-unused : AreMarks first marks width → length used ≡ length marks → n < length used
       → get_or used n false ≡ false → Progress start now first rows marks used width from (n + 1)
   progress-unused are size l is = grind (arith, nat_tests, false≢true, appended-none, has_dot-none)
-
-  -- equal values have the same progress
-  pub progress-same : (new after : List ℕ) (left : List Bool) → new ≡ now → after ≡ rows
-      → left ≡ used → Progress start new first after marks left width from n
-  progress-same new after left et er eu = grind arith

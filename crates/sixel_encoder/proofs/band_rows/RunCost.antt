@@ -80,9 +80,6 @@ run_low n m few three = grind (arith, nat_tests, run_cost-is, tier)
 pub run_cost0 : run_cost 0 ≡ 0
 run_cost0 = refl
 
-pub run_cost1 : run_cost 1 ≡ 1
-run_cost1 = refl
-
 -- ---- the bytes of the tokens themselves
 
 pub cost-append : (a b : List RunToken) → cost (a ++ b) ≡ cost a + cost b

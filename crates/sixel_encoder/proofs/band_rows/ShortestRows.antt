@@ -3,19 +3,18 @@
 use Rattle.std.proofs.Common.{◌≡◌, ◌≢◌, ℕ, zero, suc, ◌+◌, ◌*◌, ◌<◌, ◌≤◌, List, ◌∷◌, ◌++◌, length}
 use Rattle.std.proofs.Common.{replicate, refl, ap, sym, ◌∙◌, arith, length-append, append_assoc}
 use Rattle.std.proofs.Common.{◌/◌, ◌%◌, [], get_or, drop, ◌-◌, min, inl, inr}
-use Rattle.std.specs.Prelude.{flat_map, All}
-use Rattle.std.proofs.lemmas.{Bool.{cases_eq, cases_lt}, Bool.Decides.nat_tests, List.append-nil}
-use Rattle.std.proofs.lemmas.{Grind.{common_steps, flat_map-append}, List.{get_or-drop, length-drop}}
-use Rattle.std.proofs.lemmas.List.{replicate_more, replicate-append-replicate}
-use Rattle.std.proofs.lemmas.List.Elements.{All-head, All-tail, All-append}
-use Rattle.std.proofs.Math.{Seq.drop-cons, Nat.{div-eq-sub-div, mod-eq-sub-mod}}
+use Rattle.std.{proofs.Math.Nat.{div-eq-sub-div, mod-eq-sub-mod}, proofs.Math.Seq.drop-cons}
+use Rattle.std.{proofs.lemmas.Bool.{cases_eq, cases_lt}, proofs.lemmas.Bool.Decides.nat_tests}
+use Rattle.std.{proofs.lemmas.Grind.{common_steps, flat_map-append}, proofs.lemmas.List.append-nil}
+use Rattle.std.proofs.lemmas.List.{get_or-drop, length-drop, replicate_more}
+use Rattle.std.{proofs.lemmas.List.replicate-append-replicate, proofs.lemmas.List.Elements.All-head}
+use Rattle.std.{proofs.lemmas.List.Elements.{All-tail, All-append}, specs.Prelude.{flat_map, All}}
 use Rattle.sixel_base.specs.Limits.{repeat_limit}
+use Rattle.sixel_encoder.proofs.band_rows.RunCost.{run_cost, run_cut, run_cost0, cost-append}
+use Rattle.sixel_encoder.proofs.band_rows.RunCost.{cost-run, length-decimal1, length-decimal5}
 use Rattle.sixel_encoder.specs.RunTokens.{RunToken, One, Many, sixels, spelling, written, cost}
 use Rattle.sixel_encoder.specs.RunTokens.{IsRunToken, Spells, IsShortest, rest_tokens, run_tokens}
-use Rattle.sixel_encoder.specs.{RunTokens.{tokens_after, row_tokens}, inside.Runs.IsRun}
-use Rattle.sixel_encoder.proofs.band_rows.RunCost.{run_cost, run_cut, run_cost0, run_cost1}
-use Rattle.sixel_encoder.proofs.band_rows.RunCost.{cost-append, cost-run, length-decimal1}
-use Rattle.sixel_encoder.proofs.band_rows.RunCost.{length-decimal5}
+use Rattle.sixel_encoder.{specs.RunTokens.{tokens_after, row_tokens}, specs.inside.Runs.IsRun}
 
 -- the bytes of the tokens of `n` equal sixels and a row
 abbrev pub left : ℕ → ℕ → List ℕ → ℕ
@@ -62,7 +61,7 @@ left_many n b row = grind (arith, nat_tests, left_any, left_run n 0 b row, left_
 left_token : (token : RunToken) (row : List ℕ) → IsRunToken token
     → left 0 0 (sixels token ++ row) ≤ length (spelling token) + left 0 0 row
 unfolding sixels
-left_token (One b) row is = omega (arith, left_many 1 b row, run_cost1)
+left_token (One b) row is = omega (arith, left_many 1 b row)
 left_token (Many n b) row is =
     grind (arith, nat_tests, length-decimal1, length-decimal5, length-append, left_many)
 

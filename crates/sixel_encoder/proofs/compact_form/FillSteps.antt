@@ -3,8 +3,8 @@ use Rattle.std.proofs.lemmas.List.FromFn.{get_or-map-range_with_len, length-map-
 use Rattle.std.proofs.lemmas.List.{get_or_append_left, get_or-append-add, get_or-set_other}
 use Rattle.std.proofs.lemmas.List.{length-replicate, length-set, take_all, get_or-replicate}
 use Rattle.std.proofs.lemmas.Grind.{same_number_lists, get_or-set_at, common_steps}
-use Rattle.std.proofs.Common.{length-append, slice_index, replicate, length, arith, false, Bool}
-use Rattle.std.proofs.Common.{List, cond, refl, take, true, ◌++◌, zero, set, suc, ◌+◌, ◌-◌, ◌<◌}
+use Rattle.std.proofs.Common.{length-append, slice_index, replicate, length, arith, false}
+use Rattle.std.proofs.Common.{List, refl, take, true, ◌++◌, zero, set, suc, ◌+◌, ◌-◌, ◌<◌}
 use Rattle.std.proofs.Common.{◌∷◌, ◌≡◌, ◌≢◌, ◌≤◌, ◌∙◌, inl, inr, ap, [], ℕ}
 use Rattle.std.proofs.lemmas.List.Elements.{All-replicate, All-append}
 use Rattle.std.proofs.lemmas.Nat.Bits.{bit_at-zero, bit_at_and, bit_at-lt, bit_at_or}
@@ -22,14 +22,6 @@ IsPart a b = (i : ℕ) → bit_at a i ≤ bit_at b i
 abbrev pub AreApart : ℕ → ℕ → Type 0
 AreApart a b = (i : ℕ) → bit_at a i + bit_at b i ≤ 1
 
--- the bits of a number are bits of its union with another
-part-left : (a b : ℕ) → IsPart a (bit_or a b)
-part-left a b i = omega (arith, bit_at_or a b i)
-
--- from the right, too
-part-right : (a b : ℕ) → IsPart b (bit_or a b)
-part-right a b i = omega (arith, bit_at_or a b i)
-
 -- numbers with no common bit, by the test
 apart-and : (a b : ℕ) → bit_and a b ≡ 0 → AreApart a b
 apart-and a b none i =
@@ -40,10 +32,6 @@ apart-and a b none i =
 pub record IsFilled (bits ban value : ℕ) : Type 0 where
   pub all : IsPart bits value
   pub none : AreApart value ban
-
--- bits that are apart from the ban serve themselves
-IsFilled-self : (bits ban : ℕ) → AreApart bits ban → IsFilled bits ban bits
-IsFilled-self bits ban apart = record { all = λ i. omega arith; none = apart }
 
 -- the sixels of a fill
 pub record IsFill (own blocked : ℕ → ℕ) (bits ban count : ℕ) (columns row : List ℕ) : Type 0 where
@@ -165,22 +153,18 @@ pub fill-end : (own blocked : ℕ → ℕ) (row row1 whole : List ℕ) (bits ban
 fill-end own blocked row row1 whole bits ban from column n m short up long row_is was =
     grind (arith, nat_tests, take_all)
 
--- what holds of both lists holds of the one that a test chooses
-All-cond : (P : ℕ → Type 0) (b : Bool) (xs ys : List ℕ) → All P xs → All P ys → All P (cond b xs ys)
-All-cond P b xs ys left right = grind (arith, nat_tests)
-
 -- a fill has six bits in each column, if each own sixel has
 pub All-fill : (own blocked : ℕ → ℕ) → ((column : ℕ) → own column < 64)
     → (bits ban count : ℕ) (columns : List ℕ) → bits < 64
     → All (λ b. b < 64) (fill_after own blocked bits ban count columns)
 All-fill own blocked low bits ban count [] small = All-replicate (λ b. b < 64) count bits small
 All-fill own blocked low bits ban count (column ∷ columns) small =
-    All-cond (λ b. b < 64) _ _ _
-    (All-fill own blocked low (bit_or bits (own column)) (bit_or ban (blocked column)) (count + 1)
-    columns (or_lt 6 bits (own column) small (low column)))
-    (All-append (λ b. b < 64) (replicate count bits) _
+    let wider = All-fill own blocked low (bit_or bits (own column)) (bit_or ban (blocked column))
+    (count + 1) columns (or_lt 6 bits (own column) small (low column)) in
+    let next = All-append (λ b. b < 64) (replicate count bits) _
     (All-replicate (λ b. b < 64) count bits small)
-    (All-fill own blocked low (own column) (blocked column) 1 columns (low column)))
+    (All-fill own blocked low (own column) (blocked column) 1 columns (low column)) in
+    grind (arith, nat_tests)
 
 -- ---- a union
 

@@ -1,5 +1,5 @@
 -- One pixel more of a band, and one segment more of a pass.
-use Rattle.std.proofs.Common.{None, Some, ◌/◌, ◌%◌, List, ap, append_assoc, arith, length, refl}
+use Rattle.std.proofs.Common.{None, Some, List, ap, append_assoc, arith, length, refl}
 use Rattle.std.proofs.Common.{replicate, suc, zero, ℕ, ◌*◌, ◌++◌, ◌+◌, ◌<◌, ◌-◌, ◌∷◌, ◌≡◌, []}
 use Rattle.std.specs.Prelude.{Option, slice_index_or}
 use Rattle.std.proofs.lemmas.{Bool.cases_Bool, Bool.Decides.nat_tests, List.append-nil}
@@ -14,14 +14,6 @@ use Rattle.sixel_encoder.proofs.compact_form.SegmentSteps.{is_near, near-own}
 pub segments_up_to-none : (drawing : Drawing) (band : ℕ) → segments_up_to drawing band 0 ≡ []
 unfolding segments_up_to
 segments_up_to-none drawing band = refl
-
--- one pixel more
-pub segments_up_to-more : (drawing : Drawing) (band n : ℕ)
-    → segments_up_to drawing band (n + 1)
-    ≡ with_place (gap_of drawing) (n / 6) (entry_at drawing (n / 6) (6 * band + n % 6))
-    (segments_up_to drawing band n)
-unfolding segments_up_to
-segments_up_to-more drawing band n = grind (arith, nat_tests)
 
 -- ---- all passes
 
@@ -50,10 +42,11 @@ segments_up_to-bit : (drawing : Drawing) (band column bit : ℕ) → bit < 6
     → segments_up_to drawing band (6 * column + (bit + 1))
     ≡ with_place (gap_of drawing) column (entry_at drawing column (6 * band + bit))
     (segments_up_to drawing band (6 * column + bit))
+unfolding segments_up_to
 segments_up_to-bit drawing band column bit l =
     let n : ℕ = 6 * column + bit in
-    let next : 6 * column + (bit + 1) ≡ n + 1 = omega arith in
-    grind (arith, nat_tests, segments_up_to-more)
+    let next : 6 * column + (bit + 1) ≡ suc n = omega arith in
+    rw next (grind (arith, nat_tests))
 
 module _ (drawing : Drawing) (band column bit : ℕ) (items : List Segment) (l : bit < 6)
     (was : items ≡ segments_up_to drawing band (6 * column + bit)) where

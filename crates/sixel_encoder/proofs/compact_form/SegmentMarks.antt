@@ -177,10 +177,6 @@ Leads-row drawing band drawn segment segments pen place are lower used left at =
 
 -- ---- some segments
 
--- the row begins at the segment or left of it
-start-left : (column : ℕ) (segment : Segment) → start_column column segment ≤ segment.first
-start-left column segment = grind (arith, nat_tests)
-
 -- a segment leads to the next
 Leads-segment : (drawing : Drawing) (band : ℕ) (drawn : Drawn) (segment : Segment)
     (segments : List Segment) (pen : Pen) (place : Places) → AreNumbers drawing
@@ -194,7 +190,7 @@ Leads-segment drawing band drawn segment segments pen place numbers are lower us
     let second = Leads-register _ _ _ _ _ _ (numbers.small segment.entry known.known) first.state in
     let third =
     Leads-row drawing band (at_start drawn segment) segment segments _ _ are lower used
-    (start-left _ segment) second.state in
+    (grind (arith, nat_tests)) second.state in
     Leads-append _ _ _ _ _ _ _ first (Leads-append _ _ _ _ _ _ _ second third)
 
 -- some segments lead to their end

@@ -68,9 +68,6 @@ length-total t (suc n) = omega (arith, length-append (joined t n) (t n), length-
 abbrev pub added : ℕ → ℕ → ℕ
 added start three = if start == 0 then three + 4 else three
 
-pub added-some : (start three : ℕ) → 0 < start → added start three ≡ three
-added-some start three some = grind (arith, nat_tests)
-
 -- a run that ends keeps it
 pub bound-end : (drawing : Drawing) (band column entry three : ℕ) (old new : RowRuns) → 0 < column
     → IsChange drawing band entry column → IsBound drawing band column old

@@ -27,17 +27,9 @@ pub record Moved (row : List ℕ) (old new : History) : Type 0 where
       ≡ cond (is_lit row (across old) (down old) column line)
       (color origin old ++ 255 ∷ []) (pixel origin old column line)
 
--- no sixel moves nothing
-Moved-none : (h : History) → span h ≡ 1 → Moved [] h h
-Moved-none h one = grind (arith, nat_tests)
-
 -- the field of a repeat
 pub field-decimal : (n : ℕ) → n ≤ repeat_limit → field (decimal n) 0 ≡ n
 field-decimal n h = ap (λ ns. get_or ns 0 0) (fields-numbers n [] (omega arith) tt)
-
--- one sixel
-Moved-one : (bits : ℕ) (h : History) → span h ≡ 1 → Moved (bits ∷ []) h (Sixel bits ∷ h)
-Moved-one bits h one = grind (arith, nat_tests)
 
 -- a sixel that is repeated
 Moved-many : (count bits : ℕ) (h : History) → 1 ≤ count → count ≤ repeat_limit
@@ -49,7 +41,7 @@ Moved-many count bits h low high =
 pub Moved-run_token : (token : RunToken) (h : History) → IsSound token → span h ≡ 1
     → Moved (sixels token) h (with_run_token token h)
 unfolding sixels
-Moved-run_token (One bits) h is one = Moved-one bits h one
+Moved-run_token (One bits) h is one = grind (arith, nat_tests)
 Moved-run_token (Many count bits) h is one = Moved-many count bits h is.1 is.2
 
 -- a row and another behind it
@@ -61,7 +53,7 @@ Moved-more a b old mid new first then =
 -- run-length tokens draw their sixels, one behind the other
 Moved-run_tokens : (tokens : List RunToken) (h : History) → AreSound tokens → span h ≡ 1
     → Moved (flat_map sixels tokens) h (with_run_tokens tokens h)
-Moved-run_tokens [] h are one = Moved-none h one
+Moved-run_tokens [] h are one = grind (arith, nat_tests)
 Moved-run_tokens (token ∷ tokens) h are one =
     let first = Moved-run_token token h are.0 one in
     Moved-more _ _ h _ _ first (Moved-run_tokens tokens _ are.1 first.single)

@@ -135,23 +135,15 @@ carries-digits (b ∷ t) all = grind (arith, common_steps, carries-digits t)
 carries-byte : (b : ℕ) → carries b ≡ true → IsTrue (list_all carries (b ∷ []))
 carries-byte b is = grind (arith, common_steps)
 
--- the byte of a sixel carries meaning
-carries-sixel : (bits : ℕ) → bits < 64 → carries (63 + bits) ≡ true
-carries-sixel bits h = grind (arith, nat_tests)
-
--- so does a byte that is skipped
-carries-skip : (b : ℕ) → IsToken (Skip b) → carries b ≡ true
-carries-skip b is = grind (arith, nat_tests)
-
 -- all bytes of a token carry meaning
 carries-token : (token : Token) → IsToken token → IsTrue (list_all carries (spelling token))
-carries-token (Sixel bits) is = carries-byte (63 + bits) (carries-sixel bits is)
+carries-token (Sixel bits) is = carries-byte (63 + bits) (grind (arith, nat_tests))
 carries-token (Repeat t) is = carries-digits t is
 carries-token (Raster t) is = carries-parameters t is
 carries-token (Color t) is = carries-parameters t is
 carries-token Return is = refl
 carries-token Newline is = refl
-carries-token (Skip b) is = carries-byte b (carries-skip b is)
+carries-token (Skip b) is = carries-byte b (grind (arith, nat_tests))
 
 -- all bytes of a history carry meaning
 carries-spellings : (h : History) → AreTokens h → IsTrue (list_all carries (spellings h))

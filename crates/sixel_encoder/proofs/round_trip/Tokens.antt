@@ -6,21 +6,17 @@ use Rattle.std.proofs.lemmas.{Bool.Decides.nat_tests, Fmt.decimal_digit, List.ap
 use Rattle.sixel_encoder.proofs.round_trip.Digits.{numbers}
 use Rattle.sixel_base.specs.{Bytes.{count, is_parameter}, History.{AreTokens, Color, History}}
 use Rattle.sixel_base.specs.History.{IsToken, Newline, Raster, Repeat, Return, Sixel, Token}
-use Rattle.sixel_base.specs.{History.{goes_on, spellings, start}, Settings.pad_of}
+use Rattle.sixel_base.specs.{History.{spellings, start}, Settings.pad_of}
 use Rattle.sixel_palette.specs.Refined.{percentage}
 use Rattle.sixel_encoder.specs.Marks.{Back, Definition, Draw, Mark, Next, Pick, definitions_text}
 use Rattle.sixel_encoder.specs.{Marks.{mark_text, marks_payload, marks_text}, RunTokens.{Many, One}}
 use Rattle.sixel_encoder.specs.RunTokens.{RunToken, row_tokens, written}
 use Rattle.sixel_encoder.specs.{RunTokens.spelling as run_token_spelling, Text.Drawing}
 
--- a byte that no text takes begins a token after any
-goes_on-apart : (h : History) (byte : ℕ) → is_parameter byte ≡ false → goes_on h byte ≡ false
-goes_on-apart h byte apart = grind (arith, nat_tests)
-
 -- a token whose first byte no text takes may follow any
 pub token-more : (token : Token) (h : History) → IsToken token → is_parameter (start token) ≡ false
     → AreTokens h → AreTokens (token ∷ h)
-token-more token h is apart are = (is, goes_on-apart h (start token) apart, are)
+token-more token h is apart are = (is, grind (arith, nat_tests), are)
 
 -- ---- the tokens
 
