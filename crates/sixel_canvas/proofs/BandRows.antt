@@ -2,12 +2,13 @@
 -- width do to a pixel.
 use Rattle.std.proofs.Common.{◌≡◌, ℕ, ◌+◌, ◌*◌, ◌<◌, ◌≤◌, Bool, true, false, List, ◌++◌, length}
 use Rattle.std.proofs.Common.{get_or, take, drop, replicate, refl, ap, ◌∙◌, length-take}
-use Rattle.std.proofs.{Common.{get_or-take, get_or-drop, arith}, lemmas.Bool.eqb-true}
+use Rattle.std.proofs.{Common.{arith, inl, inr}, lemmas.Bool.{cases_Bool, eqb-true}}
 use Rattle.std.proofs.{lemmas.Nat.row_fits, lemmas.List.{get_or_append_left, get_or-append_right}}
 use Rattle.std.proofs.{lemmas.List.{get_or_past, get_or-set_same, get_or-set_other}, Math.ListN.set}
+use Rattle.std.proofs.lemmas.List.{length-set}
 use Rattle.std.proofs.{lemmas.Bool.Decides.nat_tests, lemmas.Grind.common_steps}
 use Rattle.std.specs.Prelude.{nat_le, nat_lt, ◌==◌, ◌&&◌, ◌||◌, if◌then◌else◌}
-use Rattle.sixel_canvas.proofs.RowPixels.{get_or-more_default}
+use Rattle.sixel_canvas.proofs.RowPixels.{get_or-more_default, parts}
 use Rattle.sixel_base.specs.Picture.{covers, is_set, is_struck}
 use Rattle.sixel_canvas.specs.inside.Band.{filled, stored}
 
@@ -96,33 +97,6 @@ pub set_first :
 set_first px wide at bits first color d column k fits inside six within low hit none =
     grind (arith, common_steps, set_row)
 
-more_in :
-    (px mid : List (List ℕ)) (wide at bits bit first place : ℕ) (color d : List ℕ) (column k : ℕ)
-    (set_bit : Bool) → is_set bits bit ≡ set_bit →
-    length mid ≡ 6 * wide → column < wide → k < 6 → at < wide → bit < 6 → first < 6 →
-    is_set bits first ≡ true → (is_set bits bit ≡ true → place ≡ bit * wide + at) →
-    (is_set bits bit ≡ false → place ≡ first * wide + at) →
-    stored mid wide d column k
-    ≡ (if (nat_lt k bit || k == first) && covers at (at + 1) 0 bits column k then color
-    else stored px wide d column k) →
-    stored (set mid place color) wide d column k
-    ≡ (if (nat_lt k (bit + 1) || k == first) && covers at (at + 1) 0 bits column k then color
-    else stored px wide d column k)
-more_in px mid wide at bits bit first place color d column k true is fits inside six within low_bit
-    low hit here other before =
-    rw (here is)
-    (set_row px mid wide at bits bit color d column k (nat_lt k bit || k == first) fits inside six
-    within low_bit is before
-    ∙ ap (λ drawn. if drawn then color else stored px wide d column k)
-    (next_set bits bit first column at k))
-more_in px mid wide at bits bit first place color d column k false is fits inside six within low_bit
-    low hit here other before =
-    rw (other is)
-    (set_row px mid wide at bits first color d column k (nat_lt k bit || k == first) fits inside six
-    within low hit before
-    ∙ ap (λ drawn. if drawn then color else stored px wide d column k)
-    (next_unset bits bit first column at k is))
-
 -- and one of the next row, or the first one again
 pub set_more :
     (px mid : List (List ℕ)) (wide at bits bit first place : ℕ) (color d : List ℕ) (column k : ℕ) →
@@ -135,8 +109,23 @@ pub set_more :
     stored (set mid place color) wide d column k
     ≡ (if (nat_lt k (bit + 1) || k == first) && covers at (at + 1) 0 bits column k then color
     else stored px wide d column k)
-set_more px mid wide at bits bit first place color d column k =
-    more_in px mid wide at bits bit first place color d column k (is_set bits bit) refl
+set_more px mid wide at bits bit first place color d column k fits inside six within low_bit low hit
+    here other before =
+    let above = nat_lt k bit || k == first in
+    elim (cases_Bool (is_set bits bit)) [
+      | inl is ↦
+          rw (here is)
+          (set_row px mid wide at bits bit color d column k above fits inside six within low_bit is
+          before
+          ∙ ap (λ drawn. if drawn then color else stored px wide d column k)
+          (next_set bits bit first column at k))
+      | inr is ↦
+          rw (other is)
+          (set_row px mid wide at bits first color d column k above fits inside six within low hit
+          before
+          ∙ ap (λ drawn. if drawn then color else stored px wide d column k)
+          (next_unset bits bit first column at k is))
+    ]
 
 -- one row more was copied, and filled up with background
 pub copied_more :
@@ -151,14 +140,7 @@ pub copied_more :
     stored next wide background column k
     ≡ (if nat_lt column held then stored px held background column k else background)
 copied_more px new part mid next held wide row extra background more long joined cut filled before
-    column k inside up = grind (
-      arith,
-      length-take,
-      get_or-take,
-      get_or-drop,
-      row_fits,
-      get_or_append_left,
-      get_or-append_right,
-      get_or_past,
-      get_or-more_default,
-    )
+    column k inside up = grind (arith, parts, row_fits, get_or-more_default)
+
+-- what a loop over the rows needs
+pub ruleset row_steps = (nat_tests, length-set, set_first, set_more)

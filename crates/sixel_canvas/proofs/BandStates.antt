@@ -16,6 +16,9 @@ all_set (suc (suc (suc (suc zero)))) six = refl
 all_set (suc (suc (suc (suc (suc zero))))) six = refl
 all_set (suc (suc (suc (suc (suc (suc k)))))) six = absurd (omega (arith, six))
 
+-- what drawing on all rows needs
+pub ruleset all_rows = (nat_tests, all_set)
+
 -- a band whose columns up to its extent were drawn over in background shows nothing else
 pub cleared : (background : List ℕ) (pixels new : List (List ℕ)) (cap extent : ℕ) →
     IsBand (band_state background pixels cap extent) →
@@ -42,18 +45,6 @@ pub row_filled :
     else cell (band_state background pixels cap extent) column j)
 row_filled background pixels new cap extent k from to color six order within change column j =
     grind (arith, nat_tests, within_row, turned)
-
--- and the band stays one where the row was drawn on up to there
-pub is_filled :
-    (background : List ℕ) (pixels new : List (List ℕ)) (cap extent k from to : ℕ) (color : List ℕ) →
-    IsBand (band_state background pixels cap extent) → length new ≡ length pixels → to ≤ extent →
-    ((column j : ℕ)
-    → cell (band_state background new cap extent) column j
-    ≡ (if nat_le from column && nat_lt column to && j == k then color
-    else cell (band_state background pixels cap extent) column j)) →
-    IsBand (band_state background new cap extent)
-is_filled background pixels new cap extent k from to color is len reached shown =
-    grind (arith, nat_tests)
 
 -- what is drawn on the band is drawn on the canvas
 pub canvas_over : (a b : Bool) (bits top row : ℕ) (above old new color : List ℕ) →

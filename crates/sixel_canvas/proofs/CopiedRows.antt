@@ -4,6 +4,7 @@ use Rattle.std.proofs.Common.{drop, arith, length-take, length-drop, get_or-take
 use Rattle.std.proofs.lemmas.List.{get_or_append_left, get_or-append_right}
 use Rattle.std.{proofs.lemmas.Nat.mul-le, specs.Prelude.{nat_le, nat_lt, ◌==◌, ◌&&◌, if◌then◌else◌}}
 use borrow.Rule.Slice.PartMut.{put_mid}
+use Rattle.sixel_canvas.{proofs.RowPixels.parts}
 use Rattle.sixel_canvas.{proofs.BandRows.within_row, specs.Layout.{AreCopied, AreRowsIn, in_order}}
 use Rattle.sixel_canvas.specs.declared.channels.RowLayout.{RowLayout}
 
@@ -12,7 +13,7 @@ spliced : (a k : ℕ) (xs ys : List ℕ) (i : ℕ) → a + k ≤ length xs → l
     get_or (put_mid a k xs ys) i 0
     ≡ (if nat_le a i && nat_lt i (a + k) then get_or ys (i - a) 0 else get_or xs i 0)
 spliced a k xs ys i fits len =
-    grind (arith, length-take, get_or-take, get_or-drop, get_or_append_left, get_or-append_right)
+    grind (arith, parts)
 
 -- one row more was copied
 pub copied_row :

@@ -2,8 +2,8 @@
 use Rattle.std.proofs.Common.{◌≡◌, ℕ, ◌+◌, ◌-◌, ◌/◌, ◌^◌, ◌%◌, ◌<◌, Bool, cond, List, [], ◌∷◌, ◌++◌}
 use Rattle.std.proofs.Common.{length, map, get_or, bit_and, refl, subst, arith}
 use Rattle.std.specs.{Int.{to_le_bytes, w32}, Prelude.{◌==◌, if◌then◌else◌}}
-use Rattle.std.proofs.lemmas.{Bool.Decides.nat_tests, Grind.{and_numeral, common_steps}}
-use Rattle.std.proofs.lemmas.List.{get_or_append_left}
+use Rattle.std.proofs.lemmas.{Bool.Decides.nat_tests, Grind.{and_numeral, common_steps, get_or-set_at}}
+use Rattle.std.proofs.lemmas.List.{get_or_append_left, get_or-set_other, length-set}
 use lib.Lanes.{sel_l, top, zip2}
 use Rattle.sixel_base.specs.Picture.{is_set}
 
@@ -71,3 +71,6 @@ pub bytes_of : (hit : Bool) (n x y : ℕ) (color pixel : List ℕ) → n ≡ (if
     to_le_bytes w32 x ≡ color → to_le_bytes w32 y ≡ pixel →
     to_le_bytes w32 n ≡ (if hit then color else pixel)
 bytes_of hit n x y color pixel is new old = grind (arith, nat_tests)
+
+-- pixels that are set one after another
+pub ruleset sets = (nat_tests, length-set, get_or-set_at, get_or-set_other)

@@ -2,7 +2,6 @@ pub mod BandCopies
 pub mod BandRows
 pub mod BandSixels
 pub mod BandStates
-pub mod BandTags
 pub mod CopiedRows
 pub mod Lanes
 pub mod MovedRows

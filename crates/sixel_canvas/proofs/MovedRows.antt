@@ -1,6 +1,6 @@
 -- How many pixels were written to give the rows of an image another width, against its pixels.
 use Rattle.std.proofs.Common.{◌≡◌, ℕ, ◌+◌, ◌-◌, ◌*◌, ◌<◌, ◌≤◌, [], ◌∷◌, List, length, max, refl}
-use Rattle.std.{proofs.Common.arith, proofs.Math.Nat.{mul-le-mul_left, mul-le-mul_right}}
+use Rattle.std.{proofs.Common.arith, proofs.Math.Nat.{mul-le-mul, mul-le-mul_left, mul-le-mul_right}}
 use Rattle.std.{proofs.lemmas.Bool.Decides.nat_tests, specs.Prelude.{nat_lt, if◌then◌else◌}}
 use Rattle.sixel_canvas.specs.Drawn.{Run, band_edge, least_moved, lowest_top, right_edge}
 use Rattle.sixel_canvas.{specs.Drawn.{rows_above, run, with_sixels}, specs.Paints.counted}
@@ -137,3 +137,9 @@ moved_run canvas named from to bits runs is above many =
     moved_more canvas named more
     (laid_wider canvas (max (least_width named runs) to) (least_width named more) is (omega arith))
     above (omega arith) many
+
+-- what rows need that are laid out in another width
+pub ruleset layouts = (nat_tests, mul-le-mul, mul-le-mul_right, moved_within)
+
+-- what a call of the canvas needs that draws nothing
+pub ruleset moves = (nat_tests, mul-le-mul_left, least_moved-less, rows_above-down)

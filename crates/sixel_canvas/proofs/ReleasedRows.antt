@@ -101,3 +101,6 @@ pub row_left :
     else final rows column (released + row - released))
     ≡ final rows column row
 row_left rows released gone column row = grind (arith, nat_tests)
+
+-- which rows are left
+pub ruleset rows_left = (nat_tests, above_stored, row_left)

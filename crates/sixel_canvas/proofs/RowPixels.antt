@@ -13,22 +13,26 @@ pub painted_length : (from to : ℕ) (color : List ℕ) (row : RowState) → fro
 painted_length from to color row order held =
     grind (arith, nat_tests, length-append, length-take, length-drop, length-replicate)
 
+-- what is read of parts of lists, one after another
+pub ruleset parts = (
+  length-append,
+  length-take,
+  length-drop,
+  length-replicate,
+  get_or-take,
+  get_or-drop,
+  get_or-replicate,
+  get_or_append_left,
+  get_or-append_right,
+  get_or_past,
+)
+
 -- one of them
 pub painted_pixel : (from to : ℕ) (color : List ℕ) (row : RowState) (column : ℕ) (d : List ℕ)
     → from ≤ to → to ≤ length row.pixels
     → get_or (painted from to color row).pixels column d
     ≡ (if nat_le from column && nat_lt column to then color else get_or row.pixels column d)
-painted_pixel from to color row column d order held = grind (
-  arith,
-  length-append,
-  length-take,
-  get_or-take,
-  get_or-drop,
-  length-replicate,
-  get_or-replicate,
-  get_or-append_right,
-  get_or_append_left,
-)
+painted_pixel from to color row column d order held = grind (arith, parts)
 
 -- outside the columns that were painted, and inside
 pub painted_left : (from to : ℕ) (color : List ℕ) (row : RowState) (column : ℕ) (d : List ℕ)

@@ -1,5 +1,5 @@
 use Rattle.std.proofs.Common.{◌≡◌, ℕ, ◌+◌, ◌-◌, ◌%◌, ◌<◌, ◌≤◌, List, length, get_or, arith}
-use Rattle.std.proofs.lemmas.Simd.{get_or-put_chunk_below, get_or-put_chunk_at}
+use Rattle.std.proofs.lemmas.Simd.{get_or-put_chunk_below, get_or-put_chunk_at, length-put_chunk}
 use lib.Lanes.{put_chunk}
 use Rattle.std.proofs.lemmas.Bool.Decides.{nat_tests}
 
@@ -21,3 +21,6 @@ pub IsColored-store : (color span piece : List ℕ) (at n : ℕ) → length piec
     → IsColored color (put_chunk at span piece) (at + n)
 IsColored-store color span piece at n long whole fits before colored =
     grind (arith, nat_tests, get_or-put_chunk_below, get_or-stored)
+
+-- what a loop over the pieces needs
+pub ruleset stores = (length-put_chunk, IsColored-store)

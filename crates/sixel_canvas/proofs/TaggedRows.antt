@@ -4,10 +4,12 @@ use Rattle.std.proofs.Common.{false, List, length, get_or, ap, ◌∙◌, arith}
 use Rattle.std.specs.Prelude.{nat_lt, nat_le, if◌then◌else◌}
 use Rattle.std.proofs.lemmas.{Bool.Decides.nat_tests, List.get_or_past}
 use Rattle.sixel_canvas.specs.Row.{RowState, IsThrifty, painted, reached_to}
-use Rattle.sixel_canvas.specs.inside.TaggedRow.{TaggedRowState, IsTaggedRow, tag_of, tagged_pixel}
-use Rattle.sixel_canvas.specs.inside.{TaggedRow.tagged_row_state, Tags.{is_tag, no_tag, under}}
+use Rattle.sixel_canvas.specs.inside.TaggedRow.{TaggedRowState, IsTaggedRow, IsUntagged, tag_of}
+use Rattle.sixel_canvas.specs.inside.TaggedRow.{tagged_pixel, tagged_row_state}
+use Rattle.sixel_canvas.specs.inside.Tags.{is_tag, no_tag, under}
 use Rattle.sixel_canvas.proofs.RowPixels.{grown_length, grown_pixel, painted_left, painted_length}
 use Rattle.sixel_canvas.proofs.RowPixels.{painted_pixel, painted_right}
+use Rattle.sixel_base.proofs.PictureBytes.{joined-same}
 
 -- a row that was grown shows what it showed
 pub tagged_grown : (columns : ℕ) (line : TaggedRowState) (column : ℕ)
@@ -24,7 +26,7 @@ pub painted_untagged :
     → tagged_pixel (record line { row = painted from to color line.row }) column
     ≡ (if nat_le from column && nat_lt column to then color else tagged_pixel line column)
 painted_untagged line from to column color order held none =
-    grind (arith, nat_tests, painted_pixel, painted_left, painted_right)
+    grind (arith, nat_tests, painted_pixel)
 
 -- what a row shows whose tiles were tagged, and whose two ends were painted
 pub tagged_tiles :
@@ -67,16 +69,6 @@ drawn_untagged line row early from to column color order grown is none =
     ∙ ap (λ p. if nat_le from column && nat_lt column to then color else p)
     (tagged_grown to line column)
 
--- a row whose tag of one tile was painted and taken off
-pub record IsUntagged (old new : TaggedRowState) (tile from to : ℕ) : Type 0 where
-  pub outside : (column : ℕ) → (column < from) ⊎ (to ≤ column)
-      → tagged_pixel new column ≡ tagged_pixel old column
-  pub untagged : is_tag (tag_of new tile) ≡ false
-  pub others : (other : ℕ) → (other ≡ tile → ⊥) → tag_of new other ≡ tag_of old other
-  pub len : length new.row.pixels ≡ length old.row.pixels
-  pub tags_len : length new.tags.pixels ≡ length old.tags.pixels
-  pub sound : IsTaggedRow new
-
 pub untagged_row :
     (line : TaggedRowState) (tag : List ℕ) (early late tags : RowState)
     (tile from to left right : ℕ) → IsTaggedRow line → is_tag tag ≡ true
@@ -90,3 +82,9 @@ pub untagged_row :
 untagged_row line tag early late tags tile from to left right is visible tag_is order left_is
     right_is early_is late_is tags_are late_thrifty tags_thrifty =
     grind (arith, painted_pixel, painted_left, painted_length, painted_right, get_or_past)
+
+-- what the calls of a row with tags need
+pub ruleset tagged_steps = (drawn_untagged, none_past, tagged_grown, grown_pixel, joined-same)
+
+-- what tagging tiles needs
+pub ruleset tagged_ends = (tagged_tiles, painted_length)

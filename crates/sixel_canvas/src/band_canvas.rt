@@ -94,6 +94,7 @@ impl Canvas for BandCanvas {
         if self.band.is_tagged() { 0 } else { self.held }
     }
 
+    #[tactic(auto, using(crate::proofs::MovedRows::moves))]
     fn expect_width(&mut self, width: usize) {
         self.expected_width = self.expected_width.max(width);
     }
@@ -129,12 +130,14 @@ impl Canvas for BandCanvas {
         Ok(())
     }
 
+    #[tactic(auto, using(crate::proofs::MovedRows::moves))]
     fn new_line(&mut self) {
         let top = self.top + 6;
         self.finish_rows();
         self.top = top;
     }
 
+    #[tactic(auto, using(crate::proofs::ReleasedRows::rows_left))]
     fn take_picture(&mut self, width: usize, height: usize) -> Result<Vec<u8>, AllocError> {
         self.finish_rows();
         let rows = height.saturating_sub(self.released);
@@ -160,6 +163,7 @@ impl BandCanvas {
     }
 
     /// Copies `rows` final rows from row `first` on to a caller's memory.
+    #[tactic(auto, using(crate::proofs::ReleasedRows::rows_left))]
     pub fn copy_rows(&self, first: usize, rows: usize, layout: RowLayout, out: &mut [u8])
         requires stored { self.now.released ≤ first }
         requires above { first + rows ≤ self.now.top }
@@ -232,6 +236,7 @@ impl BandCanvas {
     }
 
     /// Allocates memory for `columns` columns of a band that has too little.
+    #[tactic(auto, using(crate::proofs::MovedRows::moves))]
     #[cold]
     #[inline(never)]
     fn widen(&mut self, columns: usize) -> Result<(), AllocError>

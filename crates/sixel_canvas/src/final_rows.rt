@@ -152,6 +152,7 @@ impl FinalRows {
     /// Lays the rows out in this width, and allocates memory for `rows` of them.
     ///
     /// It counts the pixels that it writes. Before that it frees the memory that no row needs.
+    #[tactic(auto, using(crate::proofs::MovedRows::layouts))]
     fn lay_out(&mut self, width: usize, rows: usize) -> Result<(), AllocError>
         requires narrow { width ≤ 2000000 }
         requires few { rows ≤ 1000006 }

@@ -24,6 +24,7 @@ pub fn fill(pixels: &mut [[u8; 4]], from: usize, to: usize, color: [u8; 4])
 /// Gives one color to the pixels from `from` up to before `to`, by a copy of pixels that have it.
 ///
 /// These begin at `source`. A copy stores more pixels at once than a loop does.
+#[tactic(auto, using(crate::proofs::RowPixels::parts, std::proofs::lemmas::List::get_or_default))]
 #[inline(always)]
 pub fn fill_by_copy(pixels: &mut [[u8; 4]], source: usize, from: usize, to: usize)
     requires ordered { from ≤ to }
@@ -41,6 +42,7 @@ pub fn fill_by_copy(pixels: &mut [[u8; 4]], source: usize, from: usize, to: usiz
 }
 
 /// Gives one color to those of four pixels from `at` on whose sixel has the bit.
+#[tactic(auto, using(crate::proofs::Lanes::sets))]
 #[inline(always)]
 pub fn mix(pixels: &mut [[u8; 4]], at: usize, sixels: [u8; 4], bit: usize, color: [u8; 4])
     requires within { at + 4 ≤ length pixels.old }

@@ -136,6 +136,7 @@ impl Row {
     }
 
     /// The pixel of this column, background where the row is short.
+    #[tactic(auto, using(crate::proofs::PixelLists::pixel_bytes))]
     pub(crate) fn pixel(&self, column: usize) -> [u8; 4]
         ensures value { result ≡ slice_index_or self.now.pixels column self.now.background }
         ensures thrifty { IsThrifty self.now }

@@ -42,6 +42,7 @@ pub fn draw_rows(
 ///
 /// For a bit that is not set, it draws the first set pixel again. Reading would wait for the sixel
 /// before, which wrote pixels on its right too if it was drawn in lanes.
+#[tactic(auto, using(crate::proofs::BandRows::row_steps))]
 #[inline(always)]
 fn draw_one(pixels: &mut [[u8; 4]], cap: usize, at: usize, bits: u8, color: [u8; 4])
     requires within { at < cap }
@@ -189,6 +190,7 @@ pub fn mix_rows(pixels: &mut [[u8; 4]], cap: usize, from: usize, sixels: [u8; 8]
 }
 
 /// Draws four sixels of one column each, from `from` on, in six rows.
+#[tactic(auto, using(crate::proofs::BandSixels::mixed_more))]
 #[inline(always)]
 fn mix_four(pixels: &mut [[u8; 4]], cap: usize, from: usize, sixels: [u8; 4], color: [u8; 4])
     requires within { from + 4 ≤ cap }
@@ -201,6 +203,7 @@ fn mix_four(pixels: &mut [[u8; 4]], cap: usize, from: usize, sixels: [u8; 4], co
 }
 
 /// Returns six rows with more columns, background past those that they had.
+#[tactic(auto, using(crate::proofs::BandRows::copied_more))]
 pub fn widened(
     alloc: Global,
     pixels: &[[u8; 4]],

@@ -13,6 +13,7 @@ pub type AllocResult<T> = Result<T, AllocError>;
 /// Fills a span of RGBA pixels with one color: byte `i` becomes `color[i % 4]`.
 ///
 /// The span may have any length, also one that is no multiple of four.
+#[tactic(auto, using(crate::proofs::Spans::stores))]
 #[inline(never)]
 pub fn fill_rgba_span(span: &mut [u8], color: [u8; 4])
     ensures { EachIndex span.new (λ i. slice_index span.new i ≡ slice_index color (i % 4)) }
@@ -27,6 +28,7 @@ pub fn fill_rgba_span(span: &mut [u8], color: [u8; 4])
 }
 
 /// Appends `count` pixels of one color.
+#[tactic(auto, unfolding(sixel_base::specs::Picture::joined))]
 pub fn add_pixels(bytes: &mut Vec<u8>, count: usize, color: [u8; 4]) -> AllocResult<()>
     requires { vec_len bytes.old + 4 * count < 2 ^ 63 }
     ensures ok { OnOk result (bytes.new.items ≡ bytes.old.items ++ joined (λ _. color) count) }
@@ -63,6 +65,7 @@ pub fn paint_pixels(bytes: &mut [u8], from: usize, to: usize, color: [u8; 4])
 }
 
 /// Fills a span four pixels at a time, and returns where it stopped.
+#[tactic(auto, using(crate::proofs::Spans::stores))]
 #[inline(always)]
 fn fill_by_fours(span: &mut [u8], color: [u8; 4]) -> usize
     ensures inside { result ≤ length span.new }

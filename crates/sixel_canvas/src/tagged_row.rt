@@ -3,8 +3,8 @@ ghost use Rattle.std.specs.Prelude.{◌≡◌, ℕ, ◌+◌, ◌*◌, ◌/◌, �
 ghost use Rattle.std.specs.Prelude.{max, min, true, false, nat_le, nat_lt, ◌&&◌, vec_len, IsOk};
 ghost use Rattle.std.specs.Prelude.{OnOk, if◌then◌else◌};
 ghost use Rattle.sixel_base.specs.{Limits.side_limit, Picture.joined};
-ghost use Rattle.sixel_canvas.specs.inside.TaggedRow.{IsTaggedRow, empty_tagged_row, tag_of};
-ghost use Rattle.sixel_canvas.specs.inside.{TaggedRow.tagged_pixel, Tags.is_tag};
+ghost use Rattle.sixel_canvas.specs.inside.TaggedRow.{IsTaggedRow, IsUntagged, empty_tagged_row};
+ghost use Rattle.sixel_canvas.specs.inside.{TaggedRow.{tag_of, tagged_pixel}, Tags.is_tag};
 
 use crate::row::Row;
 use crate::span::{AllocResult, add_pixels};
@@ -72,6 +72,7 @@ impl TaggedRow {
     }
 
     /// Draws a run over the columns from `from` up to before `to`, and grows the row to them.
+    #[tactic(auto, using(crate::proofs::TaggedRows::tagged_steps))]
     pub fn draw(&mut self, from: usize, to: usize, color: [u8; 4]) -> AllocResult<()>
         requires ordered { from < to }
         requires within { to ≤ side_limit }
@@ -100,6 +101,7 @@ impl TaggedRow {
     }
 
     /// Draws a run over columns that the row has.
+    #[tactic(auto, using(crate::proofs::TaggedRows::tagged_steps))]
     #[inline(never)]
     fn draw_over(&mut self, from: usize, to: usize, color: [u8; 4]) -> AllocResult<()>
         requires ordered { from < to }
@@ -139,6 +141,7 @@ impl TaggedRow {
     }
 
     /// Tags the tiles that a run covers whole, for which there is memory, and paints its ends.
+    #[tactic(auto, using(crate::proofs::TaggedRows::tagged_ends))]
     fn tag(&mut self, from: usize, to: usize, color: [u8; 4])
         requires whole { from / 128 + min 1 (from % 128) < to / 128 }
         requires held { to ≤ length self.old.row.pixels }
@@ -179,15 +182,7 @@ impl TaggedRow {
     /// Paints the tag of a tile, except in the columns from `from` up to before `to`.
     fn untag(&mut self, tile: usize, from: usize, to: usize)
         requires ordered { from ≤ to }
-        ensures outside { (column : ℕ) → (column < from) ⊎ (to ≤ column)
-            → tagged_pixel self.new column ≡ tagged_pixel self.old column }
-        ensures untagged { is_tag (tag_of self.new tile) ≡ false }
-        ensures others { (other : ℕ) → (other ≡ tile → ⊥)
-            → tag_of self.new other ≡ tag_of self.old other }
-        ensures len { length self.new.row.pixels ≡ length self.old.row.pixels }
-        ensures tags_len { length self.new.tags.pixels ≡ length self.old.tags.pixels }
-        ensures background { self.new.row.background ≡ self.old.row.background }
-        ensures sound { IsTaggedRow self.new }
+        ensures { IsUntagged self.old self.new tile from to }
     {
         let tag = self.tags.pixel(tile);
         if !is_visible(tag) {
@@ -214,6 +209,7 @@ impl TaggedRow {
     }
 
     /// Appends `count` pixels of a tile, from its left.
+    #[tactic(auto, using(crate::proofs::TaggedRows::tagged_steps))]
     fn pack_tile(&self, bytes: &mut Vec<u8>, tile: usize, count: usize) -> AllocResult<()>
         requires within { count ≤ 128 }
         requires columns_fit { tile * 128 < 2 ^ 63 }

@@ -74,6 +74,7 @@ impl TaggedBand {
     }
 
     /// Paints the tags of one tile.
+    #[tactic(auto, using(crate::proofs::BandStates::all_rows))]
     fn untag_tile(&mut self, tile: usize)
         requires { tile < self.old.tags.extent }
         ensures shown { (column k : ℕ) → tagged_cell self.new column k

@@ -49,18 +49,6 @@ copied-preserved c =
           old.rows kept least c.self.told inside fits before.0 cut ok before.2,
     )
 
-pub returns-clause-moved_within : goal.returns-clause-moved_within
-returns-clause-moved_within c = grind (arith, moved_within)
-
-pub overflow_mul-max-2 : goal.overflow_mul-max-2
-overflow_mul-max-2 c = grind (arith, nat_tests, mul-le-mul)
-
-pub overflow_mul-start-in-copied : goal.overflow_mul-start-in-copied
-overflow_mul-start-in-copied c = grind (arith, nat_tests, mul-le-mul)
-
-pub overflow_add-old : goal.overflow_add-old
-overflow_add-old c = grind (arith, nat_tests, mul-le-mul)
-
 pub add_row-added-requires : goal.add_row-added-requires
 add_row-added-requires c =
     let width = c.args.width in
@@ -73,9 +61,6 @@ add_row-added-requires c =
       room,
       mul-le-mul c.self.invariant.0.few c.requires.narrow,
     )
-
-pub returns-clause-room : goal.returns-clause-room
-returns-clause-room c = grind (arith, nat_tests, mul-le-mul_right)
 
 pub slice_bounds-old-end : goal.slice_bounds-old-end
 slice_bounds-old-end c =

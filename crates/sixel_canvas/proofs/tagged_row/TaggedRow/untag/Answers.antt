@@ -1,6 +1,6 @@
-use Rattle.std.proofs.Common.{◌≡◌, length, true, sym, ap, ◌∙◌, arith}
-use Rattle.sixel_canvas.specs.inside.TaggedRow.{TaggedRowState, tag_of, tagged_row_state}
-use Rattle.sixel_canvas.{specs.inside.Tags.is_tag, proofs.TaggedRows.{IsUntagged, untagged_row}}
+use Rattle.std.proofs.Common.{◌≡◌, true, sym, ◌∙◌}
+use Rattle.sixel_canvas.{specs.inside.Tags.is_tag, proofs.TaggedRows.untagged_row}
+use Rattle.sixel_canvas.specs.inside.TaggedRow.{IsUntagged, tagged_row_state}
 use Rattle.sixel_canvas.proofs.tagged_row.TaggedRow.untag.Goals as goal
 
 -- the row as it was, and what was done to it
@@ -22,23 +22,5 @@ is_untagged c =
 pub invariant_of-self : goal.invariant_of-self
 invariant_of-self c = (is_untagged c).sound
 
-pub returns-clause-sound : goal.returns-clause-sound
-returns-clause-sound c = (is_untagged c).sound
-
-pub returns-clause-outside : goal.returns-clause-outside
-returns-clause-outside c = grind (arith, is_untagged)
-
-pub returns-clause-untagged : goal.returns-clause-untagged
-returns-clause-untagged c = (is_untagged c).untagged
-
-pub returns-clause-others : goal.returns-clause-others
-returns-clause-others c = λ other apart.
-    (is_untagged c).others other apart ∙ ap (λ (s : TaggedRowState). tag_of s other) c.self.view_is
-
-pub returns-clause-len : goal.returns-clause-len
-returns-clause-len c =
-    (is_untagged c).len ∙ ap (λ (s : TaggedRowState). length s.row.pixels) c.self.view_is
-
-pub returns-clause-tags_len : goal.returns-clause-tags_len
-returns-clause-tags_len c =
-    (is_untagged c).tags_len ∙ ap (λ (s : TaggedRowState). length s.tags.pixels) c.self.view_is
+pub returns : goal.returns
+returns c = rw (← c.self.view_is) (is_untagged c)
