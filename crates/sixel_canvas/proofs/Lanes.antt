@@ -2,7 +2,8 @@
 use Rattle.std.proofs.Common.{◌≡◌, ℕ, ◌+◌, ◌-◌, ◌/◌, ◌^◌, ◌%◌, ◌<◌, Bool, cond, List, [], ◌∷◌, ◌++◌}
 use Rattle.std.proofs.Common.{length, map, get_or, bit_and, refl, subst, arith}
 use Rattle.std.specs.{Int.{to_le_bytes, w32}, Prelude.{◌==◌, if◌then◌else◌}}
-use Rattle.std.proofs.lemmas.{Bool.Decides.nat_tests, Grind.{and_numeral, common_steps, get_or-set_at}}
+use Rattle.std.proofs.lemmas.{Bool.Decides.nat_tests, Grind.{and_numeral, get_or-set_at}}
+use Rattle.std.proofs.lemmas.Grind.{common_steps}
 use Rattle.std.proofs.lemmas.List.{get_or_append_left, get_or-set_other, length-set}
 use lib.Lanes.{sel_l, top, zip2}
 use Rattle.sixel_base.specs.Picture.{is_set}

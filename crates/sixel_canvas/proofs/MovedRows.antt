@@ -1,6 +1,6 @@
 -- How many pixels were written to give the rows of an image another width, against its pixels.
 use Rattle.std.proofs.Common.{◌≡◌, ℕ, ◌+◌, ◌-◌, ◌*◌, ◌<◌, ◌≤◌, [], ◌∷◌, List, length, max, refl}
-use Rattle.std.{proofs.Common.arith, proofs.Math.Nat.{mul-le-mul, mul-le-mul_left, mul-le-mul_right}}
+use Rattle.std.proofs.{Common.arith, Math.Nat.{mul-le-mul, mul-le-mul_left, mul-le-mul_right}}
 use Rattle.std.{proofs.lemmas.Bool.Decides.nat_tests, specs.Prelude.{nat_lt, if◌then◌else◌}}
 use Rattle.sixel_canvas.specs.Drawn.{Run, band_edge, least_moved, lowest_top, right_edge}
 use Rattle.sixel_canvas.{specs.Drawn.{rows_above, run, with_sixels}, specs.Paints.counted}

@@ -2,7 +2,7 @@
 //!
 //! Each class tests for printable bytes first, because nearly all bytes of a payload are printable.
 
-ghost use Rattle.std.specs.Prelude.{◌≡◌, ◌⊎◌, ◌≤◌, IsTrue, false, length, drop};
+ghost use Rattle.std.specs.Prelude.{◌≡◌, ◌⊎◌, IsTrue, false};
 ghost use Rattle.sixel_base.specs.Bytes.{is_ignored as ignored, is_terminator as terminator};
 ghost use Rattle.sixel_base.specs.Bytes.{is_parameter as parameter};
 ghost use Rattle.sixel_base.specs.inside.Parameters.{IsDigit};
@@ -36,12 +36,4 @@ pub fn is_numbered(byte: u8) -> bool
     ensures others { result ≡ false → (byte ≡ 33 → ⊥) × (byte ≡ 35 → ⊥) }
 {
     matches!(byte, b'!' | b'#')
-}
-
-/// Returns the bytes from an index on.
-pub fn tail(bytes: &[u8], start: usize) -> &[u8]
-    requires { start ≤ length bytes.now }
-    ensures { result.now ≡ drop start bytes.now }
-{
-    &bytes[start..]
 }

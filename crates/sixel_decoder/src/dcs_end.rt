@@ -6,7 +6,6 @@ ghost use Rattle.sixel_base.specs.Dcs.{ended_with, escape_count, escape_status};
 ghost use Rattle.sixel_base.specs.declared.status.SixelDcsFeedStatus.TheVariants.{NeedMoreData};
 ghost use Rattle.sixel_decoder.specs.inside.DcsParser.{GoesTo};
 
-use crate::bytes::tail;
 use sixel_base::status::{SixelDcsFeedResult, SixelDcsFeedStatus};
 
 /// Returns the result of a feed whose payload has ended after `consumed` bytes.
@@ -23,7 +22,7 @@ pub fn end_now(
         → count payload + consumed ≡ count (payload ++ chunk.now)
         → GoesTo payload (payload ++ chunk.now) result }
 {
-    let rest = tail(chunk, chunk.len().min(consumed + 1));
+    let rest = &chunk[chunk.len().min(consumed + 1)..];
     let end = match ended {
         None => end_at(terminator, rest),
         Some(status) => end_later(status, chunk),

@@ -10,7 +10,6 @@ ghost use Rattle.sixel_decoder.specs.inside.DcsParser.{HasFollowed, IsInPayload,
 ghost use Rattle.sixel_decoder.specs.inside.DcsParser.{is_failed, is_head, StepsInto, Heads};
 ghost use Rattle.sixel_decoder.specs.inside.{DcsParser.Follows, DcsReader.released_of};
 
-use crate::bytes::tail;
 use crate::dcs_end::end_now;
 use crate::header::Header;
 use crate::payload_reader::PayloadReader;
@@ -137,7 +136,7 @@ impl<C: Canvas + Drop> DcsParser<C> {
         let start = self.read_head(chunk)?;
         match &mut self.state {
             DcsState::Payload(reader) => {
-                let fed = read_payload(reader, &mut self.ended, tail(chunk, start))?;
+                let fed = read_payload(reader, &mut self.ended, &chunk[start..])?;
                 Ok(SixelDcsFeedResult {
                     consumed: start + fed.consumed,
                     status: fed.status,

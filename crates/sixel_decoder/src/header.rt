@@ -79,6 +79,7 @@ pub fn read_header(bytes: &[u8]) -> Result<(DcsSettings, usize)>
 /// Returns where the bytes after the first introducer begin.
 ///
 /// The introducer is DCS as one byte, or as ESC and `P`.
+#[tactic(auto, using(crate::proofs::images::FoundPayloads::introductions))]
 pub fn introducer_end(bytes: &[u8]) -> Option<usize>
     ensures within { IfSome result (λ start. start ≤ length bytes.now) }
     ensures found { IfSome result (λ start.

@@ -8,7 +8,7 @@ ghost use Rattle.sixel_base.specs.{Settings.Settings, Status.status_of};
 ghost use Rattle.sixel_decoder.specs.{ImageEnds.{Extends, IsEnd, inside}, Reception.OfPayload};
 ghost use Rattle.sixel_decoder.specs.{Reception.OfString, inside.DcsParser.GoesTo};
 
-use crate::bytes::{is_terminator, tail};
+use crate::bytes::is_terminator;
 use crate::dcs_end::{end_later, end_now};
 use crate::received::{FailedRead, Received, Status};
 use sixel_base::SixelError;
@@ -75,7 +75,7 @@ pub fn sequence_end(
         × Extends OfString bytes (bytes ++ chunk.now) chunk.now result.fed }
 {
     let start = inside_start(is_begun, chunk);
-    let fed = add_inside(ended, tail(chunk, start));
+    let fed = add_inside(ended, &chunk[start..]);
     FailedRead {
         fed: Received {
             consumed: start + fed.consumed,

@@ -9,7 +9,6 @@ ghost use Rattle.sixel_decoder.specs.{OneShotCalls.IsDecoded, PictureView.pictur
 ghost use Rattle.sixel_decoder.specs.{PictureView.picture_value, Report.found_report};
 ghost use Rattle.sixel_decoder.specs.inside.PayloadParser.{Stands, Decodes};
 
-use crate::bytes::tail;
 use crate::decoded_payload::DecodedPayload;
 use crate::header::{introducer_end, read_header};
 use crate::payload_parser::PayloadParser;
@@ -20,6 +19,7 @@ use sixel_canvas::band_canvas::BandCanvas;
 use std::alloc::Global;
 
 /// Decodes the first DCS sequence in the bytes, or all of them as a payload.
+#[tactic(auto, using(crate::proofs::images::FoundPayloads::tail_whole))]
 pub fn decode_found(alloc: Global, decoder: DecoderState, bytes: &[u8]) -> Result<DecodedPayload>
     ensures decoded { IsDecoded picture_value decoder (found bytes.now) result }
     ensures registers { IfOk result (λ picture.
@@ -31,9 +31,9 @@ pub fn decode_found(alloc: Global, decoder: DecoderState, bytes: &[u8]) -> Resul
     let Some(start) = introducer_end(bytes) else {
         return decode_payload(alloc, decoder, bytes, DcsSettings::default());
     };
-    let string = tail(bytes, start);
+    let string = &bytes[start..];
     match read_header(string) {
-        Ok(header) => decode_payload(alloc, decoder, tail(string, header.1), header.0),
+        Ok(header) => decode_payload(alloc, decoder, &string[header.1..], header.0),
         Err(error) => Err(error),
     }
 }
@@ -56,6 +56,7 @@ pub fn decode_payload(
 }
 
 /// Reads a payload with a new parser, and returns the image and the registers.
+#[tactic(auto, using(crate::proofs::chunks::PayloadFaults::whole_payloads))]
 fn read_whole(mut parser: PayloadParser<BandCanvas>, bytes: &[u8]) -> Result<DecodedPayload>
     requires { parser.painter.canvas.released ≡ 0 }
     ensures decodes { (o : Origin) → Stands o parser [] → Decodes result o bytes.now }

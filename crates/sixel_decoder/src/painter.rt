@@ -260,6 +260,7 @@ impl<C: Canvas + Drop> Painter<C> {
     }
 
     /// Moves to the first column of the next band.
+    #[tactic(auto, using(crate::proofs::drawing::ShownRows::shown_rows))]
     pub fn new_line(&mut self) -> Result<()>
         ensures draws { (o : Origin) (h : History) → Shows o self.old h
             → Draws result o self.new (Newline ∷ h) false }
@@ -281,6 +282,7 @@ impl<C: Canvas + Drop> Painter<C> {
     /// Returns the last row with a set pixel, plus one, or 0 if there is none.
     ///
     /// It is at most the rows of the clip.
+    #[tactic(auto, using(crate::proofs::drawing::ShownRows::shown_rows))]
     pub fn drawn_height(&self) -> usize
         ensures { (o : Origin) (h : History) → Shows o self.now h
             → result ≡ min (drawn_height h) o.pixel_limit.rows }

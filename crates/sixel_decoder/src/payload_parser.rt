@@ -16,7 +16,7 @@ ghost use Rattle.sixel_decoder.specs.declared.payload_parser.OpenCommand.TheVari
 ghost use Rattle.sixel_decoder.specs.declared.payload_parser.OpenCommand.TheVariants.{InColor};
 ghost use Rattle.sixel_base.specs.Bytes.{is_sixel as sixel};
 
-use crate::bytes::{is_ignored, is_numbered, is_parameter, is_terminator, tail};
+use crate::bytes::{is_ignored, is_numbered, is_parameter, is_terminator};
 use crate::decoded_payload::DecodedPayload;
 use crate::lenience::tolerate;
 use crate::painter::Painter;
@@ -92,34 +92,18 @@ impl<C: Canvas + Drop> PayloadParser<C> {
         ensures released { OnOk result
             (C.released self.new.painter.canvas ≡ C.released self.old.painter.canvas) }
     {
-        let read = if chunk.len() < 8 {
-            self.try_front(chunk)
-        } else {
-            0
-        };
-        if read == chunk.len() {
-            return Ok(SixelFeedResult {
-                consumed: read,
-                status: SixelFeedStatus::NeedMoreData,
-            });
+        if chunk.len() >= 8 {
+            return self.read_chunk(chunk, 0);
         }
-        self.read_chunk(chunk, read)
-    }
-
-    /// Reads bytes at the front of a chunk that cannot fail, and returns how many.
-    #[inline(always)]
-    fn try_front(&mut self, chunk: &[u8]) -> usize
-        ensures reaches { (o : Origin) (h : History) → Stands o self.old h
-            → Reaches o self.new h result chunk.now }
-        ensures released { C.released self.new.painter.canvas
-            ≡ C.released self.old.painter.canvas }
-    {
         'front: for index in 0..chunk.len() {
             if !self.try_byte(chunk[index]) {
-                return index;
+                return self.read_chunk(chunk, index);
             }
         }
-        chunk.len()
+        Ok(SixelFeedResult {
+            consumed: chunk.len(),
+            status: SixelFeedStatus::NeedMoreData,
+        })
     }
 
     /// Reads a byte that cannot fail, and returns whether it is one.
@@ -223,11 +207,11 @@ impl<C: Canvas + Drop> PayloadParser<C> {
                 self.close()?;
                 let drawn = self
                     .painter
-                    .draw_sixels(tail(chunk, index), &mut self.ignored)?;
+                    .draw_sixels(&chunk[index..], &mut self.ignored)?;
                 index += drawn;
             } else if is_numbered(byte) {
                 self.close()?;
-                let read = self.open_numbered(tail(chunk, index));
+                let read = self.open_numbered(&chunk[index..]);
                 index += read;
             } else {
                 if is_terminator(byte) {
@@ -296,13 +280,14 @@ impl<C: Canvas + Drop> PayloadParser<C> {
         ensures released { C.released self.new.painter.canvas
             ≡ C.released self.old.painter.canvas }
     {
-        let digits = Digits::at_front(tail(bytes, 1));
+        let digits = Digits::at_front(&bytes[1..]);
         self.command = OpenCommand::numbered(bytes[0]);
         self.parameters = digits.parameters;
         digits.len + 1
     }
 
     /// Reads any other byte that is no control.
+    #[tactic(auto, using(crate::proofs::chunks::ParserSteps::byte_reads))]
     fn push(&mut self, byte: u8) -> Result<()>
         requires sixel { sixel byte ≡ false }
         requires numbered { (byte ≡ 33 → ⊥) × (byte ≡ 35 → ⊥) }

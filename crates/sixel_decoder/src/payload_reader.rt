@@ -193,6 +193,7 @@ impl<C: Canvas + Drop> PayloadReader<C> {
     }
 
     /// Lends the painter, unless a feed has failed.
+    #[tactic(auto, using(crate::proofs::chunks::Joined::shown_settled))]
     fn painter(&self) -> Option<&Painter<C>>
         ensures lent { IfSome result (λ painter. IsPainterOf painter.now self.now) }
         ensures lost { result ≡ None → IsLost self.now }
@@ -216,6 +217,7 @@ impl PayloadReader<RowCanvas> {
     }
 
     /// Returns how many pixels were copied or filled to grow the canvas.
+    #[tactic(auto, using(crate::proofs::drawing::RunCosts::history_cost))]
     pub fn writes(&self) -> u64
         ensures { IsWriteCount (of_payload self.now) result }
     {
@@ -258,6 +260,7 @@ impl PayloadReader<BandCanvas> {
     }
 
     /// Copies final rows to a caller's memory.
+    #[tactic(auto, using(crate::proofs::images::StableRows::pixel_settled))]
     pub fn copy_rows(&self, first: usize, rows: usize, layout: RowLayout, out: &mut [u8])
         requires stored { self.now.released ≤ first }
         requires above { first + rows

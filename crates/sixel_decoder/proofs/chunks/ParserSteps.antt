@@ -1,6 +1,7 @@
 -- How a parser goes on from one history to the next.
 use Rattle.std.proofs.Common.{◌≡◌, ℕ, Bool, true, false, List, [], ◌∷◌, ◌++◌, arith, Option, Some}
 use Rattle.std.{proofs.lemmas.Bool.Decides.nat_tests, specs.Prelude.{IsTrue, nat_lt}}
+use Rattle.std.proofs.lemmas.Result.{err_from_is_err_and}
 use Rattle.sixel_base.{proofs.Histories.read_ends, specs.Fault.{Fault, Faults}, specs.History.Token}
 use Rattle.sixel_base.{specs.History.{History, goes_on, read}, specs.Lenient.fault}
 use Rattle.sixel_base.{specs.Limits.Limit, specs.Payload.{closed, growths}, specs.Stroke.Origin}
@@ -34,3 +35,6 @@ pub refused_close : (e : SixelError) (limit : Limit) (h : History) (byte : ℕ)
     → Faults e (nat_lt (growths (closed h)) (growths (closed (read h byte))))
     (fault limit (closed (read h byte)))
 refused_close e limit h byte ends is = grind (arith, Faults-along, fault_stays, read_ends)
+
+-- what reading a byte needs
+pub ruleset byte_reads = (nat_tests, stands_goes_on, refused_close, err_from_is_err_and)

@@ -23,3 +23,6 @@ pub payload_ends : (result : Result DecodedPayload SixelError) (o : Origin) (byt
     → Ends result o (effective o.pixel_limit (history_of (front bytes)))
     (payload_ignored o.pixel_limit bytes) → Decodes result o bytes
 payload_ends result o bytes is = grind (arith, nat_tests, effective-fault, Faults-along)
+
+-- what reading a whole payload needs
+pub ruleset whole_payloads = (nat_tests, payload_refused, payload_ends)

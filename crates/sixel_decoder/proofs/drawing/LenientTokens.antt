@@ -34,17 +34,6 @@ has_drawn_without o painter n token h f on found shows count =
     grind (arith, effective-without, count-without)
 
 -- a command that was drawn, or has a fault that may be ignored
-pub tolerates_command : {C : Type 0} {canvas : Ghosts C} (result : Result (Unit {0}) SixelError)
-    (o : Origin) (old new : Painter C canvas) (n : ℕ) (token : Token) (h : History)
-    → ((w : History) → without token w ≡ w)
-    → HasDrawn o old n h → Draws result o new (token ∷ effective o.pixel_limit h) false
-    → IfErr result (λ error. is_fault error ≡ true → new ≡ old)
-    → Tolerates (tolerated_result old.pixel_limit.lenient result) o new
-    (tolerated_count old.pixel_limit.lenient result n) (token ∷ h)
-tolerates_command result o old new n token h other state draws kept =
-    grind (arith, has_drawn_more, effective-strict, fault_found, has_drawn_without)
-
--- so it is in the words of `tolerate`
 pub tolerates : {C : Type 0} {canvas : Ghosts C} (outcome result : Result (Unit {0}) SixelError)
     (lenient : Bool) (o : Origin) (old new : Painter C canvas) (n m : ℕ) (token : Token)
     (h : History) → lenient ≡ old.pixel_limit.lenient → result ≡ tolerated_result lenient outcome
@@ -53,7 +42,7 @@ pub tolerates : {C : Type 0} {canvas : Ghosts C} (outcome result : Result (Unit 
     → IfErr outcome (λ error. is_fault error ≡ true → new ≡ old)
     → Tolerates result o new m (token ∷ h)
 tolerates outcome result lenient o old new n m token h on is counts other state draws kept =
-    rw (is, counts, on) (tolerates_command outcome o old new n token h other state draws kept)
+    grind (arith, has_drawn_more, effective-strict, fault_found, has_drawn_without)
 
 -- ---- sixels at the front of bytes
 

@@ -1,7 +1,7 @@
 -- What a painter shows once sixels of one column each were drawn on its canvas: the pixels that
 -- they cover, and the runs that they are.
 use Rattle.std.proofs.Common.{◌≡◌, ℕ, suc, ◌+◌, ◌≤◌, ◌-◌, Bool, List, [], ◌∷◌, ◌++◌, length, get_or}
-use Rattle.std.proofs.Common.{take, get_or-take, subst, refl, sym, ap, ◌∙◌, arith}
+use Rattle.std.proofs.Common.{take, get_or-take, subst, refl, sym, ◌∙◌, arith}
 use Rattle.std.specs.Prelude.{nat_lt, nat_le, ◌&&◌, if◌then◌else◌}
 use Rattle.std.proofs.lemmas.{Bool.Decides.nat_tests, List.get_or_past}
 use Rattle.sixel_base.specs.{Clip.clipped_pixel, DrawnHeight.lowered, History.{Sixel, History}}
@@ -81,27 +81,6 @@ named_width-sixels : (limit : Limit) (h : History) (sixels : List ℕ)
 named_width-sixels limit h [] = refl
 named_width-sixels limit h (bits ∷ sixels) = named_width-sixels limit (Sixel bits ∷ h) sixels
 
--- the painter once such sixels were drawn on its canvas
-Shows-sixels : {C : Type 0} {canvas : Ghosts C} (o : Origin) (h : History)
-    (old new : Painter C canvas) (sixels : List ℕ) → Shows o old h
-    → IsInside o.pixel_limit (length sixels) h
-    →
-    ((column row : ℕ) → canvas.shown new.canvas column row ≡ clipped_pixel o (with_sixels h sixels)
-    column row) → canvas.paid new.canvas (named_width o.pixel_limit h)
-    (runs_of o.pixel_limit (with_sixels h sixels)) → canvas.top new.canvas ≡ canvas.top old.canvas
-    →
-    ((row : ℕ) → drawn_rows new.drawn row ≡ lowered (drawn_rows old.drawn row) row
-    (most_rows sixels)) → new.registers ≡ old.registers → new.color ≡ old.color
-    → new.repeat ≡ old.repeat → new.column ≡ old.column + length sixels → new.width ≡ old.width
-    → new.height ≡ old.height → new.raster ≡ old.raster → new.ratio ≡ old.ratio
-    → new.settings ≡ old.settings → new.raster_crop ≡ old.raster_crop
-    → new.pixel_limit ≡ old.pixel_limit → Shows o new (with_sixels h sixels)
-Shows-sixels o h old new sixels shows inside drawn paid' top' lower' registers' color' repeat'
-    column' width' height' raster' ratio' settings' crop' limit' =
-    let passed = IsPassed-sixels o.pixel_limit o h sixels inside in
-    let lowest = drawn_height-sixels h sixels in
-    grind (arith, nat_tests, named_width-sixels)
-
 -- the painter once eight sixels were drawn, of which the first ones are these
 pub Shows-eight : {C : Type 0} {canvas : Ghosts C} (o : Origin) (h after : History)
     (old new : Painter C canvas) (sixels eight : List ℕ) → after ≡ with_sixels h sixels
@@ -126,9 +105,12 @@ Shows-eight {C} {canvas} o h after old new sixels eight whole shows single right
     blank drawn paid' top' lower' registers' color' repeat' column' width' height' raster' ratio'
     settings' crop' limit' =
     let inside = inside_from o old h (length sixels) shows single right lower in
-    subst (λ (w : History). Shows o new w) (sym whole)
-    (Shows-sixels o h old new sixels shows inside
-    (λ column row.
+    let passed = IsPassed-sixels o.pixel_limit o h sixels inside in
+    let lowest = drawn_height-sixels h sixels in
+    let rows = most_rows-first sixels eight first blank in
+    let pixels : (column row : ℕ) → canvas.shown new.canvas column row
+    ≡ clipped_pixel o (with_sixels h sixels) column row =
+    λ column row.
     drawn column row
     ∙ (rw (
       covers_first old.column (canvas.top old.canvas) column row sixels eight few first blank,
@@ -136,13 +118,11 @@ Shows-eight {C} {canvas} o h after old new sixels eight whole shows single right
       shows.top,
       shows.color,
       shows.pixels column row,
-    ) (sym (clipped_pixel-sixels o h sixels column row inside))))
-    (subst (canvas.paid new.canvas (named_width o.pixel_limit h))
+    ) (sym (clipped_pixel-sixels o h sixels column row inside))) in
+    let paid : canvas.paid new.canvas (named_width o.pixel_limit h)
+    (runs_of o.pixel_limit (with_sixels h sixels)) =
+    subst (canvas.paid new.canvas (named_width o.pixel_limit h))
     (runs_of-sixels o.pixel_limit h sixels inside)
     (rw (shows.column, shows.top) at
-    (paid' (named_width o.pixel_limit h) (runs_of o.pixel_limit h) shows.paid)))
-    top'
-    (λ row.
-    lower' row
-    ∙ ap (lowered (drawn_rows old.drawn row) row) (most_rows-first sixels eight first blank))
-    registers' color' repeat' column' width' height' raster' ratio' settings' crop' limit')
+    (paid' (named_width o.pixel_limit h) (runs_of o.pixel_limit h) shows.paid)) in
+    rw whole (grind (arith, nat_tests, named_width-sixels))

@@ -15,3 +15,6 @@ pub drawn_fits : {C : Type 0} {canvas : Ghosts C} (o : Origin) (painter : Painte
     (h : History) → Shows o painter h
     → drawn_rows painter.drawn (canvas.top painter.canvas) < 2 ^ 64
 drawn_fits o painter h shows = grind (arith, nat_tests, shown_drawn, drawn_within)
+
+-- what calls need that speak of that row
+pub ruleset shown_rows = (nat_tests, shown_drawn, drawn_fits)

@@ -1,7 +1,7 @@
 -- The meaning of the result for a whole DCS sequence.
 use Rattle.std.proofs.Common.{◌≡◌, ◌+◌, ◌-◌, ◌≤◌, List, ℕ, Some, ◌∙◌, length, get_or, take, drop}
 use Rattle.std.proofs.Common.{take_all, length-drop, arith}
-use Rattle.std.proofs.lemmas.{Bool.Decides.nat_tests, List.drop-drop}
+use Rattle.std.proofs.lemmas.{Bool.Decides.nat_tests, List.{drop-drop, drop_all}}
 use Rattle.sixel_base.specs.OneShot.{after_introducer}
 
 -- ---- where the first introducer is
@@ -41,3 +41,15 @@ pub not_introduced_at : (index : ℕ) (bytes rest : List ℕ) → rest ≡ drop 
 not_introduced_at index bytes rest whole none once escape =
     let here = not_introduced rest once escape in
     rw (← drop-drop 1 index bytes, ← whole) (here ∙ rw whole none)
+
+-- what the search for an introducer needs
+pub ruleset introductions = (
+  nat_tests,
+  tail_whole,
+  drop_all,
+  length-drop,
+  introduced_at,
+  introduced_at_once,
+  introduced_by_escape,
+  not_introduced_at,
+)

@@ -1,7 +1,7 @@
 -- What the parts of a painter keep, in the words of the history that was read. An invariant of this
 -- library's own: the words are those of Place and Stroke of sixel_base, where DEC's manual gives
 -- the rules.
-use Rattle.std.specs.Prelude.{ℕ, ◌≡◌, ◌+◌, ◌*◌, ◌≤◌, Bool, MatchResult, Result, None, is_none, []}
+use Rattle.std.specs.Prelude.{ℕ, ◌≡◌, ◌*◌, ◌≤◌, Bool, MatchResult, Result, None, is_none, []}
 use Rattle.std.specs.Prelude.{◌∷◌, ◌++◌, List, max, min, ◌&&◌, if◌then◌else◌}
 use Rattle.sixel_base.specs.Clip.{clipped_bits, clipped_pixel, is_pixel_inside}
 use Rattle.sixel_base.specs.{DrawnHeight.{drawn_height, lowered, set_rows}, Fault.Faults}

@@ -6,6 +6,7 @@ use Rattle.sixel_decoder.specs.inside.DcsParser.{IsInPayload, HasFollowed}
 use Rattle.sixel_decoder.proofs.dcs_sequences.Chunks.{heading, head_or_payload, head_fine}
 use Rattle.sixel_decoder.proofs.dcs_sequences.Chunks.{stage_refuses, head_follows, all_counted}
 use Rattle.sixel_decoder.proofs.dcs_sequences.Chunks.{entered_follows, entered_refuses}
+use Rattle.sixel_decoder.proofs.images.FoundPayloads.{tail_whole}
 use Rattle.sixel_decoder.specs.declared.dcs_parser.DcsState.TheVariants as states
 use Rattle.sixel_decoder.proofs.dcs_parser.DcsParser.read_beginning.Goals as goal
 
@@ -32,7 +33,7 @@ returns-in_err-fed-in-Payload-clause-follows g c = λ before head is.
     err_from_is_err_and c.from_residual-in_err-fed-in-Payload.result
     c.from_residual-in_err-fed-in-Payload.ensures.1 in
     rw (p.1, p.2) (entered_refuses _ c.args.self.now.decoder.pixel_limit before piece start from.0
-    (rw c.tail.ensures at refused))
+    (rw (tail_whole start piece) at refused))
 
 pub returns-in_ok-fed-in-Payload-clause-follows : goal.returns-in_ok-fed-in-Payload-clause-follows
 returns-in_ok-fed-in-Payload-clause-follows g c = λ before head is.
@@ -58,7 +59,7 @@ returns-in_ok-fed-in-Payload-clause-follows g c = λ before head is.
     (states.Payload c.read_payload.new.reader) c.args.self.now.decoder
     c.read_payload.new.ended before piece start _ _ begun.0 from.0
     (all_counted c.in-Payload.reader c.args.self.now.decoder (before ++ take start piece) unended)
-    (rw c.tail.ensures at follows)
+    (rw (tail_whole start piece) at follows)
 
 pub returns-in_default-clause-follows : goal.returns-in_default-clause-follows
 returns-in_default-clause-follows g c =

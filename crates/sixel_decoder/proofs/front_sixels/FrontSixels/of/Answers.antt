@@ -11,20 +11,14 @@ returns-clause-sixels c =
 pub returns-clause-bits : goal.returns-clause-bits
 returns-clause-bits c =
     front_list _ _ c.requires (omega (arith, c.min-len.ensures))
-    (λ k. omega (arith, c.type_inv.bytes k))
-    (front_sixels c.args.bytes.now _ c.requires (λ k. omega (arith, c.type_inv.bytes k))
-    (mask_is c.args.bytes.now 0 c.requires) _ c.min-len.ensures)
+    (λ k. omega (arith, c.type_inv.bytes k)) (returns-clause-sixels c)
 
 pub returns-clause-blank : goal.returns-clause-blank
 returns-clause-blank c =
     front_blank _ _ c.requires (omega (arith, c.min-len.ensures))
-    (λ k. omega (arith, c.type_inv.bytes k))
-    (front_sixels c.args.bytes.now _ c.requires (λ k. omega (arith, c.type_inv.bytes k))
-    (mask_is c.args.bytes.now 0 c.requires) _ c.min-len.ensures)
+    (λ k. omega (arith, c.type_inv.bytes k)) (returns-clause-sixels c)
 
 pub returns-clause-six : goal.returns-clause-six
 returns-clause-six c =
     front_six _ _ c.requires (omega (arith, c.min-len.ensures))
-    (λ k. omega (arith, c.type_inv.bytes k))
-    (front_sixels c.args.bytes.now _ c.requires (λ k. omega (arith, c.type_inv.bytes k))
-    (mask_is c.args.bytes.now 0 c.requires) _ c.min-len.ensures)
+    (λ k. omega (arith, c.type_inv.bytes k)) (returns-clause-sixels c)

@@ -10,6 +10,7 @@ use Rattle.sixel_decoder.proofs.chunks.Places.{feeds_whole, first_ahead, reaches
 use Rattle.sixel_decoder.proofs.chunks.Places.{reaches_pushed, reaches_read, reads_before}
 use Rattle.sixel_decoder.proofs.chunks.Places.{reads_whole, splits_at}
 use Rattle.sixel_decoder.proofs.drawing.SixelRuns.{Stands-run, goes_on_byte, refused_sixel}
+use Rattle.sixel_decoder.proofs.images.FoundPayloads.{tail_whole}
 use Rattle.sixel_decoder.proofs.payload_parser.PayloadParser.read_chunk.Goals as goal
 
 -- a byte that opens a command with a number is printable
@@ -23,11 +24,14 @@ sixel_printable byte h = grind (arith, nat_tests)
 -- ---- a sixel
 
 pub draw_sixels-requires-clause-some : goal.draw_sixels-requires-clause-some
-draw_sixels-requires-clause-some g c = grind (arith, c.tail.ensures, splits_at, c.bytes-test.true)
+draw_sixels-requires-clause-some g c = grind (arith, tail_whole, splits_at, c.bytes-test.true)
 
 pub draw_sixels-requires-clause-sixel : goal.draw_sixels-requires-clause-sixel
 draw_sixels-requires-clause-sixel g c =
-    rw (c.tail.ensures, splits_at c.args.chunk.now c.bytes.index c.bytes-test.true) (search rules)
+    rw (
+      tail_whole c.bytes.index c.args.chunk.now,
+      splits_at c.args.chunk.now c.bytes.index c.bytes-test.true,
+    ) (search rules)
 
 pub returns-in_err-close-clause-feeds : goal.returns-in_err-close-clause-feeds
 returns-in_err-close-clause-feeds g c = λ o h reached.
@@ -54,7 +58,8 @@ returns-in_err-drawn-clause-feeds g c = λ o h reached.
     (feeds_refused_printable _ o _ h _ _ c.bytes-test.true (sixel_printable byte is) r
     (refused_sixel e o.pixel_limit r.now byte is
     (subst (λ (b : ℕ). Faults e true (fault o.pixel_limit (Sixel (b - 63) ∷ r.now)))
-    (first_ahead c.bytes.index c.args.chunk.now c.tail.result.now c.tail.ensures) refused)))
+    (first_ahead c.bytes.index c.args.chunk.now _ (tail_whole c.bytes.index c.args.chunk.now))
+    refused)))
 
 pub bytes-preserved-then-matches : goal.bytes-preserved-then-matches
 bytes-preserved-then-matches g c =
@@ -62,7 +67,7 @@ bytes-preserved-then-matches g c =
       λ o h reached.
           let r = c.bytes.invariant.0 o h reached in
           let shows = is.tolerates o r.now (c.in_ok-close.ensures.drawn o r.now r.stands) in
-          reaches_read o _ _ h _ _ _ _ c.tail.ensures
+          reaches_read o _ _ h _ _ _ _ (tail_whole c.bytes.index c.args.chunk.now)
           (λ k lt. (omega (arith, is.sixels k lt), omega (arith, is.sixels k lt))) is.within r
           (Stands-run o _ r.now _ _ c.in_ok-close.ensures.ground is.some is.within is.sixels shows),
       is.released ∙ c.in_ok-close.ensures.released ∙ c.bytes.invariant.1,
@@ -72,12 +77,14 @@ bytes-preserved-then-matches g c =
 
 pub open_numbered-read-requires-clause-some : goal.open_numbered-read-requires-clause-some
 open_numbered-read-requires-clause-some g c =
-    grind (arith, nat_tests, c.tail-then-is_numbered.ensures, splits_at, c.bytes-test.true)
+    grind (arith, nat_tests, tail_whole, splits_at, c.bytes-test.true)
 
 pub open_numbered-read-requires-clause-numbered : goal.open_numbered-read-requires-clause-numbered
 open_numbered-read-requires-clause-numbered g c =
-    rw (c.tail-then-is_numbered.ensures, splits_at c.args.chunk.now c.bytes.index c.bytes-test.true)
-    (c.is_numbered.ensures.bytes c.if-is_numbered.true)
+    rw (
+      tail_whole c.bytes.index c.args.chunk.now,
+      splits_at c.args.chunk.now c.bytes.index c.bytes-test.true,
+    ) (c.is_numbered.ensures.bytes c.if-is_numbered.true)
 
 pub returns-in_err-close-2-clause-feeds : goal.returns-in_err-close-2-clause-feeds
 returns-in_err-close-2-clause-feeds g c = λ o h reached.
@@ -95,7 +102,8 @@ bytes-preserved-then-is_numbered g c =
     let is = c.open_numbered-read.ensures in (
       λ o h reached.
           let r = c.bytes.invariant.0 o h reached in
-          reaches_read o _ _ h _ _ _ _ c.tail-then-is_numbered.ensures is.printable is.within r
+          reaches_read o _ _ h _ _ _ _ (tail_whole c.bytes.index c.args.chunk.now) is.printable
+          is.within r
           (is.stands o r.now (c.in_ok-close-2.ensures.drawn o r.now r.stands)),
       is.released ∙ c.in_ok-close-2.ensures.released ∙ c.bytes.invariant.1,
     )

@@ -7,10 +7,10 @@ use Rattle.sixel_base.specs.declared.status.SixelFeedResult.{SixelFeedResult}
 use Rattle.sixel_canvas.specs.declared.drawing.Canvas.{Ghosts}
 use Rattle.sixel_decoder.specs.Reception.{of_payload}
 use Rattle.sixel_decoder.specs.declared.payload_parser.PayloadParser.{PayloadParser}
-use Rattle.sixel_decoder.specs.declared.payload_reader.PayloadState.{PayloadState}
 use Rattle.sixel_decoder.specs.inside.PayloadReader.{session_of, parser_of, HasRead}
 use Rattle.sixel_decoder.proofs.{chunks.FedImages.image_rejected, chunks.Feeds.payload_fed}
 use Rattle.sixel_decoder.proofs.chunks.Joined.{ended_goes_on, ended_reads, open_goes_on}
+use Rattle.sixel_decoder.proofs.chunks.Joined.{reading_read}
 use Rattle.sixel_decoder.proofs.{chunks.Sessions.read_sound, dcs_sequences.Ends.terminator_same}
 use Rattle.sixel_decoder.proofs.payload_reader.PayloadReader.feed.Goals as goal
 
@@ -27,9 +27,7 @@ invariant_of-self-in-Some g c =
     let origin : Origin = (session_of inside).origin in
     let bytes : List ℕ = inside.log in
     let parser = c.in-Reading.parser in
-    let read : HasRead (Some parser) origin inside.terminator bytes =
-    subst (λ (w : PayloadState _ _). HasRead (parser_of w) origin inside.terminator bytes)
-    c.in-Reading.is c.self.invariant in
+    let read = reading_read _ _ origin inside.terminator bytes c.in-Reading.is c.self.invariant in
     let ended : HasRead (Some parser) origin (Some c.in-Some.byte) bytes =
     subst (λ (w : Option ℕ). HasRead (Some parser) origin w bytes) c.in-Some.is read in
     rw (c.extend.ensures, c.in-Some.is)
@@ -44,27 +42,21 @@ returns-in-Some-clause-fed g c =
     let parser = c.in-Reading.parser in
     let byte : ℕ = c.in-Some.byte in
     let fed : SixelFeedResult = record { consumed = 0; status = status_of (Some byte) } in
-    let read : HasRead (Some parser) origin inside.terminator bytes =
-    subst (λ (w : PayloadState _ _). HasRead (parser_of w) origin inside.terminator bytes)
-    c.in-Reading.is c.self.invariant in
+    let read = reading_read _ _ origin inside.terminator bytes c.in-Reading.is c.self.invariant in
     let ended : HasRead (Some parser) origin (Some byte) bytes =
     subst (λ (w : Option ℕ). HasRead (Some parser) origin w bytes) c.in-Some.is read in
     let goes = ended_goes_on origin parser bytes chunk byte ended in
-    let was : is_none (parser_of inside.state) ≡ false = rw c.in-Reading.is refl in
-    let sound =
-    read_sound (parser_of inside.state) origin inside.terminator bytes c.self.invariant was in
+    let sound = read_sound (Some c.in-Reading.parser) origin inside.terminator bytes read refl in
     rw (← c.self.view_is)
-    (payload_fed (session_of inside) _ chunk fed was refl refl (rw c.in-Reading.is refl)
-    c.extend.ensures sound (goes.0, goes.1, goes.3))
+    (payload_fed (session_of inside) _ chunk fed (rw c.in-Reading.is refl) refl refl
+    (rw c.in-Reading.is refl) c.extend.ensures sound (goes.0, goes.1, goes.3))
 
 pub invariant_of-self-in-Ok : goal.invariant_of-self-in-Ok
 invariant_of-self-in-Ok g c =
     let inside = c.self.inside in
     let origin : Origin = (session_of inside).origin in
     let bytes : List ℕ = inside.log in
-    let read : HasRead (Some c.in-Reading.parser) origin inside.terminator bytes =
-    subst (λ (w : PayloadState _ _). HasRead (parser_of w) origin inside.terminator bytes)
-    c.in-Reading.is c.self.invariant in
+    let read = reading_read _ _ origin inside.terminator bytes c.in-Reading.is c.self.invariant in
     let goes =
     open_goes_on (Ok c.in-Ok.fed) origin c.in-Reading.parser c.feed.new.self inside.terminator bytes
     c.args.chunk.now
@@ -78,19 +70,16 @@ returns-in-Ok-clause-fed g c =
     let inside = c.self.inside in
     let origin : Origin = (session_of inside).origin in
     let bytes : List ℕ = inside.log in
-    let read : HasRead (Some c.in-Reading.parser) origin inside.terminator bytes =
-    subst (λ (w : PayloadState _ _). HasRead (parser_of w) origin inside.terminator bytes)
-    c.in-Reading.is c.self.invariant in
+    let read = reading_read _ _ origin inside.terminator bytes c.in-Reading.is c.self.invariant in
     let goes =
     open_goes_on (Ok c.in-Ok.fed) origin c.in-Reading.parser c.feed.new.self inside.terminator bytes
     c.args.chunk.now
     c.in-None.is read (c.in-Ok.ensures.feeds origin _) in
-    let was : is_none (parser_of inside.state) ≡ false = rw c.in-Reading.is refl in
-    let sound =
-    read_sound (parser_of inside.state) origin inside.terminator bytes c.self.invariant was in
+    let sound = read_sound (Some c.in-Reading.parser) origin inside.terminator bytes read refl in
     rw (← c.self.view_is)
-    (payload_fed (session_of inside) _ c.args.chunk.now c.in-Ok.fed was refl refl
-    (rw c.in-Reading.is c.in-Ok.ensures.released) c.extend.ensures sound (goes.0, goes.1, goes.3))
+    (payload_fed (session_of inside) _ c.args.chunk.now c.in-Ok.fed (rw c.in-Reading.is refl) refl
+    refl (rw c.in-Reading.is c.in-Ok.ensures.released) c.extend.ensures sound
+    (goes.0, goes.1, goes.3))
 
 pub returns-in-Err-clause-fed : goal.returns-in-Err-clause-fed
 returns-in-Err-clause-fed g c =
@@ -99,9 +88,7 @@ returns-in-Err-clause-fed g c =
     let bytes : List ℕ = inside.log in
     let chunk : List ℕ = c.args.chunk.now in
     let error : SixelError = c.in-Err.error in
-    let read : HasRead (Some c.in-Reading.parser) origin inside.terminator bytes =
-    subst (λ (w : PayloadState _ _). HasRead (parser_of w) origin inside.terminator bytes)
-    c.in-Reading.is c.self.invariant in
+    let read = reading_read _ _ origin inside.terminator bytes c.in-Reading.is c.self.invariant in
     let was : is_none (parser_of inside.state) ≡ false = rw c.in-Reading.is refl in
     rw (← c.self.view_is, c.payload_end-in-Err.ensures.error) (record {
       origin = refl;

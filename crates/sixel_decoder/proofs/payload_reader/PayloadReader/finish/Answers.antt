@@ -1,18 +1,14 @@
-use Rattle.std.proofs.Common.{◌≡◌, ℕ, List, Option, Ok, Err, false, Result, refl, min, arith}
+use Rattle.std.proofs.Common.{◌≡◌, Ok, Err, false, Result, refl, min, arith}
 use Rattle.std.proofs.lemmas.Bool.Decides.{nat_tests}
 use Rattle.std.specs.Prelude.{is_some, IfOk}
-use Rattle.sixel_base.specs.{Bytes.front, History.history_of, IgnoredCommands.payload_ignored}
+use Rattle.sixel_base.specs.{IgnoredCommands.payload_ignored}
 use Rattle.sixel_base.specs.{Payload.tokens, Stroke.Origin, declared.error.SixelError.SixelError}
 use Rattle.sixel_base.proofs.ToleratedTokens.{effective-fault}
-use Rattle.sixel_canvas.specs.declared.drawing.Canvas.{Ghosts}
 use Rattle.sixel_decoder.specs.{FinishedImages.IsTaken, Reception.of_payload, Session.Session}
 use Rattle.sixel_decoder.specs.declared.decoded_payload.DecodedPayload.{DecodedPayload}
-use Rattle.sixel_decoder.specs.declared.payload_parser.PayloadParser.{PayloadParser}
-use Rattle.sixel_decoder.specs.declared.payload_reader.PayloadState.{PayloadState}
-use Rattle.sixel_decoder.specs.{inside.Painter.Ends, inside.PayloadParser.StandsAfter}
-use Rattle.sixel_decoder.specs.inside.PayloadReader.{session_of, parser_of, HasRead}
-use Rattle.sixel_decoder.proofs.chunks.PayloadFaults.{payload_ends}
-use Rattle.sixel_decoder.specs.declared.payload_reader.PayloadState.TheVariants as states
+use Rattle.sixel_decoder.specs.{inside.Painter.Ends}
+use Rattle.sixel_decoder.specs.inside.PayloadReader.{session_of}
+use Rattle.sixel_decoder.proofs.chunks.{Joined.reading_read, PayloadFaults.payload_ends}
 use Rattle.sixel_decoder.proofs.payload_reader.PayloadReader.finish.Goals as goal
 
 -- how an image is taken whose parser ended its history
@@ -24,21 +20,12 @@ taken_by : (result : Result DecodedPayload SixelError) (s : Session) → s.is_re
 taken_by (Ok picture) s accepted first ends = grind (arith, nat_tests)
 taken_by (Err e) s accepted first ends = grind (arith, nat_tests, payload_ends, effective-fault)
 
--- the parser of a reader without an error has read its bytes
-reading : {C : Type 0} {canvas : Ghosts C} (state : PayloadState C canvas)
-    (parser : PayloadParser C canvas) (o : Origin) (terminator : Option ℕ) (bytes : List ℕ)
-    → state ≡ states.Reading parser → HasRead (parser_of state) o terminator bytes
-    → StandsAfter (is_some terminator) o parser (history_of (front bytes))
-reading {canvas = canvas} state parser o terminator bytes is read = grind (arith, nat_tests)
-
 pub returns-in-Reading : goal.returns-in-Reading
 returns-in-Reading g c =
     let inside = c.self.inside in
     let o : Origin = (session_of inside).origin in
-    let read =
-    reading inside.state c.in-Reading.parser o inside.terminator inside.log
-    c.in-Reading.is c.self.invariant in
+    let read = reading_read _ _ o inside.terminator inside.log c.in-Reading.is c.self.invariant in
     rw (← c.self.view_is)
     (taken_by c.finish.result (session_of inside) (rw c.in-Reading.is refl)
     (rw c.in-Reading.is c.finish.ensures.first)
-    (c.finish.ensures.ends o _ (is_some inside.terminator) read))
+    (c.finish.ensures.ends o _ (is_some inside.terminator) read.1))

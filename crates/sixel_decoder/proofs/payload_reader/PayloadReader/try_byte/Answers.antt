@@ -1,11 +1,11 @@
-use Rattle.std.proofs.Common.{◌≡◌, ◌∷◌, ◌++◌, [], false, ℕ, List, Some, refl, sym, ◌∙◌, subst}
+use Rattle.std.proofs.Common.{◌≡◌, ◌∷◌, ◌++◌, [], false, ℕ, List, Some, refl, sym, ◌∙◌}
 use Rattle.std.specs.Prelude.{is_none}
 use Rattle.sixel_base.specs.declared.status.SixelFeedStatus.TheVariants.{NeedMoreData}
 use Rattle.sixel_base.specs.Stroke.{Origin}
 use Rattle.sixel_decoder.specs.PayloadCalls.{byte_read}
-use Rattle.sixel_decoder.specs.declared.payload_reader.PayloadState.{PayloadState}
 use Rattle.sixel_decoder.specs.inside.PayloadReader.{session_of, parser_of, GoesOn, HasRead}
 use Rattle.sixel_decoder.proofs.chunks.{Feeds.{byte_goes_on, payload_fed}, Sessions.read_sound}
+use Rattle.sixel_decoder.proofs.chunks.Joined.{reading_read}
 use Rattle.sixel_decoder.proofs.payload_reader.PayloadReader.try_byte.Given.{Over}
 use Rattle.sixel_decoder.proofs.payload_reader.PayloadReader.try_byte.Goals as goal
 
@@ -19,9 +19,7 @@ went_on g c =
     let inside = c.self.inside in
     let origin : Origin = (session_of inside).origin in
     let bytes : List ℕ = inside.log in
-    let read : HasRead (Some c.in-Reading.parser) origin inside.terminator bytes =
-    subst (λ (w : PayloadState _ _). HasRead (parser_of w) origin inside.terminator bytes)
-    c.in-Reading.is c.self.invariant in
+    let read = reading_read _ _ origin inside.terminator bytes c.in-Reading.is c.self.invariant in
     byte_goes_on origin c.in-Reading.parser c.try_byte.new.self inside.terminator bytes c.args.byte
     (sym c.is_some.ensures ∙ c.if-is_some.false) read
     (c.try_byte.ensures.printable c.if-not-try_byte.false)

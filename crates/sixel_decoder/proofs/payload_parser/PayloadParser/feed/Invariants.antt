@@ -1,7 +1,7 @@
 use Rattle.std.proofs.Common.{◌≡◌}
 use Rattle.sixel_base.specs.{History.History, Stroke.Origin}
 use Rattle.sixel_decoder.specs.inside.PayloadParser.{Reaches, Stands}
-use Rattle.sixel_decoder.proofs.payload_parser.PayloadParser.try_front.Given as goal
+use Rattle.sixel_decoder.proofs.payload_parser.PayloadParser.feed.Given as goal
 
 abbrev pub invariant-front : goal.invariant-front
 invariant-front g l =
