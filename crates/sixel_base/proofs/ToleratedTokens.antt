@@ -147,3 +147,6 @@ registers-tolerated limit start (token ∷ h) =
 pub registers-effective : (limit : Limit) (start : List (List ℕ)) (h : History)
     → registers start (effective limit h) ≡ registers start h
 registers-effective limit start h = grind (arith, nat_tests, registers-tolerated)
+
+-- the laws of tolerated tokens
+pub ruleset laws = (tolerated-faultless, tolerated-same, ignored-none, none-ignored)

@@ -9,6 +9,7 @@ ghost use Rattle.sixel_base.specs.Payload.{first_fault};
 /// - `faultless`: the tolerated tokens have no fault.
 /// - `same`: of a payload without a fault all tokens are tolerated.
 /// - `ignored`: none is ignored exactly if there is no fault.
+#[tactic(auto, using(crate::proofs::ToleratedTokens::laws))]
 pub fn tolerated_tokens()
     ensures faultless { (limit : Limit) (h : History)
         → first_fault limit (tolerated limit h) ≡ None }
