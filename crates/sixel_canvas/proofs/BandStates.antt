@@ -1,6 +1,6 @@
 -- What a band shows once its columns were filled with background, or a part of a row with a color,
 -- and what its canvas shows then.
-use Rattle.std.proofs.Common.{◌≡◌, ℕ, zero, suc, ◌+◌, ◌-◌, ◌*◌, ◌<◌, ◌≤◌, Bool, true, List, length}
+use Rattle.std.proofs.Common.{◌≡◌, ℕ, zero, suc, ◌+◌, ◌-◌, ◌*◌, ◌<◌, ◌≤◌, Bool, true, List}
 use Rattle.std.proofs.{Common.{get_or, refl, arith}, lemmas.Bool.Decides.nat_tests}
 use Rattle.std.specs.Prelude.{nat_le, nat_lt, ◌&&◌, ◌==◌, if◌then◌else◌}
 use Rattle.sixel_base.specs.Picture.{covers, is_set, is_struck}

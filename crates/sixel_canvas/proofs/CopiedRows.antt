@@ -1,7 +1,6 @@
 -- What a caller's memory has once one more row of pixels was copied there.
 use Rattle.std.proofs.Common.{◌≡◌, ℕ, ◌+◌, ◌-◌, ◌*◌, ◌/◌, ◌%◌, ◌<◌, ◌≤◌, List, length, get_or, take}
-use Rattle.std.proofs.Common.{drop, arith, length-take, length-drop, get_or-take, get_or-drop}
-use Rattle.std.proofs.lemmas.List.{get_or_append_left, get_or-append_right}
+use Rattle.std.proofs.Common.{drop, arith, length-take, length-drop}
 use Rattle.std.{proofs.lemmas.Nat.mul-le, specs.Prelude.{nat_le, nat_lt, ◌==◌, ◌&&◌, if◌then◌else◌}}
 use borrow.Rule.Slice.PartMut.{put_mid}
 use Rattle.sixel_canvas.{proofs.RowPixels.parts}

@@ -1,7 +1,7 @@
 -- Lanes: what holds of each of four, and pixels that are chosen among two as numbers.
 use Rattle.std.proofs.Common.{◌≡◌, ℕ, ◌+◌, ◌-◌, ◌/◌, ◌^◌, ◌%◌, ◌<◌, Bool, cond, List, [], ◌∷◌, ◌++◌}
 use Rattle.std.proofs.Common.{length, map, get_or, bit_and, refl, subst, arith}
-use Rattle.std.specs.{Int.{to_le_bytes, w32}, Prelude.{◌==◌, if◌then◌else◌}}
+use Rattle.std.specs.{Prelude.{◌==◌, if◌then◌else◌}}
 use Rattle.std.proofs.lemmas.{Bool.Decides.nat_tests, Grind.{and_numeral, get_or-set_at}}
 use Rattle.std.proofs.lemmas.Grind.{common_steps}
 use Rattle.std.proofs.lemmas.List.{get_or_append_left, get_or-set_other, length-set}
@@ -66,12 +66,6 @@ get_or-chosen sixels old bit new four same =
     (chosen_lane (get_or sixels 1 0) bit new (get_or old 1 0))
     (chosen_lane (get_or sixels 2 0) bit new (get_or old 2 0))
     (chosen_lane (get_or sixels 3 0) bit new (get_or old 3 0))))
-
--- the bytes of one of two numbers
-pub bytes_of : (hit : Bool) (n x y : ℕ) (color pixel : List ℕ) → n ≡ (if hit then x else y) →
-    to_le_bytes w32 x ≡ color → to_le_bytes w32 y ≡ pixel →
-    to_le_bytes w32 n ≡ (if hit then color else pixel)
-bytes_of hit n x y color pixel is new old = grind (arith, nat_tests)
 
 -- pixels that are set one after another
 pub ruleset sets = (nat_tests, length-set, get_or-set_at, get_or-set_other)

@@ -16,7 +16,7 @@ use Rattle.sixel_decoder.specs.declared.payload_parser.OpenCommand.TheVariants.{
 use Rattle.sixel_decoder.specs.declared.payload_parser.OpenCommand.TheVariants.{InRaster, InColor}
 use Rattle.sixel_decoder.specs.declared.payload_parser.PayloadParser.{PayloadParser}
 use Rattle.sixel_decoder.{specs.inside.Lenient.HasDrawn, specs.inside.PayloadParser.StandsIn}
-use Rattle.sixel_decoder.specs.inside.PayloadParser.{StandsAfter, Feeds, after}
+use Rattle.sixel_decoder.specs.inside.PayloadParser.{StandsAfter, Feeds}
 use Rattle.sixel_decoder.specs.inside.PayloadReader.{HasRead, GoesOn, parser_of}
 use Rattle.sixel_decoder.specs.declared.payload_reader.PayloadState.{PayloadState}
 use Rattle.sixel_decoder.specs.declared.payload_reader.PayloadState.TheVariants as states
@@ -99,17 +99,6 @@ pub shown_after : {C : Type 0} {canvas : Ghosts C} (ended : Bool) (o : Origin)
     (cond ended h (closed h))
 shown_after true o parser h is = is.1
 shown_after false o parser h is = stands_shown parser.command o parser h is
-
-after_whole : (before piece : List ℕ) → first_terminator before ≡ None
-    → after (history_of (front before)) piece ≡ history_of (front (before ++ piece))
-after_whole before piece none = grind (
-  arith,
-  nat_tests,
-  fold-append,
-  before_terminator-append,
-  carrying-append,
-  before_terminator-whole,
-)
 
 pub settled_open : (before : List ℕ) → first_terminator before ≡ None
     → settled before ≡ closed (history_of (front before))

@@ -1,8 +1,8 @@
 use Rattle.std.proofs.Common.{◌≡◌, ℕ, ◌+◌, ◌-◌, ◌*◌, ◌≤◌, ◌<◌, ◌++◌, length, max, min, take, drop}
 use Rattle.std.proofs.{Common.{ap, arith, length-drop, length-take}, Math.Nat.mul-le-mul}
-use Rattle.std.proofs.{Math.Nat.mul-le-mul_right, lemmas.Bool.Decides.nat_tests}
+use Rattle.std.proofs.{Math.Nat.mul-le-mul_right}
 use Rattle.sixel_base.specs.Picture.{joined}
-use Rattle.sixel_canvas.proofs.{MovedRows.moved_within, ReleasedRows.dropped, RowBytes.part_len_is}
+use Rattle.sixel_canvas.proofs.{ReleasedRows.dropped, RowBytes.part_len_is}
 use Rattle.sixel_canvas.proofs.RowBytes.{row_copied, row_len, when_ok}
 use Rattle.sixel_canvas.proofs.final_rows.FinalRows.lay_out.Goals as goal
 

@@ -1,7 +1,6 @@
-use Rattle.std.proofs.Common.{◌≡◌, ◌-◌, ◌*◌, ◌++◌, length, sym, ap, ◌∙◌, length-append, arith}
+use Rattle.std.proofs.Common.{◌≡◌, ◌-◌, ◌++◌, length, sym, ap, ◌∙◌, arith}
 use Rattle.std.proofs.{Common.rules, lemmas.Bool.Decides.nat_tests, lemmas.Grind.common_steps}
 use Rattle.sixel_base.specs.Picture.{joined}
-use Rattle.sixel_base.proofs.PictureBytes.{length-joined}
 use Rattle.sixel_canvas.specs.{Row.RowState, inside.Pixels.pixels_of}
 use Rattle.sixel_canvas.proofs.{PixelLists.pixels_of-added, RowBytes.when_ok}
 use Rattle.sixel_canvas.proofs.row.Row.grow.Goals as goal
@@ -16,10 +15,6 @@ bytes_are : (c : goal.After-self-2-1)
     ≡ c.self.inside.bytes.items
     ++ joined (λ _. c.self.inside.background) (c.args.columns - c.len-len.result)
 bytes_are c = grind (arith, nat_tests, when_ok, len_is)
-
-bytes_long : (c : goal.After-self-2-1)
-    → length c.add_pixels-added.new.bytes.items ≡ 4 * c.args.columns
-bytes_long c = grind (arith, nat_tests, length-append, length-joined, len_is, bytes_are)
 
 pub returns-clause-ok : goal.returns-clause-ok
 returns-clause-ok c =
