@@ -99,6 +99,7 @@ impl Canvas for BandCanvas {
         self.expected_width = self.expected_width.max(width);
     }
 
+    #[tactic(auto, using(crate::proofs::BandStates::canvas_over))]
     #[inline(always)]
     fn draw(&mut self, from: usize, to: usize, bits: u8, color: [u8; 4]) -> Result<(), AllocError> {
         if bits == 0 {
@@ -117,6 +118,7 @@ impl Canvas for BandCanvas {
         self.band.draw_column(at, bits, color);
     }
 
+    #[tactic(auto, using(crate::proofs::BandStates::canvas_over))]
     #[inline(always)]
     fn draw_eight(
         &mut self,
@@ -180,6 +182,7 @@ impl BandCanvas {
     /// Releases the final rows above row `rows`.
     ///
     /// Their memory is reused. It is freed if no other row is stored and the band is empty.
+    #[tactic(auto, using(crate::proofs::MovedRows::moved_released))]
     pub fn release_rows(&mut self, rows: usize)
         requires above { rows ≤ self.old.top }
         ensures shown { (column row : ℕ) → band_canvas_shown self.new column row

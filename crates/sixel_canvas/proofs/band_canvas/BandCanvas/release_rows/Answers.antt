@@ -1,7 +1,7 @@
 use Rattle.std.{proofs.Common.{◌+◌, ◌-◌, ap, ◌∙◌, refl, arith}, specs.Prelude.nat_lt}
 use Rattle.std.specs.Prelude.{if◌then◌else◌}
 use Rattle.sixel_canvas.specs.inside.BandCanvas.{BandCanvasState, band_canvas_shown}
-use Rattle.sixel_canvas.{specs.inside.TaggedBand.tagged_cell, proofs.MovedRows.moved_released}
+use Rattle.sixel_canvas.{specs.inside.TaggedBand.tagged_cell}
 use Rattle.sixel_canvas.proofs.ReleasedRows.{above_released, held_released}
 use Rattle.sixel_canvas.proofs.band_canvas.BandCanvas.release_rows.Goals as goal
 
@@ -26,6 +26,3 @@ returns-clause-shown c = λ column row.
     (all.released + count) count c.remove.ensures.sound c.self.invariant.logged refl
     c.remove.ensures.background c.append_rows.ensures.rows c.remove.ensures.shown column row)
     ∙ ap (λ (s : BandCanvasState). band_canvas_shown s column row) c.self.view_is
-
-pub returns-clause-moved : goal.returns-clause-moved
-returns-clause-moved c = λ named runs are. grind (arith, moved_released)

@@ -1,10 +1,7 @@
 use Rattle.std.{proofs.Common.{◌≡◌, arith}, proofs.lemmas.Bool.Decides.nat_tests}
-use Rattle.sixel_canvas.{proofs.BandStates.canvas_over, proofs.MovedRows.{laid_held, least_held}}
+use Rattle.sixel_canvas.{proofs.MovedRows.{laid_held, least_held}}
 use Rattle.sixel_canvas.{proofs.MovedRows.moved_run, specs.inside.BandCanvas.band_canvas_state}
 use Rattle.sixel_canvas.proofs.band_canvas.BandCanvasCanvas.draw.Goals as goal
-
-pub returns-clause-drawn : goal.returns-clause-drawn
-returns-clause-drawn c = λ column row. grind (arith, canvas_over)
 
 pub returns-clause-paid : goal.returns-clause-paid
 returns-clause-paid c = λ named runs before.

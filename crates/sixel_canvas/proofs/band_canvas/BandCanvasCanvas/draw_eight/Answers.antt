@@ -2,13 +2,10 @@ use Rattle.std.proofs.Common.{◌≡◌, ◌≤◌, ◌+◌, ◌*◌, ℕ, List,
 use Rattle.std.proofs.lemmas.Bool.Decides.{nat_tests}
 use Rattle.sixel_canvas.specs.{Drawn.{Run, with_sixels}, inside.BandCanvas.band_canvas_state}
 use Rattle.sixel_canvas.specs.{inside.BandCanvas.least_width, inside.TaggedBand.capacity}
-use Rattle.sixel_canvas.proofs.{BandStates.canvas_over, MovedRows.{laid_held, laid_wider}}
+use Rattle.sixel_canvas.proofs.{MovedRows.{laid_held, laid_wider}}
 use Rattle.sixel_canvas.proofs.{MovedRows.{least_held, least_sixels, moved_more}, Runs.above_here}
 use Rattle.sixel_canvas.proofs.Runs.{edges, lowest_here, paid-sixels}
 use Rattle.sixel_canvas.proofs.band_canvas.BandCanvasCanvas.draw_eight.Goals as goal
-
-pub returns-clause-drawn : goal.returns-clause-drawn
-returns-clause-drawn c = λ column row. grind (arith, canvas_over)
 
 pub returns-clause-paid : goal.returns-clause-paid
 returns-clause-paid c = λ named runs before.
