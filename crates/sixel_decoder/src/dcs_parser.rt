@@ -124,6 +124,7 @@ impl<C: Canvas + Drop> DcsParser<C> {
     }
 
     /// Reads a chunk that begins before the payload.
+    #[tactic(auto, using(crate::proofs::dcs_sequences::Chunks::beginnings))]
     fn read_beginning(&mut self, chunk: &[u8]) -> Result<SixelDcsFeedResult>
         ensures decoder { self.new.decoder ≡ self.old.decoder }
         ensures ended { OnErr result (self.new.ended ≡ self.old.ended) }
@@ -150,6 +151,7 @@ impl<C: Canvas + Drop> DcsParser<C> {
     }
 
     /// Reads a chunk up to the payload, and returns how many bytes that are.
+    #[tactic(auto, using(crate::proofs::dcs_sequences::Terminators::pieces))]
     fn read_head(&mut self, chunk: &[u8]) -> Result<usize>
         ensures decoder { self.new.decoder ≡ self.old.decoder }
         ensures ended { self.new.ended ≡ self.old.ended }

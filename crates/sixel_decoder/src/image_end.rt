@@ -98,6 +98,7 @@ fn inside_start(is_begun: bool, chunk: &[u8]) -> usize
 }
 
 /// Adds bytes after the introducer, and returns how many of them belong to the sequence.
+#[tactic(auto, using(crate::proofs::images::ImageEnds::inside_ends))]
 fn add_inside(ended: &mut Option<SixelDcsFeedStatus>, chunk: &[u8]) -> SixelDcsFeedResult
     ensures within { result.consumed ≤ length chunk.now + 2 }
     ensures goes { (before : List ℕ) → ended.old ≡ ended_with before

@@ -112,6 +112,7 @@ impl<C: Canvas + Drop> PayloadParser<C> {
     ///
     /// It is a digit of the open command, opens one, or is a sixel in a column for which the canvas
     /// has memory. An open color command that defines no register is closed first.
+    #[tactic(auto, using(crate::proofs::chunks::ParserSteps::byte_reads))]
     #[inline(always)]
     pub fn try_byte(&mut self, byte: u8) -> bool
         ensures printable { IsTrue result → IsPrintable byte }

@@ -3,7 +3,7 @@ use Rattle.std.proofs.Common.{◌≡◌, ℕ, ◌+◌, ◌-◌, ◌≤◌, Bool,
 use Rattle.std.proofs.Common.{refl, ap, sym, ◌∙◌, subst, arith, Option, None, Ok, length, take}
 use Rattle.std.proofs.{Common.{drop, append_assoc, length-append}, lemmas.Bool.Decides.nat_tests}
 use Rattle.std.proofs.lemmas.List.{take-append-drop, length-take-le, take_all}
-use Rattle.std.specs.Prelude.{nat_lt, ◌==◌, IsTrue}
+use Rattle.std.{proofs.lemmas.Result.err_from_is_err_and, specs.Prelude.{nat_lt, ◌==◌, IsTrue}}
 use Rattle.sixel_base.specs.{Bytes.is_terminator, Dcs.{Introduced, Waiting, Absent, Entered}}
 use Rattle.sixel_base.specs.Dcs.{introduced, Stage, Heading, Reading, stage_after, stage_by, stage}
 use Rattle.sixel_base.specs.Dcs.{stage_status, stage_count, stage_fault, stage_growths}
@@ -194,3 +194,14 @@ pub entered_refuses : (e : SixelError) (limit : Limit) (before piece : List ℕ)
     (dcs_fault limit (before ++ piece))
 entered_refuses e limit before piece start from refused =
     grind (arith, nat_tests, append_assoc, take-append-drop, Faults-along, grows)
+
+-- what reading the beginning of a chunk needs
+pub ruleset beginnings = (
+  nat_tests,
+  err_from_is_err_and,
+  head_fine,
+  heading,
+  head_or_payload,
+  head_follows,
+  stage_refuses,
+)

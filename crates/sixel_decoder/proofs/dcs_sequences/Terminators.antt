@@ -2,7 +2,7 @@
 use Rattle.std.proofs.Common.{◌≡◌, ℕ, ◌+◌, ◌<◌, ◌≤◌, true, false, List, [], ◌∷◌, ◌++◌, refl, arith}
 use Rattle.std.proofs.Common.{Some, None, length, drop, drop-cons, take, get_or, add-one}
 use Rattle.std.{proofs.Common.append_assoc, specs.Prelude.{◌==◌, ◌||◌}, proofs.Math.Seq.take-suc}
-use Rattle.std.{proofs.lemmas.List.take-append-drop, proofs.lemmas.Bool.Decides.nat_tests}
+use Rattle.std.proofs.lemmas.{List.{append-nil, take-append-drop}, Bool.Decides.nat_tests}
 use Rattle.sixel_base.{specs.Bytes.{count, first_terminator}, specs.Dcs.{Introduced, Waiting}}
 use Rattle.sixel_base.specs.Dcs.{Absent, Entered, introduced, Failing, Reading, stage_after}
 use Rattle.sixel_base.specs.Dcs.{stage_by, stage, after_terminator, end_status, end_count}
@@ -99,3 +99,6 @@ pieces_join before piece index within =
 pub pieces_step : (before piece : List ℕ) (index : ℕ) → index < length piece
     → (before ++ take index piece) ++ (get_or piece index 0 ∷ []) ≡ before ++ take (index + 1) piece
 pieces_step before piece index within = grind (arith, nat_tests, append_assoc, add-one, take-suc)
+
+-- what reading a chunk byte by byte needs
+pub ruleset pieces = (nat_tests, append-nil, pieces_step)

@@ -21,7 +21,8 @@ use Rattle.sixel_decoder.specs.{declared.received.Status.TheVariants.Dcs, inside
 use Rattle.sixel_decoder.specs.inside.DcsParser.{HasFollowed, is_begun, is_failed, is_head}
 use Rattle.sixel_decoder.proofs.chunks.Joined.{count-append, first_terminator-append}
 use Rattle.sixel_decoder.proofs.{chunks.Joined.first_terminator-ended, dcs_sequences.Chunks.heading}
-use Rattle.sixel_decoder.proofs.{dcs_sequences.Chunks.reading_fits, dcs_sequences.Ends.ended_at}
+use Rattle.sixel_decoder.proofs.dcs_sequences.{Chunks.reading_fits, Ends.{ended_at, goes_open}}
+use Rattle.sixel_decoder.proofs.dcs_sequences.Ends.{terminator_same}
 use Rattle.sixel_decoder.proofs.dcs_sequences.Ends.{goes_later, some_by}
 use Rattle.sixel_decoder.proofs.{images.Finality.count_ended, chunks.Sessions.dcs_count-most}
 use Rattle.sixel_decoder.specs.declared.dcs_parser.DcsState.TheVariants as states
@@ -197,3 +198,6 @@ pub refused_begun : {C : Type 0} (e : SixelError) (state : DcsState C) (decoder 
     (dcs_fault decoder.pixel_limit (bytes ++ chunk)))
     → true ≡ nat_lt 0 (length (bytes ++ chunk))
 refused_begun e state decoder ended bytes chunk is told = grind (arith, nat_tests)
+
+-- what counting bytes inside a sequence needs
+pub ruleset inside_ends = (nat_tests, terminator_same, first_in, goes_open, ended_at)

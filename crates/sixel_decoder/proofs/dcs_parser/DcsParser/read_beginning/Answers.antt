@@ -1,18 +1,14 @@
-use Rattle.std.proofs.Common.{◌++◌, ◌∙◌, List, ℕ, Option, None, subst, take, arith}
-use Rattle.std.proofs.lemmas.{Bool.Decides.nat_tests, Result.err_from_is_err_and}
+use Rattle.std.proofs.Common.{◌++◌, ◌∙◌, List, ℕ, Option, None, subst, take}
+use Rattle.std.proofs.lemmas.{Result.err_from_is_err_and}
 use Rattle.sixel_base.specs.declared.status.SixelDcsFeedStatus.{SixelDcsFeedStatus}
 use Rattle.sixel_decoder.specs.declared.dcs_parser.DcsState.{DcsState}
 use Rattle.sixel_decoder.specs.inside.DcsParser.{IsInPayload, HasFollowed}
-use Rattle.sixel_decoder.proofs.dcs_sequences.Chunks.{heading, head_or_payload, head_fine}
-use Rattle.sixel_decoder.proofs.dcs_sequences.Chunks.{stage_refuses, head_follows, all_counted}
+use Rattle.sixel_decoder.proofs.dcs_sequences.Chunks.{heading, head_fine}
+use Rattle.sixel_decoder.proofs.dcs_sequences.Chunks.{all_counted}
 use Rattle.sixel_decoder.proofs.dcs_sequences.Chunks.{entered_follows, entered_refuses}
 use Rattle.sixel_decoder.proofs.images.FoundPayloads.{tail_whole}
 use Rattle.sixel_decoder.specs.declared.dcs_parser.DcsState.TheVariants as states
 use Rattle.sixel_decoder.proofs.dcs_parser.DcsParser.read_beginning.Goals as goal
-
-pub returns-in_err-start-clause-follows : goal.returns-in_err-start-clause-follows
-returns-in_err-start-clause-follows g c =
-    grind (arith, nat_tests, head_fine, err_from_is_err_and, stage_refuses)
 
 pub returns-in_err-fed-in-Payload-clause-follows : goal.returns-in_err-fed-in-Payload-clause-follows
 returns-in_err-fed-in-Payload-clause-follows g c = λ before head is.
@@ -60,7 +56,3 @@ returns-in_ok-fed-in-Payload-clause-follows g c = λ before head is.
     c.read_payload.new.ended before piece start _ _ begun.0 from.0
     (all_counted c.in-Payload.reader c.args.self.now.decoder (before ++ take start piece) unended)
     (rw (tail_whole start piece) at follows)
-
-pub returns-in_default-clause-follows : goal.returns-in_default-clause-follows
-returns-in_default-clause-follows g c =
-    grind (arith, nat_tests, head_fine, heading, head_or_payload, head_follows)

@@ -1,16 +1,10 @@
 use Rattle.std.proofs.Common.{◌≡◌, ◌++◌, ◌∷◌, [], true, List, ℕ, get_or, take, drop, ◌+◌, sym, ◌∙◌}
-use Rattle.std.proofs.Common.{subst, arith}
-use Rattle.std.proofs.lemmas.{Bool.Decides.nat_tests, List.append-nil, Result.err_from_is_err_and}
+use Rattle.std.proofs.Common.{subst}
+use Rattle.std.proofs.lemmas.{Result.err_from_is_err_and}
 use Rattle.sixel_base.specs.Dcs.{stage}
 use Rattle.sixel_decoder.specs.inside.DcsParser.{is_head, IsStageFault}
-use Rattle.sixel_decoder.proofs.dcs_sequences.Terminators.{refused_stays, pieces_join, pieces_step}
+use Rattle.sixel_decoder.proofs.dcs_sequences.Terminators.{refused_stays, pieces_join}
 use Rattle.sixel_decoder.proofs.dcs_parser.DcsParser.read_head.Goals as goal
-
-pub head-init : goal.head-init
-head-init g c = grind (arith, nat_tests, append-nil)
-
-pub head-preserved : goal.head-preserved
-head-preserved g c = grind (arith, nat_tests, pieces_step)
 
 pub returns-in_err-step-clause-heads : goal.returns-in_err-step-clause-heads
 returns-in_err-step-clause-heads g c = λ before fine followed.
