@@ -93,12 +93,6 @@ returns c =
       column-next_row,
     )
 
-pub error_beyond-requires-clause-image : goal.error_beyond-requires-clause-image
-error_beyond-requires-clause-image c = c.requires.image
-
-pub error_beyond-requires-clause-line : goal.error_beyond-requires-clause-line
-error_beyond-requires-clause-line c = c.loop-step.invariant.line.whole
-
 pub visit-requires : goal.visit-requires
 visit-requires c =
     let m = mapped_value c.args.self.now in

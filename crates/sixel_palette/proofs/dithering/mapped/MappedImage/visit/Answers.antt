@@ -68,27 +68,6 @@ returns-in-Some c =
       prepared = c.requires.prepared;
     }
 
-pub returns-in_err-index : goal.returns-in_err-index
-returns-in_err-index c =
-    let p = err_from_is_err_and c.from_residual.result c.from_residual.ensures.1 in
-    rw p.1 record { indices = tt; entries = tt; visit = tt; prepared = tt }
-
-pub store-requires-then-kept-self : goal.store-requires-then-kept-self
-store-requires-then-kept-self c = record {
-  strength = c.requires.image.strength;
-  pixel = rw c.requires.indices c.requires.place.within;
-  four = c.sixteenths.ensures.values.four;
-  values = c.sixteenths.ensures.values.small;
-  index =
-      (c.in_ok-index.ensures.index _
-      (IsKept-nearer (mapped_value c.args.self.now) c.color_of-target.result
-      (neighbor_of (mapped_value c.args.self.now) c.color_of-target.result c.args.indices.now
-      (c.args.place.row * c.args.self.now.width + c.args.place.step)) _ _ _
-      c.neighbors.ensures.above c.neighbors.ensures.before c.or_nearer-kept.ensures.second
-      c.or_nearer-kept.ensures.first)).entry;
-  parts = rw c.deref-then-kept-self.ensures.value c.requires.prepared.parts;
-}
-
 pub returns-in_ok-index : goal.returns-in_ok-index
 returns-in_ok-index c =
     let stored = c.store-then-kept-self.ensures in
@@ -115,19 +94,6 @@ returns-in_ok-index c =
       };
     }
 
-pub store-requires-then-above-before : goal.store-requires-then-above-before
-store-requires-then-above-before c =
-    let nearer = c.or_nearer-kept.ensures.second c.if-above-before.true in
-    let kept = c.neighbors.ensures.above c.if-above-before.true in
-    record {
-      strength = c.requires.image.strength;
-      pixel = rw c.requires.indices c.requires.place.within;
-      four = c.sixteenths.ensures.values.four;
-      values = c.sixteenths.ensures.values.small;
-      index = (kept.some (omega (arith, ap (λ (k : Kept). k.squared) nearer))).1;
-      parts = rw c.deref-then-above-before.ensures.value c.requires.prepared.parts;
-    }
-
 pub returns-then-above-before : goal.returns-then-above-before
 returns-then-above-before c =
     let stored = c.store-then-above-before.ensures in
@@ -147,19 +113,6 @@ returns-then-above-before c =
           (c.neighbors.ensures.above c.if-above-before.true) near (omega (arith, near)))
           stored.indices stored.error stored.lanes;
       prepared = c.requires.prepared;
-    }
-
-pub store-requires-else-above-before : goal.store-requires-else-above-before
-store-requires-else-above-before c =
-    let nearer = c.or_nearer-kept.ensures.first c.if-above-before.false in
-    let kept = c.neighbors.ensures.before c.if-above-before.false in
-    record {
-      strength = c.requires.image.strength;
-      pixel = rw c.requires.indices c.requires.place.within;
-      four = c.sixteenths.ensures.values.four;
-      values = c.sixteenths.ensures.values.small;
-      index = (kept.some (omega (arith, ap (λ (k : Kept). k.squared) nearer))).1;
-      parts = rw c.deref-else-above-before.ensures.value c.requires.prepared.parts;
     }
 
 pub returns-else-above-before : goal.returns-else-above-before
