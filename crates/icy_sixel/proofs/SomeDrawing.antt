@@ -224,14 +224,6 @@ place pixels entries pixel =
     if nat_le 128 (slice_index pixels (4 * pixel + 3))
     then Some (near entries (color_at pixels pixel)) else None
 
-place-opaque : (pixels : List ℕ) (entries : List (List ℕ)) (pixel : ℕ) → IsOpaque pixels pixel
-    → place pixels entries pixel ≡ Some (near entries (color_at pixels pixel))
-place-opaque pixels entries pixel opaque = grind (arith, nat_tests)
-
-place-hidden : (pixels : List ℕ) (entries : List (List ℕ)) (pixel : ℕ)
-    → slice_index pixels (4 * pixel + 3) < 128 → place pixels entries pixel ≡ None
-place-hidden pixels entries pixel hidden = grind (arith, nat_tests)
-
 -- where a color is shown there is an entry
 entry-some : (pixels : List ℕ) (k : ℕ) (entries : List (List ℕ)) → IsPalette pixels k entries
     → (c : List ℕ) → IsShown pixels c → 0 < length entries
@@ -264,13 +256,13 @@ drawing-some image k bytes =
           near entries (color_at image.pixels pixel),
           get_or-map-range_with_len (place image.pixels entries) 0 n pixel pixel None l
               (omega arith)
-              ∙ place-opaque image.pixels entries pixel opaque,
+              ∙ grind (arith, nat_tests),
           near-is entries (color_at image.pixels pixel)
               (entry-some image.pixels k entries palette.1 _ (pixel, l, opaque, refl)),
         );
         hidden = λ pixel l hidden.
             get_or-map-range_with_len (place image.pixels entries) 0 n pixel pixel None l
             (omega arith)
-            ∙ place-hidden image.pixels entries pixel hidden;
+            ∙ grind (arith, nat_tests);
       },
     )

@@ -12,7 +12,7 @@ use Rattle.sixel_decoder.specs.{FedImages.IsFed, FedImages.fault, Reception.OfSt
 use Rattle.sixel_decoder.specs.{Reception.Reception, Session.Session}
 use Rattle.sixel_decoder.specs.{declared.received.FailedRead.FailedRead}
 use Rattle.sixel_decoder.specs.{declared.received.Received.Received}
-use Rattle.sixel_decoder.specs.FinishedImages.{IsAgain, IsStored, end_fault, failed}
+use Rattle.sixel_decoder.specs.FinishedImages.{IsStored, end_fault, failed}
 use Rattle.sixel_decoder.specs.Reception.{Form, HasNoPayload, IsPayloadOf, Nothing, OfPayload}
 use Rattle.icy_sixel.specs.{Receiver.AreSettingsKept, ReceiverCalls.IsCounted}
 use Rattle.icy_sixel.specs.{declared.receiver.FailedFeed.FailedFeed, declared.receiver.Open.Open}
@@ -37,22 +37,6 @@ pub fed_ok : (old new : Reception) (failure : Option (Option Fault)) (chunk : Li
     (fed : Received) → IsFed old new chunk (Ok fed)
     → IsFed (record old { failure = failure }) (record new { failure = failure }) chunk (Ok fed)
 fed_ok old new failure chunk fed is = grind (arith, nat_tests)
-
--- one that fails, of an image that stored no error or did
-first_err : (old new : Reception) (now : Option (Option Fault)) (chunk : List ℕ)
-    (error : SixelError) → old.failure ≡ None → IsFed old new chunk (Err error)
-    → IsFed (record old { failure = None }) (record new { failure = now }) chunk (Err error)
-first_err old new now chunk error none is = grind (arith, nat_tests)
-
-again_err : (old new : Reception) (failure now : Option (Option Fault)) (chunk : List ℕ)
-    (told error : SixelError) → IsFed old new chunk (Err told) → old.is_refused ≡ true
-    → IsAgain failure old.form error
-    → IsFed (record old { failure = failure }) (record new { failure = now }) chunk (Err error)
-again_err old new failure now chunk told error is refused again = grind (arith, nat_tests)
-
-fault_told : (error : SixelError) (fault : Fault) → IsFault error fault
-    → Faults error false (Some fault)
-fault_told error fault is = grind (arith, nat_tests)
 
 -- a feed finds no missing command
 token_other : (limit : Limit) (token : Token) (older : History)
@@ -103,7 +87,7 @@ error_stored : (was_refused may : Bool) (now : Option (Option Fault)) (form : Fo
     → MatchBool was_refused (IsFault error (failed form)) (Faults error may found)
     → IsStored now error
 error_stored true may now form found error stored other is =
-    stored false (Some (failed form)) (grind (arith, nat_tests)) (fault_told error (failed form) is)
+    stored false (Some (failed form)) (grind (arith, nat_tests)) (grind (arith, nat_tests))
 error_stored false may now form found error stored other is = stored may found other is
 
 fed_err : (old new : Reception) (failure now : Option Failure) (chunk : List ℕ)
@@ -114,13 +98,13 @@ fed_err : (old new : Reception) (failure now : Option Failure) (chunk : List ℕ
     (record new { failure = option_map receiving.fault_of now }) chunk (Err result.error)
     × IsStored (option_map receiving.fault_of now) result.error
 fed_err old new None now chunk told result none is rejected first = rw (first.first refl) (
-  first_err old new _ chunk told.error none is,
+  grind (arith, nat_tests),
   error_stored old.is_refused _ _ old.form _ told.error (λ may found. first.stored may found refl)
       (feed_other old.start.pixel_limit new.form new.bytes) (rw none at is.error),
 )
 fed_err old new (Some fault) now chunk told result none is rejected first =
     let same = first.again refl in (
-      again_err old new _ _ chunk told.error result.error is (rejected refl) same.1,
+      grind (arith, nat_tests, rejected refl),
       rw same.0 same.1,
     )
 
