@@ -4,13 +4,13 @@ use Rattle.std.proofs.Common.{◌≡◌, ℕ, Bool, false, inl, inr, refl, arith
 use Rattle.std.{proofs.lemmas.Bool.Decides.nat_tests, specs.Prelude.{Err, IsTrue, None, Ok, Option}}
 use Rattle.std.specs.Prelude.{Result, Some, IfErr, MatchBool}
 use Rattle.sixel_base.{specs.CallFault.{CallFault, FailsBy, IsCallFault}, specs.Fault.Fault}
-use Rattle.sixel_base.{specs.Fault.{Faults, IsFault, MissingCommand}, specs.Limits.Limit}
+use Rattle.sixel_base.{specs.Fault.{Faults, MissingCommand}, specs.Limits.Limit}
 use Rattle.sixel_base.specs.declared.error.SixelError.{SixelError}
 use Rattle.sixel_base.specs.declared.error.SixelError.TheVariants.{OutOfMemory}
-use Rattle.icysixel.{specs.Code.{IsCallCode, IsCodeOf, fault_code}, specs.Encodings.FailsByCode}
+use Rattle.icysixel.{specs.Code.{IsCallCode, IsCodeOf}, specs.Encodings.FailsByCode}
 use Rattle.icysixel.{specs.Finish.IsFinished, specs.Heights.IsStored}
 use Rattle.icysixel.{specs.declared.shape.Shape.Shape, specs.declared.state.State.State}
-use Rattle.sixel_decoder.specs.FinishedImages.{IsAgain, end_fault, end_wants, failed}
+use Rattle.sixel_decoder.specs.FinishedImages.{IsAgain, end_fault, end_wants}
 use Rattle.icy_sixel.{proofs.StoredErrors.end_other, specs.Receiver.{Form, is_open}}
 use Rattle.icy_sixel.specs.declared.receiver.received_image.Height.{Height}
 use Rattle.icy_sixel.specs.declared.receiver.received_image.ReceivedImage.{ReceivedImage}
@@ -40,20 +40,13 @@ pub memory_copied : (X : Type 0) (copies : Bool) (fault : Option CallFault) → 
 memory_copied X copies None is = refl
 memory_copied X copies (Some fault) is = inr (refl, is)
 
-code_other : (fault : Fault) → fault ≢ MissingCommand → fault_code fault ≢ 16
-code_other fault other = grind (arith, nat_tests)
-
 error_other : (error : SixelError) (wants : Bool) (found : Option Fault) (code : ℕ)
     → found ≢ Some MissingCommand → Faults error wants found → IsCodeOf code error → code ≢ 16
-error_other error wants found code other is told = grind (arith, nat_tests, code_other)
-
-failed_other : (error : SixelError) (form : Form) (code : ℕ) → IsFault error (failed form)
-    → IsCodeOf code error → code ≢ 16
-failed_other error form code is told = grind (arith, nat_tests)
+error_other error wants found code other is told = grind (arith, nat_tests)
 
 again_other : (failure : Option (Option Fault)) (form : Form) (error : SixelError) (code : ℕ)
     → IsAgain failure form error → IsCodeOf code error → code ≢ 16
-again_other None form error code is told = failed_other error form code is told
+again_other None form error code is told = grind (arith, nat_tests)
 again_other (Some fault) form error code is told =
     error_other error _ fault code is.1 is.0 told
 

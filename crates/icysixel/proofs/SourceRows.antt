@@ -1,9 +1,9 @@
 -- Rows in the caller's memory: without gaps, read one below the other, and in RGBA.
 use Rattle.std.proofs.Common.{◌≡◌, ℕ, zero, suc, ◌+◌, ◌-◌, ◌*◌, List, ◌++◌, take, drop, ap, ◌∙◌}
-use Rattle.std.proofs.{Common.{arith, ◌<◌, ◌≤◌, add-one, true, length, sym}, Math.Seq.take-add}
+use Rattle.std.proofs.{Common.{arith, ◌≤◌, add-one, true, length, sym}, Math.Seq.take-add}
 use Rattle.std.proofs.{lemmas.Bool.false≢true, lemmas.Bool.Decides.nat_tests, lemmas.List.take_all}
 use Rattle.sixel_base.specs.Picture.{joined}
-use Rattle.icysixel.specs.{Formats.{is_rgba, pixel_len, rgba_pixels}, Rows.{rows_of, extent}}
+use Rattle.icysixel.specs.{Formats.{is_rgba, rgba_pixels}, Rows.{rows_of}}
 use Rattle.icysixel.specs.{Rows.wanted, declared.format.Format.Format}
 use Rattle.icysixel.specs.declared.format.Format.TheVariants.{Rgba, Bgra, Rgb, Bgr, Indexed}
 use Rattle.std.specs.Prelude.{Some, slice_range}
@@ -25,11 +25,6 @@ dense_rows wide (suc n) bytes =
     (λ first. first ++ take (n * wide + wide - n * wide) (drop (n * wide) bytes))
     (dense_rows wide n bytes)))
 
--- a row lies within what all of them take
-pub row_inside : (stride wide height row : ℕ) → row < height
-    → row * stride + wide ≤ extent stride wide height
-row_inside stride wide height row below = grind (arith, nat_tests)
-
 -- all of them are the rows before the last one, and that one
 pub rows_more : (stride wide n : ℕ) (xs : List ℕ)
     → rows_of stride wide (n + 1) xs
@@ -37,10 +32,7 @@ pub rows_more : (stride wide n : ℕ) (xs : List ℕ)
 unfolding joined
 rows_more stride wide n xs = ap (λ m. rows_of stride wide m xs) (add-one n)
 
--- a pixel has four bytes, and pixels stay as they are
-pub rgba_len : (format : Format) → is_rgba format ≡ true → pixel_len format ≡ 4
-rgba_len format is = grind (arith, nat_tests)
-
+-- pixels stay as they are
 pub rgba_same : (format : Format) (bytes : List ℕ) (count : ℕ) → is_rgba format ≡ true
     → length bytes ≡ 4 * count → bytes ≡ rgba_pixels format bytes count
 rgba_same Rgba bytes count is long =

@@ -1,16 +1,15 @@
-use Rattle.std.proofs.Common.{◌≡◌, ◌*◌, false, true, length, arith, not}
+use Rattle.std.proofs.Common.{◌≡◌, false, arith, not}
 use Rattle.std.proofs.{lemmas.Bool.false≢true, lemmas.Bool.Decides.nat_tests}
-use Rattle.icysixel.specs.{Encodings.format_of, Encodings.rows_fault, Formats.is_rgba}
-use Rattle.icysixel.proofs.{Calls.failed_copied, SourceRows.rgba_len, SourceRows.rgba_same}
+use Rattle.icysixel.specs.{Encodings.{format_of, rows_fault}, Formats.{is_rgba, pixel_len}}
+use Rattle.icysixel.proofs.{Calls.failed_copied, SourceRows.rgba_same}
 use Rattle.icysixel.proofs.encoding.Encoding.text_of_rows.Goals as goal
 
 pub text_of_image-requires-clause-count : goal.text_of_image-requires-clause-count
 text_of_image-requires-clause-count c =
     let encoding = c.args.self.now in
-    let is : is_rgba (format_of encoding) ≡ true = grind arith in
-    let len : length c.args.rows.now ≡ 4 * encoding.width * encoding.height =
-    rw (rgba_len (format_of encoding) is) at c.requires.rows in
-    omega (arith, len)
+    let four : pixel_len (format_of encoding) ≡ 4 = grind (arith, nat_tests) in
+    let rows = rw four at c.requires.rows in
+    omega (arith, rows)
 
 pub text_of_image-requires-clause-pixels : goal.text_of_image-requires-clause-pixels
 text_of_image-requires-clause-pixels c =
