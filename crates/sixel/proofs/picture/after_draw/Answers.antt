@@ -1,4 +1,4 @@
-use Rattle.std.proofs.Common.{◌-◌, arith}
+use Rattle.std.proofs.Common.{arith}
 use Rattle.std.proofs.lemmas.{Bool.Decides.{Decides-eqb, nat_tests}, Slice.Eq.slice_eq-Decides}
 use Rattle.sixel.proofs.FirstWords.{first_word}
 use Rattle.sixel.proofs.picture.after_draw.Goals as goal

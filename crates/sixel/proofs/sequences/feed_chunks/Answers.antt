@@ -1,4 +1,4 @@
-use Rattle.std.proofs.Common.{◌+◌, refl, ap, ◌∙◌, arith, length-append}
+use Rattle.std.proofs.Common.{refl, arith, length-append}
 use Rattle.std.proofs.lemmas.{Bool.Decides.nat_tests, Result.err_from_is_err_and}
 use Rattle.icy_sixel.proofs.Chunks.{count_fits}
 use Rattle.sixel.proofs.DcsSequences.{fed_more, refused_early}
@@ -20,35 +20,3 @@ returns-in_err-feed-clause-refused c =
 
 pub total-fed-requires : goal.total-fed-requires
 total-fed-requires c = grind (arith, nat_tests, fed_more, count_fits, length-append)
-
-pub chunks-preserved : goal.chunks-preserved
-chunks-preserved c =
-    let before = c.chunks.invariant in
-    let s = c.in_ok-feed.ensures in
-    let form = s.fed.form ∙ before.form in
-    let split = c.split_chunk.ensures in
-    let all = c.total-fed.ensures in
-    record {
-      decoder = s.decoder ∙ before.decoder;
-      settings = (
-        s.settings.0 ∙ before.settings.0,
-        s.settings.1 ∙ before.settings.1,
-        s.settings.2 ∙ before.settings.2,
-      );
-      form = form;
-      start = s.fed.start ∙ before.start;
-      released = s.fed.released ∙ before.released;
-      accepted = s.fed.ok.1;
-      joined =
-          fed_more _ _ _ _ _ _ _ split.chunk split.after (s.fed.bytes (rw before.form refl))
-          before.joined;
-      faultless = rw (before.start, form) at s.fed.faultless;
-      counted =
-          all.consumed
-          ∙ (ap (λ n. n + c.in_ok-feed.field-0.consumed) before.counted
-          ∙ (rw (before.form, form) at s.fed.consumed));
-      known = all.status ∙ (rw form at s.fed.status);
-    }
-
-pub chunks-init : goal.chunks-init
-chunks-init c = grind arith

@@ -1,10 +1,7 @@
 use Rattle.std.proofs.{Common.{arith, Bor, List, ℕ}, lemmas.Bool.Decides.nat_tests}
 use Rattle.sixel.proofs.{DcsSequences.{no_bytes, some_bytes}, ImageSequences.Serves-led}
-use Rattle.sixel.proofs.ImageSequences.{leads_first, leads_last, leads_more, rest_smaller}
+use Rattle.sixel.proofs.ImageSequences.{leads_last, leads_more, rest_smaller}
 use Rattle.sixel.proofs.sequences.write_sequences.Goals as goal
-
-pub sequences-init : goal.sequences-init
-sequences-init g c = leads_first _ _ _ _ (grind (arith, nat_tests))
 
 pub sequences-smaller : goal.sequences-smaller
 sequences-smaller g c = grind (arith, nat_tests, rest_smaller, some_bytes)
