@@ -1,18 +1,17 @@
 -- What the run-length tokens of a row do to the place, the colors and the pixels.
 use Rattle.std.specs.Prelude.{All, flat_map}
-use Rattle.std.proofs.Common.{decimal, List, ap, arith, cond, get_or, length, length-append}
-use Rattle.std.proofs.Common.{replicate, subst, ℕ, ◌++◌, ◌+◌, ◌<◌, ◌∷◌, ◌≡◌, ◌≤◌, []}
-use Rattle.std.proofs.lemmas.{Bool.Decides.nat_tests, List.{length-replicate, get_or_append_left}}
-use Rattle.std.proofs.lemmas.List.{get_or-append-add, get_or-replicate}
-use Rattle.sixel_base.specs.{Fields.field, History.{History, Repeat, Sixel}, Limits.repeat_limit}
-use Rattle.sixel_base.specs.{Place.{across, down, span}, Stroke.{Origin, color, pixel, ratio}}
-use Rattle.sixel_base.specs.Stroke.{registers, selected}
-use Rattle.sixel_base.specs.declared.settings.PixelAspectRatio.{PixelAspectRatio}
+use Rattle.std.proofs.Common.{decimal, List, ap, arith, cond, get_or, length, length-append, subst}
+use Rattle.std.proofs.{Common.{ℕ, ◌++◌, ◌+◌, ◌<◌, ◌∷◌, ◌≡◌, ◌≤◌, []}, lemmas.Bool.Decides.nat_tests}
+use Rattle.std.proofs.lemmas.List.{length-replicate, get_or_append_left, get_or-append-add}
+use Rattle.std.proofs.lemmas.List.{get_or-replicate}
+use Rattle.sixel_base.specs.{Fields.field, History.History, Limits.repeat_limit, Place.across}
+use Rattle.sixel_base.specs.{Place.{down, span}, Stroke.{Origin, color, pixel, ratio, registers}}
+use Rattle.sixel_base.specs.{Stroke.selected, declared.settings.PixelAspectRatio.PixelAspectRatio}
 use Rattle.sixel_encoder.specs.{Marks.is_lit, RunTokens.{Many, One, RunToken, row_tokens, sixels}}
-use Rattle.sixel_encoder.proofs.round_trip.{Digits.fields-numbers, TextHistory.AreSound}
+use Rattle.sixel_encoder.proofs.{band_rows.EntryRows.is_lit-past, band_rows.ShortestRows.spells}
+use Rattle.sixel_encoder.proofs.{round_trip.Digits.fields-numbers, round_trip.TextHistory.AreSound}
 use Rattle.sixel_encoder.proofs.round_trip.TextHistory.{AreSound-row, IsSound}
 use Rattle.sixel_encoder.proofs.round_trip.Tokens.{with_run_token, with_run_tokens}
-use Rattle.sixel_encoder.proofs.band_rows.{EntryRows.is_lit-past, ShortestRows.spells}
 
 -- a history has gone on by a row of sixels, drawn in the color that was selected
 pub record Moved (row : List ℕ) (old new : History) : Type 0 where
@@ -31,18 +30,13 @@ pub record Moved (row : List ℕ) (old new : History) : Type 0 where
 pub field-decimal : (n : ℕ) → n ≤ repeat_limit → field (decimal n) 0 ≡ n
 field-decimal n h = ap (λ ns. get_or ns 0 0) (fields-numbers n [] (omega arith) tt)
 
--- a sixel that is repeated
-Moved-many : (count bits : ℕ) (h : History) → 1 ≤ count → count ≤ repeat_limit
-    → Moved (replicate count bits) h (Sixel bits ∷ Repeat (decimal count) ∷ h)
-Moved-many count bits h low high =
-    grind (arith, nat_tests, length-replicate, field-decimal, get_or-replicate, is_lit-past)
-
 -- a run-length token
 pub Moved-run_token : (token : RunToken) (h : History) → IsSound token → span h ≡ 1
     → Moved (sixels token) h (with_run_token token h)
 unfolding sixels
 Moved-run_token (One bits) h is one = grind (arith, nat_tests)
-Moved-run_token (Many count bits) h is one = Moved-many count bits h is.1 is.2
+Moved-run_token (Many count bits) h is one =
+    grind (arith, nat_tests, length-replicate, field-decimal, get_or-replicate, is_lit-past)
 
 -- a row and another behind it
 Moved-more : (a b : List ℕ) (old mid new : History) → Moved a old mid → Moved b mid new

@@ -65,17 +65,13 @@ AreSound-row row all = grind (arith, nat_tests, spells row, AreSound-spelled, Al
 
 -- ---- each token may stand where it stands
 
--- a run-length token may follow any token
-AreTokens-run_token : (token : RunToken) (h : History) → IsSound token → AreTokens h
-    → AreTokens (with_run_token token h)
-AreTokens-run_token token h is are = grind (arith, nat_tests, token-more, all_digits-decimal)
-
--- so may run-length tokens
+-- run-length tokens may follow any token
 AreTokens-run_tokens : (tokens : List RunToken) (h : History) → AreSound tokens → AreTokens h
     → AreTokens (with_run_tokens tokens h)
 AreTokens-run_tokens [] h is are = are
 AreTokens-run_tokens (token ∷ tokens) h is are =
-    AreTokens-run_tokens tokens (with_run_token token h) is.1 (AreTokens-run_token token h is.0 are)
+    AreTokens-run_tokens tokens (with_run_token token h) is.1
+    (grind (arith, nat_tests, token-more, all_digits-decimal, is.0))
 
 -- so may a mark
 AreTokens-mark : (drawing : Drawing) (pen : Pen) (mark : Mark) (h : History)

@@ -42,11 +42,6 @@ pub raster-shape : (drawing : Drawing) (other : PixelAspectRatio) → IsWritable
     → ratio other (raster_of drawing ∷ []) ≡ drawing.aspect_ratio
 raster-shape drawing other is = grind (arith, nat_tests, raster-fields)
 
--- the raster attributes of a drawing are within its sizes
-pub Fits-raster : (drawing : Drawing) → IsWritable drawing
-    → Fits whole_limit drawing.width (6 * bands drawing.height) (raster_of drawing ∷ [])
-Fits-raster drawing is = grind (arith, covered, mul-le, raster-field3, raster-fields)
-
 -- the fields of a definition
 defines : (entry : ℕ) (color : List ℕ) → entry < 256 → IsColor color
     → fields (numbers entry (percentages color)) ≡ entry ∷ percentages color
@@ -136,7 +131,8 @@ module _ (drawing : Drawing) where
     shape = λ other.
         undefined definitions (ratio other) (raster_of drawing ∷ []) (λ d g. refl)
         ∙ raster-shape drawing other is;
-    fits = Fits-definitions definitions (raster_of drawing ∷ []) (Fits-raster drawing is);
+    fits = Fits-definitions definitions (raster_of drawing ∷ [])
+        (grind (arith, covered, mul-le, raster-field3, raster-fields));
   }
 
   -- nothing is drawn yet

@@ -59,12 +59,6 @@ length-default_registers : length default_registers ≡ 256
 unfolding default_registers
 length-default_registers = length-map-range_with_len default_color 0 256
 
--- so a decoder with the registers of a new one can read the text
-IsOrigin-new : (decoder : DecoderState) (drawing : Drawing)
-    → decoder.registers ≡ default_registers → decoder.pixel_limit.transparent ≡ false
-    → IsOrigin drawing (origin_of decoder (drawing_settings drawing))
-IsOrigin-new decoder drawing new painted = grind (arith, length-default_registers, first_register)
-
 module _ (drawing : Drawing) (definitions : List Definition) (marks : List Mark) where
   -- after the last mark
   Follows-tokens : (first : ℕ) (start : List (List ℕ)) → IsWritable drawing
@@ -105,8 +99,10 @@ module _ (drawing : Drawing) (definitions : List Definition) (marks : List Mark)
   payload-trip decoder rest is draws can =
       let text = marks_payload drawing definitions marks ++ 27 ∷ rest in
       let whole = effective-off decoder.pixel_limit (history_of (front text)) can.strict in
-      rw (whole, payload-read drawing definitions marks is draws rest) (image-tokens _ is draws
-      (IsOrigin-new decoder drawing can.registers can.painted) can.columns can.rows)
+      rw (whole, payload-read drawing definitions marks is draws rest) (image-tokens
+      (origin_of decoder (drawing_settings drawing)) is draws
+      (grind (arith, length-default_registers, first_register, can.registers, can.painted))
+      can.columns can.rows)
 
   -- and leaves a register that is defined the color of its entry
   pub payload-register :
