@@ -1,6 +1,6 @@
 -- What a handle and its pointer are when the borrow of the state that they lent ends.
-use Rattle.std.specs.{Borrow.{Lends, LendsIf, MutBor, Fml}, Prelude.{◌≡◌, Option, Some, None, is_some}}
-use Rattle.std.specs.Prelude.{nat_lt}
+use Rattle.std.specs.{Borrow.{Lends, LendsIf, MutBor, Fml}, Prelude.{◌≡◌, Option, Some, None}}
+use Rattle.std.specs.Prelude.{is_some, nat_lt}
 use Rattle.icysixel.specs.declared.{handle.Handle.Handle, state.State.State}
 use Rattle.icysixel.specs.declared.state_pointer.StatePointer.{StatePointer}
 use Rattle.icysixel.specs.contracts.state_pointer.StatePointer as pointer

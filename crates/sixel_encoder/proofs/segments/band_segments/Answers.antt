@@ -75,15 +75,17 @@ loop-bit-preserved c =
     let lb : c.loop-bit.bit < 6 = omega (arith, c.loop-bit-test.true, c.loop-bit.auto.bit-end) in
     elim c.if-lane-above.branch [
       | then-lane-above+then-lane-ne-TRANSPARENT-2+in_ok-push_run-2 w ↦
-          let run = w.run_of-run-then-lane-ne-TRANSPARENT-2.result in
-          let new = w.push_run-then-lane-ne-TRANSPARENT-2.new in
+          let run = w.run_of-run-then-lane-ne-TRANSPARENT-2 in
+          let push = w.push_run-then-lane-ne-TRANSPARENT-2 in
+          let new = push.new in
           let at =
           opaque-lane entries column c.loop-bit.bit lane c.requires lc
           c.lane-lane-in-loop-bit.ensures w.if-lane-ne-TRANSPARENT-2.true in
           let made =
-          run-made run lane column (column + 1) w.run_of-run-then-lane-ne-TRANSPARENT-2.ensures.entry
-          w.run_of-run-then-lane-ne-TRANSPARENT-2.ensures.first w.run_of-run-then-lane-ne-TRANSPARENT-2.ensures.end in
-          let items : c.if-lane-above.segments.items ≡ new.segments.items = grind (arith, nat_tests) in
+          run-made run.result lane column (column + 1) run.ensures.entry run.ensures.first
+          run.ensures.end in
+          let items : c.if-lane-above.segments.items ≡ new.segments.items =
+          grind (arith, nat_tests) in
           let pushed : new.segments.items ≡ with_pixel gap column lane was =
           grind (arith, nat_tests, run-pixel, w.in_ok-push_run-2.ensures.segments) in
           record {
@@ -91,10 +93,11 @@ loop-bit-preserved c =
                 items
                 ∙ segment-pixel _ _ _ _ _ lb is.segments _ _ _ c.gap_of-gap.ensures at.0 pushed;
             last = rw (items, w.last-is) (grind (arith, nat_tests, AreLast-later));
-            size = ap length w.last-is ∙ (w.push_run-then-lane-ne-TRANSPARENT-2.ensures.size ∙ is.size);
+            size = ap length w.last-is ∙ (push.ensures.size ∙ is.size);
             above = λ l. rw (items, pushed) (with_pixel-twice gap column lane was);
           }
-      | else-lane-above w ↦ grind (arith, segment-skip, transparent-lane, opaque-lane, segment-pixel)
+      | else-lane-above w ↦
+          grind (arith, segment-skip, transparent-lane, opaque-lane, segment-pixel)
     ]
 
 pub returns : goal.returns
