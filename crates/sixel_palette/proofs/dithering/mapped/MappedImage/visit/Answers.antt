@@ -1,5 +1,4 @@
 use Rattle.std.proofs.Common.{ap, refl, sym, subst, ◌∙◌, arith, length, length-set}
-use Rattle.std.proofs.lemmas.Result.{err_from_is_err_and}
 use Rattle.std.specs.Prelude.{◌+◌, ◌*◌, ◌<◌}
 use Rattle.sixel_palette.specs.{Dithering.{IsIndex, neighbor_of}, inside.Diffusion.channels}
 use Rattle.sixel_palette.specs.{inside.Mapped.mapped_value, declared.dithering.mapped.Kept.Kept}
