@@ -58,7 +58,8 @@ module _ (colors : List (List ℕ)) (pixels : List ℕ) where
       let part = sum_to-part number (pixel + 1) (length pixels / 4) (omega arith) in
       let more = sum_to-more number pixel in
       let own = number-light (nearest colors) pixels pixel light in
-      Contains-nearest colors (color_at pixels pixel) three refl (omega (arith, none, part, more, own))
+      Contains-nearest colors (color_at pixels pixel) three refl
+      (omega (arith, none, part, more, own))
 
   -- as one has whose automatic tolerance is 0
   pub error-none : (strength : ℕ) → tolerance_of (Diffusion strength) Auto colors pixels ≡ 0
