@@ -32,9 +32,7 @@ pub fn indices_of(
     let mut index = 0;
     for four in 0..count / 4 {
         if are_four_of(pixels, 4 * four, last) {
-            for equal in 4 * four..4 * four + 4 {
-                indices[equal] = index;
-            }
+            indices[4 * four..4 * four + 4].fill(index);
         } else {
             let words = four_words(pixels, 4 * four);
             for lane in 0..4 {

@@ -9,12 +9,6 @@ invariant-loop-four l = record {
   last : IsIndexOf l.colors.codes.items l.color_indices l.last l.index;
 }
 
-abbrev pub invariant-loop-equal : goal.invariant-loop-equal
-invariant-loop-equal l = record {
-  size : length l.indices.items ≡ length l.pixels / 4;
-  each : AreIndicesTo l.pixels l.colors.codes.items l.color_indices l.equal l.indices.items;
-}
-
 abbrev pub invariant-loop-lane : goal.invariant-loop-lane
 invariant-loop-lane l = record {
   size : length l.indices.items ≡ length l.pixels / 4;
