@@ -138,7 +138,7 @@ typedef struct {
 /* The different colors of opaque pixels. */
 typedef struct {
     uint16_t count;    /* how many there are, where 257 means more than 256 */
-    uint8_t are_exact; /* 1 if each channel of each is the byte of a whole percentage, else 0 */
+    uint8_t are_exact; /* 1 if every channel is a whole percentage, rounded to a byte; else 0 */
 } icysixel_distinct;
 
 /* How each pixel gets an entry of the palette. Zeros mean the nearest entry. An amount of 0 means
@@ -331,10 +331,10 @@ uint8_t icysixel_in_payload(const icysixel *handle);
 uint32_t icysixel_get_size_so_far(const icysixel *handle, icysixel_size *size);
 
 /* Returns the last row of the open image with a set pixel, plus one. It is 0 if there is none, if
- * no image is open, and after an error. The height of an image with sixels and without raster
- * attributes is a multiple of six, and this number can be less. Pixels outside of the clip count,
- * too, but the number is at most the clip's height. In the shape of the finished image
- * `drawn_height` is this number, but at most the height. It does not allocate. */
+ * no image is open, and after an error. The size so far grows by whole bands of six rows, so its
+ * height can be greater than this number. Pixels outside of the clip count, too, but the number is
+ * at most the clip's height. In the shape of the finished image `drawn_height` is this number, but
+ * at most the height. It does not allocate. */
 size_t icysixel_get_drawn_height(const icysixel *handle);
 
 /* Returns how many rows from the top of the open image are final. No byte that follows changes a
@@ -392,7 +392,7 @@ uint32_t icysixel_decode_payload(icysixel *handle, const uint8_t *bytes, size_t 
 
 /* -- The stored image -- */
 
-/* Copies `rows` rows of the stored image from row `first` on to `buf`. The first of them starts at
+/* Copies `rows` rows of the stored image to `buf`, starting with row `first`. That row starts at
  * buf[0]. Bytes between rows are unchanged. The image stays stored, so rows can be copied more than
  * once. With a zeroed layout all columns are copied, in RGBA and without gaps. Columns on the
  * right of the image are transparent. It does not allocate. The errors, in this order, are:
@@ -432,7 +432,7 @@ uint32_t icysixel_get_register(const icysixel *handle, uint8_t number, icysixel_
 void icysixel_set_register(icysixel *handle, uint8_t number, uint8_t red, uint8_t green,
                            uint8_t blue);
 
-/* Writes the colors of the registers from `first` on to `colors`, which has `count` of them. It
+/* Writes the colors of up to `count` registers to `colors`, starting with register `first`. It
  * stops after register 255. icysixel_get_registers(&handle, 0, colors, 256) writes all. */
 uint32_t icysixel_get_registers(const icysixel *handle, uint8_t first, icysixel_color *colors,
                                 size_t count);
@@ -485,10 +485,10 @@ void icysixel_set_transparent(icysixel *handle, uint8_t on);
 /* Returns the register in which an image draws until it selects one. */
 uint8_t icysixel_get_first_register(const icysixel *handle);
 
-/* Sets the register in which images that are begun or decoded afterwards draw until they select
- * one. It is 0 in a new decoder. Register 0 is also the background of opaque images, so an image
- * that selects no register is invisible in it. foot and libsixel begin with register 15, xterm
- * with 3. */
+/* Sets the register in which an image draws until it selects one, for images that are begun or
+ * decoded afterwards. It is 0 in a new decoder. Register 0 is also the background of opaque images,
+ * so an image that selects no register is invisible in it. foot and libsixel begin with register
+ * 15, xterm with 3. */
 void icysixel_set_first_register(icysixel *handle, uint8_t number);
 
 /* Returns how many pixels an image can have, or 0 if the handle is empty. */
@@ -529,9 +529,9 @@ void icysixel_set_clip(icysixel *handle, size_t width, size_t height);
  * Without diffusion a pixel has the cheapest of up to four entries: its nearest one, those of the
  * opaque pixels on the left and above in its band, and the nearest one of the opaque pixel on the
  * right. An entry costs twice its squared distance to the color of the pixel, which ordered
- * dithering has moved. For each of the columns on the left and on the right that lacks the entry
- * within the band, the tolerance is added. Nothing is added if the pixel above in the band has the
- * entry. So runs are longer, and the output is shorter.
+ * dithering has moved. The tolerance is added for each of the two adjacent columns that does not
+ * contain the entry in this band. Nothing is added if the pixel above in the band has the entry. So
+ * runs are longer, and the output is shorter.
  *
  * The errors, in this order, are:
  *
@@ -635,9 +635,10 @@ uint32_t icysixel_palette_indices(const uint8_t *pixels, size_t length, size_t w
 
 /* -- Errors -- */
 
-/* Writes a description of a result code in English to `buf`, and a zero after it. If both do not
- * fit, it writes only a zero. Bytes after the zero are unchanged. Returns the length of the
- * description without the zero. Any other number is described as "unknown code". */
+/* Writes a description of a result code in English to `buf`, and a zero after it. If `size` is too
+ * small for both, it writes only the zero, and nothing if `size` is 0. Other bytes are unchanged.
+ * Returns the length of the description without the zero. Any other number is described as "unknown
+ * code". */
 size_t icysixel_strerror(uint32_t code, char *buf, size_t size);
 
 /* -- Version -- */
