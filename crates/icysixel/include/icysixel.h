@@ -236,8 +236,8 @@ enum icysixel_background {
 };
 
 /* A tolerance that depends on the mean squared error of the palette. If this error is 0, so is the
- * tolerance. Otherwise the error is taken as at least 12. Then the tolerance is this error with
- * diffusion, twice the error with the pattern, and three times the error without dithering. In a
+ * tolerance. Otherwise an error below 12 counts as 12. With diffusion the tolerance is this error.
+ * With ordered dithering it is twice the error, and without dithering three times the error. In a
  * palette of grays the error is that of the brightness. */
 #define ICYSIXEL_AUTO UINT32_MAX
 
