@@ -14,7 +14,6 @@ ghost use Rattle.sixel_decoder.specs.Progress.{IsBandPaintCount, IsBandWriteCoun
 ghost use Rattle.sixel_decoder.specs.Progress.{IsPaintCount, IsSizeSoFar, IsWriteCount};
 ghost use Rattle.sixel_decoder.specs.Reception.{OfPayload, of_payload};
 ghost use Rattle.sixel_decoder.specs.inside.PayloadReader.{IsLost, IsPainterOf};
-ghost use Rattle.sixel_decoder.specs.declared.payload_reader.PayloadState.TheVariants.{Failed};
 
 use crate::decoded_payload::DecodedPayload;
 use crate::image_end::payload_end;
@@ -35,30 +34,10 @@ use std::marker::Model;
 use std::result;
 use std::snapshot::Snapshot;
 
-/// How a payload is read: its parser, unless a feed has failed.
-#[derive(Drop)]
-pub enum PayloadState<C: Canvas + Drop> {
-    Reading(PayloadParser<C>),
-    Failed,
-}
-
-impl<C: Canvas + Drop> PayloadState<C> {
-    /// Drops the parser.
-    ///
-    /// Out of line: inlined, LLVM clears the moved value on every feed.
-    #[cold]
-    #[inline(never)]
-    fn fail(&mut self)
-        ensures { self.new ≡ Failed }
-    {
-        *self = PayloadState::Failed;
-    }
-}
-
 /// A payload that is read in chunks. It has no parser once a feed has failed.
 #[derive(Drop)]
 pub struct PayloadReader<C: Canvas + Drop> {
-    state: PayloadState<C>,
+    parser: Option<PayloadParser<C>>,
     terminator: Option<u8>,
     settings: DcsSettings,
     start: Snapshot<DecoderState>,
@@ -83,7 +62,7 @@ impl<C: Canvas + Drop> PayloadReader<C> {
         ensures { result ≡ begun (origin_of decoder settings) }
     {
         PayloadReader {
-            state: PayloadState::Reading(PayloadParser::new(alloc, decoder, settings)),
+            parser: Some(PayloadParser::new(alloc, decoder, settings)),
             terminator: None,
             settings,
             start: Snapshot::of(&decoder),
@@ -101,7 +80,7 @@ impl<C: Canvas + Drop> PayloadReader<C> {
             self.old.bytes self.new.bytes chunk.now failed.fed) }
     {
         self.log.extend(chunk);
-        let PayloadState::Reading(parser) = &mut self.state else {
+        let Some(parser) = &mut self.parser else {
             let error = SixelError::stream_failed();
             return Err(payload_end(&mut self.terminator, chunk, error));
         };
@@ -116,7 +95,7 @@ impl<C: Canvas + Drop> PayloadReader<C> {
                     Ok(fed)
                 }
                 Err(error) => {
-                    self.state.fail();
+                    drop_parser(&mut self.parser);
                     Err(payload_end(&mut self.terminator, chunk, error))
                 }
             },
@@ -131,7 +110,7 @@ impl<C: Canvas + Drop> PayloadReader<C> {
         ensures fed { IsTrue result → IsFed self.old self.new (byte ∷ []) byte_read }
         ensures left { result ≡ false → self.new ≡ self.old }
     {
-        let PayloadState::Reading(parser) = &mut self.state else {
+        let Some(parser) = &mut self.parser else {
             return false;
         };
         if self.terminator.is_some() || !parser.try_byte(byte) {
@@ -175,20 +154,17 @@ impl<C: Canvas + Drop> PayloadReader<C> {
         ensures accepted { self.now.is_refused ≡ false → result ≡ is_terminated self.now.bytes }
         ensures refused { self.now.is_refused ≡ true → result ≡ false }
     {
-        match &self.state {
-            PayloadState::Reading(_) => self.terminator.is_some(),
-            PayloadState::Failed => false,
-        }
+        self.parser.is_some() && self.terminator.is_some()
     }
 
     /// Returns the rows of the image that are left, and the registers after it.
     pub fn finish(self) -> Result<DecodedPayload>
         ensures { IsTaken (of_payload self) result }
     {
-        let PayloadReader { state, .. } = self;
-        match state {
-            PayloadState::Reading(parser) => parser.finish(),
-            PayloadState::Failed => Err(SixelError::stream_failed()),
+        let PayloadReader { parser, .. } = self;
+        match parser {
+            Some(parser) => parser.finish(),
+            None => Err(SixelError::stream_failed()),
         }
     }
 
@@ -198,9 +174,9 @@ impl<C: Canvas + Drop> PayloadReader<C> {
         ensures lent { IfSome result (λ painter. IsPainterOf painter.now self.now) }
         ensures lost { result ≡ None → IsLost self.now }
     {
-        match &self.state {
-            PayloadState::Reading(parser) => Some(&parser.painter),
-            PayloadState::Failed => None,
+        match &self.parser {
+            Some(parser) => Some(&parser.painter),
+            None => None,
         }
     }
 }
@@ -210,9 +186,9 @@ impl PayloadReader<RowCanvas> {
     pub fn stores_all_rows(&self)
         ensures { self.now.released ≡ 0 }
     {
-        match &self.state {
-            PayloadState::Reading(_) => {}
-            PayloadState::Failed => {}
+        match &self.parser {
+            Some(_) => {}
+            None => {}
         }
     }
 
@@ -294,9 +270,20 @@ impl PayloadReader<BandCanvas> {
         requires accepted { 0 < rows → self.old.is_refused ≡ false }
         ensures { self.new ≡ record self.old { released = max self.old.released rows } }
     {
-        let PayloadState::Reading(parser) = &mut self.state else {
+        let Some(parser) = &mut self.parser else {
             return;
         };
         parser.release_rows(rows);
     }
+}
+
+/// Drops the parser of a payload that failed.
+///
+/// Out of line: inlined, LLVM clears the moved value on every feed.
+#[cold]
+#[inline(never)]
+fn drop_parser<C: Canvas + Drop>(parser: &mut Option<PayloadParser<C>>)
+    ensures { parser.new ≡ None }
+{
+    *parser = None;
 }

@@ -17,9 +17,7 @@ use Rattle.sixel_decoder.specs.declared.payload_parser.OpenCommand.TheVariants.{
 use Rattle.sixel_decoder.specs.declared.payload_parser.PayloadParser.{PayloadParser}
 use Rattle.sixel_decoder.{specs.inside.Lenient.HasDrawn, specs.inside.PayloadParser.StandsIn}
 use Rattle.sixel_decoder.specs.inside.PayloadParser.{StandsAfter, Feeds}
-use Rattle.sixel_decoder.specs.inside.PayloadReader.{HasRead, GoesOn, parser_of}
-use Rattle.sixel_decoder.specs.declared.payload_reader.PayloadState.{PayloadState}
-use Rattle.sixel_decoder.specs.declared.payload_reader.PayloadState.TheVariants as states
+use Rattle.sixel_decoder.specs.inside.PayloadReader.{HasRead, GoesOn}
 
 -- ---- where no terminator has come yet
 
@@ -78,11 +76,11 @@ closed-ended (Newline ∷ h) ended = refl
 closed-ended (Skip _ ∷ h) ended = refl
 
 -- what a reader has read whose parser is this one
-pub reading_read : {C : Type 0} {canvas : Ghosts C} (state : PayloadState C canvas)
+pub reading_read : {C : Type 0} {canvas : Ghosts C} (found : Option (PayloadParser C canvas))
     (parser : PayloadParser C canvas) (o : Origin) (terminator : Option ℕ) (bytes : List ℕ)
-    → state ≡ states.Reading parser → HasRead (parser_of state) o terminator bytes
+    → found ≡ Some parser → HasRead found o terminator bytes
     → HasRead (Some parser) o terminator bytes
-reading_read state parser o terminator bytes is read = rw is at read
+reading_read found parser o terminator bytes is read = rw is at read
 
 -- what was drawn is what is closed
 stands_shown : {C : Type 0} {canvas : Ghosts C} (command : OpenCommand) (o : Origin)

@@ -11,15 +11,7 @@ use Rattle.sixel_canvas.specs.{Drawn.{Work, no_work}, declared.drawing.Canvas.Gh
 use Rattle.sixel_decoder.specs.{Session.Session, declared.painter.Painter.Painter}
 use Rattle.sixel_decoder.specs.declared.payload_parser.PayloadParser.{PayloadParser}
 use Rattle.sixel_decoder.specs.declared.payload_reader.PayloadReader.TheInside.{Inside}
-use Rattle.sixel_decoder.specs.declared.payload_reader.PayloadState.{PayloadState}
 use Rattle.sixel_decoder.specs.{inside.Painter.Shows, inside.PayloadParser.StandsAfter}
-use Rattle.sixel_decoder.specs.declared.payload_reader.PayloadState.TheVariants as states
-
--- the parser of a payload that was not rejected
-abbrev pub parser_of : {C : Type 0} {canvas : Ghosts C} → PayloadState C canvas
-    → Option (PayloadParser C canvas)
-parser_of (states.Reading parser) = Some parser
-parser_of states.Failed = None
 
 -- what the canvas has cost; after an error there is no canvas
 abbrev pub work_of : {C : Type 0} {canvas : Ghosts C} → Option (PayloadParser C canvas) → Work
@@ -35,11 +27,11 @@ abbrev pub session_of : {C : Type 0} {canvas : Ghosts C} → Inside C canvas →
 session_of reader = record {
   origin = origin_of reader.start.value reader.settings;
   bytes = reader.log;
-  is_refused = is_none (parser_of reader.state);
-  writes = (work_of (parser_of reader.state)).writes;
-  room = (work_of (parser_of reader.state)).room;
-  paints = (work_of (parser_of reader.state)).paints;
-  released = released_of (parser_of reader.state);
+  is_refused = is_none reader.parser;
+  writes = (work_of reader.parser).writes;
+  room = (work_of reader.parser).room;
+  paints = (work_of reader.parser).paints;
+  released = released_of reader.parser;
 }
 
 -- A parser without an error has read the bytes up to their first terminator, which is known after
@@ -53,7 +45,7 @@ HasRead (Some parser) origin terminator bytes =
 
 abbrev pub IsReading : {C : Type 0} {canvas : Ghosts C} → Inside C canvas → Type 0
 IsReading reader =
-    HasRead (parser_of reader.state) (session_of reader).origin reader.terminator reader.log
+    HasRead reader.parser (session_of reader).origin reader.terminator reader.log
 
 -- The painter of a session that was not rejected shows its closed tokens.
 pub record IsPainterOf {C : Type 0} {canvas : Ghosts C} (painter : Painter C canvas)

@@ -20,12 +20,12 @@ taken_by : (result : Result DecodedPayload SixelError) (s : Session) → s.is_re
 taken_by (Ok picture) s accepted first ends = grind (arith, nat_tests)
 taken_by (Err e) s accepted first ends = grind (arith, nat_tests, payload_ends, effective-fault)
 
-pub returns-in-Reading : goal.returns-in-Reading
-returns-in-Reading g c =
+pub returns-in-Some : goal.returns-in-Some
+returns-in-Some g c =
     let inside = c.self.inside in
     let o : Origin = (session_of inside).origin in
-    let read = reading_read _ _ o inside.terminator inside.log c.in-Reading.is c.self.invariant in
+    let read = reading_read _ _ o inside.terminator inside.log c.in-Some.is c.self.invariant in
     rw (← c.self.view_is)
-    (taken_by c.finish.result (session_of inside) (rw c.in-Reading.is refl)
-    (rw c.in-Reading.is c.finish.ensures.first)
+    (taken_by c.finish.result (session_of inside) (rw c.in-Some.is refl)
+    (rw c.in-Some.is c.finish.ensures.first)
     (c.finish.ensures.ends o _ (is_some inside.terminator) read.1))

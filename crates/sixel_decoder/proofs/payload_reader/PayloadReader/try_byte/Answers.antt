@@ -3,7 +3,7 @@ use Rattle.std.specs.Prelude.{is_none}
 use Rattle.sixel_base.specs.declared.status.SixelFeedStatus.TheVariants.{NeedMoreData}
 use Rattle.sixel_base.specs.Stroke.{Origin}
 use Rattle.sixel_decoder.specs.PayloadCalls.{byte_read}
-use Rattle.sixel_decoder.specs.inside.PayloadReader.{session_of, parser_of, GoesOn, HasRead}
+use Rattle.sixel_decoder.specs.inside.PayloadReader.{session_of, GoesOn, HasRead}
 use Rattle.sixel_decoder.proofs.chunks.{Feeds.{byte_goes_on, payload_fed}, Sessions.read_sound}
 use Rattle.sixel_decoder.proofs.chunks.Joined.{reading_read}
 use Rattle.sixel_decoder.proofs.payload_reader.PayloadReader.try_byte.Given.{Over}
@@ -19,8 +19,8 @@ went_on g c =
     let inside = c.self.inside in
     let origin : Origin = (session_of inside).origin in
     let bytes : List ℕ = inside.log in
-    let read = reading_read _ _ origin inside.terminator bytes c.in-Reading.is c.self.invariant in
-    byte_goes_on origin c.in-Reading.parser c.try_byte.new.self inside.terminator bytes c.args.byte
+    let read = reading_read _ _ origin inside.terminator bytes c.in-Some.is c.self.invariant in
+    byte_goes_on origin c.in-Some.parser c.try_byte.new.self inside.terminator bytes c.args.byte
     (sym c.is_some.ensures ∙ c.if-is_some.false) read
     (c.try_byte.ensures.printable c.if-not-try_byte.false)
     (c.try_byte.ensures.stands c.if-not-try_byte.false origin)
@@ -33,12 +33,12 @@ returns-clause-fed g c = λ told.
     let inside = c.self.inside in
     let origin : Origin = (session_of inside).origin in
     let goes = (went_on g c).0 in
-    let was : is_none (parser_of inside.state) ≡ false = rw c.in-Reading.is refl in
+    let was : is_none inside.parser ≡ false = rw c.in-Some.is refl in
     let sound =
-    read_sound (parser_of inside.state) origin inside.terminator inside.log
+    read_sound inside.parser origin inside.terminator inside.log
     c.self.invariant was in
     rw (← c.self.view_is)
     (payload_fed (session_of inside) _ (c.args.byte ∷ [])
     (record { consumed = 1; status = NeedMoreData }) was refl refl
-    (rw c.in-Reading.is c.try_byte.ensures.released) c.push.ensures sound
+    (rw c.in-Some.is c.try_byte.ensures.released) c.push.ensures sound
     (goes.0, goes.1, goes.3))
