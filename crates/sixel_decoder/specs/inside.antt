@@ -6,7 +6,7 @@ pub mod Lenient
 pub mod PayloadParser
 pub mod PayloadReader
 pub mod Header
-pub mod DcsParser
+pub mod DcsState
 pub mod DcsReader
 pub mod Ready
 pub mod Runs

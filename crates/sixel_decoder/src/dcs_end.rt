@@ -4,7 +4,7 @@ ghost use Rattle.std.specs.Prelude.{◌≡◌, ◌+◌, ◌≤◌, ◌++◌, Lis
 ghost use Rattle.sixel_base.specs.{Bytes.{count, first_terminator}, Dcs.{end_count, end_status}};
 ghost use Rattle.sixel_base.specs.Dcs.{ended_with, escape_count, escape_status};
 ghost use Rattle.sixel_base.specs.declared.status.SixelDcsFeedStatus.TheVariants.{NeedMoreData};
-ghost use Rattle.sixel_decoder.specs.inside.DcsParser.{GoesTo};
+ghost use Rattle.sixel_decoder.specs.inside.DcsState.{GoesTo};
 
 use sixel_base::status::{SixelDcsFeedResult, SixelDcsFeedStatus};
 

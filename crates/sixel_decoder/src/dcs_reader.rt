@@ -1,23 +1,23 @@
-//! The reader of a DCS sequence in chunks: the bytes so far, and their parser.
+//! The reader of a DCS sequence in chunks.
 //!
 //! The contracts of its calls are the records of `DcsCalls`.
 
 ghost use Rattle.std.specs.Prelude.{◌≡◌, ◌≤◌, ◌<◌, ◌∷◌, [], true, false, max, None, IsTrue, IfErr};
 ghost use Rattle.std.specs.Prelude.{IfSome};
-ghost use Rattle.sixel_base.specs.Dcs.{dcs_status, has_ended};
+ghost use Rattle.sixel_base.specs.Dcs.{dcs_status, has_come, has_ended};
 ghost use Rattle.sixel_decoder.specs.{DcsCalls.{begun, byte_read, IsFed}, FedImages.uncounted};
 ghost use Rattle.sixel_decoder.specs.{FinalRows.dcs_final_rows, FinishedImages.IsTaken};
 ghost use Rattle.sixel_decoder.specs.{ImageEnds.Extends, Reception.{of_sequence, HasNoPayload}};
 ghost use Rattle.sixel_decoder.specs.Reception.{IsPayloadOf, OfString};
 
-use crate::dcs_parser::{DcsParser, DcsState};
+use crate::dcs_state::DcsState;
 use crate::decoded_payload::DecodedPayload;
 use crate::image_end::sequence_end;
 use crate::payload_reader::PayloadReader;
 use crate::received::FailedRead;
 use sixel_base::ghost_list::GhostList;
 use sixel_base::state::DecoderState;
-use sixel_base::status::SixelDcsFeedResult;
+use sixel_base::status::{SixelDcsFeedResult, SixelDcsFeedStatus};
 use sixel_base::{Result, SixelError};
 use sixel_canvas::band_canvas::BandCanvas;
 use sixel_canvas::drawing::Canvas;
@@ -26,9 +26,14 @@ use std::marker::Model;
 use std::result;
 
 /// A DCS sequence that is read in chunks.
+///
+/// It has the decoder that its payload begins from, and how the sequence has ended, if it has.
 #[derive(Drop)]
 pub struct DcsReader<C: Canvas + Drop> {
-    parser: DcsParser<C>,
+    state: DcsState<C>,
+    ended: Option<SixelDcsFeedStatus>,
+    alloc: Global,
+    decoder: DecoderState,
     log: GhostList<u8>,
 }
 
@@ -50,7 +55,10 @@ impl<C: Canvas + Drop> DcsReader<C> {
         ensures { result ≡ begun decoder }
     {
         DcsReader {
-            parser: DcsParser::new(alloc, decoder),
+            state: DcsState::Start,
+            ended: None,
+            alloc,
+            decoder,
             log: GhostList::new(),
         }
     }
@@ -61,13 +69,16 @@ impl<C: Canvas + Drop> DcsReader<C> {
         ensures counted { IfErr result (λ failed.
             Extends OfString self.old.bytes self.new.bytes chunk.now failed.fed) }
     {
-        let is_begun = self.parser.state.is_begun();
+        let is_begun = self.state.is_begun();
         self.log.extend(chunk);
-        match self.parser.feed(chunk) {
+        match self
+            .state
+            .feed(self.alloc, &self.decoder, &mut self.ended, chunk)
+        {
             Ok(fed) => Ok(fed),
             Err(error) => {
-                self.parser.state.fail();
-                Err(sequence_end(is_begun, &mut self.parser.ended, chunk, error))
+                self.state.fail();
+                Err(sequence_end(is_begun, &mut self.ended, chunk, error))
             }
         }
     }
@@ -81,7 +92,7 @@ impl<C: Canvas + Drop> DcsReader<C> {
         ensures fed { IsTrue result → IsFed self.old self.new (byte ∷ []) byte_read }
         ensures left { result ≡ false → self.new ≡ self.old }
     {
-        let DcsState::Payload(reader) = &mut self.parser.state else {
+        let DcsState::Payload(reader) = &mut self.state else {
             return false;
         };
         if !reader.try_byte(byte) {
@@ -97,7 +108,7 @@ impl<C: Canvas + Drop> DcsReader<C> {
             IsPayloadOf reader.now (of_sequence self.now)) }
         ensures none { result ≡ None → HasNoPayload (of_sequence self.now) }
     {
-        match &self.parser.state {
+        match &self.state {
             DcsState::Payload(reader) => Some(reader),
             _ => None,
         }
@@ -109,8 +120,8 @@ impl<C: Canvas + Drop> DcsReader<C> {
             → result ≡ has_ended (dcs_status self.now.bytes) }
         ensures refused { self.now.is_refused ≡ true → result ≡ false }
     {
-        match &self.parser.state {
-            DcsState::Payload(_) => self.parser.has_ended(),
+        match &self.state {
+            DcsState::Payload(_) => has_come(self.ended),
             _ => false,
         }
     }
@@ -121,13 +132,16 @@ impl<C: Canvas + Drop> DcsReader<C> {
     pub fn finish(self) -> Result<DecodedPayload>
         ensures { IsTaken (of_sequence self) result }
     {
-        let DcsReader { parser, .. } = self;
-        let can_finish = parser.can_finish();
-        let DcsParser { state, .. } = parser;
+        let DcsReader {
+            state,
+            ended,
+            decoder,
+            ..
+        } = self;
         match state {
             DcsState::Failed => Err(SixelError::dcs_stream_failed()),
             DcsState::Payload(reader) => {
-                if can_finish {
+                if has_come(ended) || decoder.pixel_limit.lenient() {
                     reader.finish()
                 } else {
                     Err(SixelError::incomplete())
@@ -147,9 +161,16 @@ impl DcsReader<BandCanvas> {
         requires accepted { 0 < rows → self.old.is_refused ≡ false }
         ensures { self.new ≡ record self.old { released = max self.old.released rows } }
     {
-        let DcsState::Payload(reader) = &mut self.parser.state else {
+        let DcsState::Payload(reader) = &mut self.state else {
             return;
         };
         reader.release_rows(rows);
     }
+}
+
+/// Whether the end of a sequence has come, after which no byte is its own.
+fn has_come(ended: Option<SixelDcsFeedStatus>) -> bool
+    ensures { result ≡ has_come ended }
+{
+    !matches!(ended, None | Some(SixelDcsFeedStatus::NeedMoreData))
 }

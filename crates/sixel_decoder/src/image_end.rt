@@ -6,7 +6,7 @@ ghost use Rattle.std.specs.Prelude.{◌≡◌, ◌*◌, ◌+◌, ◌≤◌, ◌+
 ghost use Rattle.sixel_base.specs.{Bytes.{count, first_terminator}, Dcs.ended_with};
 ghost use Rattle.sixel_base.specs.{Settings.Settings, Status.status_of};
 ghost use Rattle.sixel_decoder.specs.{ImageEnds.{Extends, IsEnd, inside}, Reception.OfPayload};
-ghost use Rattle.sixel_decoder.specs.{Reception.OfString, inside.DcsParser.GoesTo};
+ghost use Rattle.sixel_decoder.specs.{Reception.OfString, inside.DcsState.GoesTo};
 
 use crate::bytes::is_terminator;
 use crate::dcs_end::{end_later, end_now};

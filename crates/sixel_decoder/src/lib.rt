@@ -6,8 +6,8 @@
 mod bytes;
 mod colors;
 mod dcs_end;
-mod dcs_parser;
 mod dcs_reader;
+mod dcs_state;
 mod decoded_payload;
 mod drawn_rows;
 mod front_sixels;

@@ -14,14 +14,14 @@ use Rattle.sixel_decoder.specs.{FedImages.of_payload_fed, Reception.{OfPayload, 
 use Rattle.sixel_decoder.specs.Session.{Session, decoder_of}
 use Rattle.sixel_decoder.specs.declared.payload_parser.PayloadParser.{PayloadParser}
 use Rattle.sixel_decoder.specs.declared.received.Status.TheVariants.{Payload}
-use Rattle.sixel_decoder.specs.inside.{DcsParser.{Follows, IsInPayload}, PayloadParser.Feeds}
+use Rattle.sixel_decoder.specs.inside.{DcsState.{Follows, IsInPayload}, PayloadParser.Feeds}
 use Rattle.sixel_decoder.specs.inside.{PayloadParser.Stands, PayloadReader.{GoesOn, HasRead}}
 use Rattle.sixel_decoder.specs.inside.Runs.{IsPrintable}
 use Rattle.sixel_decoder.proofs.chunks.{FedImages.image_fed, Joined.open_goes_on}
 use Rattle.sixel_decoder.proofs.dcs_sequences.{Chunks.payload_follows, Ends.{goes_open, waiting_by}}
 use Rattle.sixel_base.specs.declared.status.SixelFeedStatus.TheVariants as payload_status
 use Rattle.sixel_decoder.specs.PayloadCalls as payloads
-use Rattle.sixel_decoder.specs.declared.dcs_parser.DcsState.TheVariants as states
+use Rattle.sixel_decoder.specs.declared.dcs_state.DcsState.TheVariants as states
 
 -- ---- a payload
 

@@ -20,10 +20,10 @@ use Rattle.sixel_base.specs.{Dcs.{dcs_fault, dcs_growths, has_ended, IsSameStrin
 use Rattle.sixel_base.specs.{History.history_of, Limits.Limit, Payload.{fed_fault, settled}}
 use Rattle.sixel_base.specs.{Payload.growths, Stroke.Origin}
 use Rattle.sixel_canvas.specs.declared.drawing.Canvas.{Ghosts}
-use Rattle.sixel_decoder.specs.declared.dcs_parser.DcsState.{DcsState}
+use Rattle.sixel_decoder.specs.declared.dcs_state.DcsState.{DcsState}
 use Rattle.sixel_decoder.specs.declared.payload_parser.PayloadParser.{PayloadParser}
 use Rattle.sixel_base.proofs.ToleratedTokens.{effective-fault}
-use Rattle.sixel_decoder.specs.inside.DcsParser.{HasFollowed, is_failed}
+use Rattle.sixel_decoder.specs.inside.DcsState.{HasFollowed, is_failed}
 use Rattle.sixel_decoder.specs.inside.{PayloadParser.StandsAfter, PayloadReader.HasRead}
 use Rattle.sixel_decoder.proofs.chunks.Joined.{shown_after, before_terminator-whole}
 use Rattle.sixel_decoder.proofs.chunks.ParserSteps.{Faults-along}
@@ -33,7 +33,7 @@ use Rattle.sixel_decoder.proofs.dcs_sequences.Terminators.{drop-count, escape_wa
 use Rattle.sixel_decoder.proofs.images.Finality.{status_ended, fed_fault_stays, growths_stay}
 use Rattle.sixel_decoder.proofs.images.Finality.{dcs_count_ended, dcs_fault_ended, dcs_fault_stays}
 use Rattle.sixel_decoder.proofs.images.Finality.{dcs_growths_stay}
-use Rattle.sixel_decoder.specs.declared.dcs_parser.DcsState.TheVariants as states
+use Rattle.sixel_decoder.specs.declared.dcs_state.DcsState.TheVariants as states
 
 -- nothing is rejected without a fault or a failed allocation
 pub never_refused : (e : SixelError) (may : Bool) → may ≡ false → Faults e may None → ⊥

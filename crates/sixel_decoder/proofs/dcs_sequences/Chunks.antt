@@ -15,13 +15,13 @@ use Rattle.sixel_base.specs.{Stroke.Origin, declared.error.SixelError.SixelError
 use Rattle.sixel_base.specs.declared.state.DecoderState.{DecoderState}
 use Rattle.sixel_base.specs.declared.status.SixelDcsFeedStatus.{SixelDcsFeedStatus}
 use Rattle.sixel_base.specs.declared.status.SixelDcsFeedStatus.TheVariants.{NeedMoreData}
-use Rattle.sixel_decoder.specs.{Session.Session, declared.dcs_parser.DcsState.DcsState}
-use Rattle.sixel_decoder.specs.inside.DcsParser.{IsInPayload, HasFollowed, is_head, is_failed}
-use Rattle.sixel_decoder.specs.inside.DcsParser.{IsStageFault, GoesTo, Follows}
+use Rattle.sixel_decoder.specs.{Session.Session, declared.dcs_state.DcsState.DcsState}
+use Rattle.sixel_decoder.specs.inside.DcsState.{IsInPayload, HasFollowed, is_head, is_failed}
+use Rattle.sixel_decoder.specs.inside.DcsState.{IsStageFault, GoesTo, Follows}
 use Rattle.sixel_decoder.proofs.chunks.Joined.{before_terminator-whole}
 use Rattle.sixel_decoder.proofs.{chunks.ParserSteps.Faults-along, dcs_sequences.Ends.count_open}
 use Rattle.sixel_decoder.proofs.dcs_sequences.Terminators.{stage_reading}
-use Rattle.sixel_decoder.specs.declared.dcs_parser.DcsState.TheVariants as states
+use Rattle.sixel_decoder.specs.declared.dcs_state.DcsState.TheVariants as states
 
 -- ---- in a payload
 

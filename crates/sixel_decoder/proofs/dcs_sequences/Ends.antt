@@ -13,7 +13,7 @@ use Rattle.sixel_decoder.proofs.chunks.Joined.{first_terminator-ended, before_te
 use Rattle.sixel_decoder.proofs.dcs_sequences.Terminators.{after_terminator-none}
 use Rattle.sixel_decoder.proofs.dcs_sequences.Terminators.{after_terminator-some, drop-count}
 use Rattle.sixel_decoder.proofs.dcs_sequences.Terminators.{escape_waits, end_stays}
-use Rattle.sixel_decoder.specs.inside.DcsParser.{GoesTo}
+use Rattle.sixel_decoder.specs.inside.DcsState.{GoesTo}
 use Rattle.sixel_base.specs.declared.status.SixelFeedStatus.TheVariants as fed
 
 -- a payload has at most all bytes

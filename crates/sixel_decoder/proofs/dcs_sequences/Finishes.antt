@@ -15,7 +15,7 @@ use Rattle.sixel_decoder.specs.FinishedImages.{IsFinished, IsTaken, found_follow
 use Rattle.sixel_decoder.specs.Reception.{Form, IsPayloadOf, OfPayload, OfString, Reception, found}
 use Rattle.sixel_decoder.{specs.Reception.of_payload, specs.Session.{Session, decoder_of}}
 use Rattle.sixel_decoder.specs.declared.decoded_payload.DecodedPayload.{DecodedPayload}
-use Rattle.sixel_decoder.specs.inside.DcsParser.{IsInPayload}
+use Rattle.sixel_decoder.specs.inside.DcsState.{IsInPayload}
 use Rattle.sixel_base.specs.OneShot as one_shot
 
 has_come-ended : (o : Option ℕ) (rest : List ℕ)

@@ -6,7 +6,7 @@ use Rattle.sixel_base.specs.{Bytes.carrying, Dcs.{Entered, introduced, Stage, Re
 use Rattle.sixel_base.specs.{Dcs.stage, Fault.IsFault, Header.{headed_by, is_header, header_front}}
 use Rattle.sixel_base.specs.Header.{header_rest, header_text, settings_of, command_fault}
 use Rattle.sixel_base.specs.{declared.error.SixelError.SixelError, inside.Parameters.Keeps}
-use Rattle.sixel_decoder.specs.inside.DcsParser.{IsInHeader, IsStageFault}
+use Rattle.sixel_decoder.specs.inside.DcsState.{IsInHeader, IsStageFault}
 use Rattle.sixel_decoder.proofs.chunks.Joined.{carrying-append}
 use Rattle.sixel_decoder.specs.declared.header.Header as headers
 

@@ -11,7 +11,7 @@ use Rattle.sixel_base.{specs.Settings.Settings, specs.declared.error.SixelError.
 use Rattle.sixel_base.specs.declared.status.SixelDcsFeedStatus.TheVariants.{NeedMoreData}
 use Rattle.sixel_decoder.proofs.dcs_sequences.Headers.{introduced-entered, header_rest-ended}
 use Rattle.sixel_decoder.proofs.dcs_sequences.Headers.{header_front-ended}
-use Rattle.sixel_decoder.specs.inside.DcsParser.{IsStageFault}
+use Rattle.sixel_decoder.specs.inside.DcsState.{IsStageFault}
 
 pub after_terminator-none : (bytes more : List ℕ) → first_terminator bytes ≡ None
     → after_terminator (bytes ++ more) ≡ after_terminator more

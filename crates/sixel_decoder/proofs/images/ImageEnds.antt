@@ -16,16 +16,16 @@ use Rattle.sixel_base.specs.declared.status.SixelDcsFeedResult.{SixelDcsFeedResu
 use Rattle.sixel_base.specs.declared.status.SixelDcsFeedStatus.{SixelDcsFeedStatus}
 use Rattle.sixel_base.specs.declared.status.SixelDcsFeedStatus.TheVariants.{NeedMoreData}
 use Rattle.sixel_decoder.specs.ImageEnds.{Extends, IsEnd, inside, sequence_count, sequence_status}
-use Rattle.sixel_decoder.specs.{Reception.OfString, declared.dcs_parser.DcsState.DcsState}
-use Rattle.sixel_decoder.specs.{declared.received.Status.TheVariants.Dcs, inside.DcsParser.GoesTo}
-use Rattle.sixel_decoder.specs.inside.DcsParser.{HasFollowed, is_begun, is_failed, is_head}
+use Rattle.sixel_decoder.specs.{Reception.OfString, declared.dcs_state.DcsState.DcsState}
+use Rattle.sixel_decoder.specs.{declared.received.Status.TheVariants.Dcs, inside.DcsState.GoesTo}
+use Rattle.sixel_decoder.specs.inside.DcsState.{HasFollowed, is_begun, is_failed, is_head}
 use Rattle.sixel_decoder.proofs.chunks.Joined.{count-append, first_terminator-append}
 use Rattle.sixel_decoder.proofs.{chunks.Joined.first_terminator-ended, dcs_sequences.Chunks.heading}
 use Rattle.sixel_decoder.proofs.dcs_sequences.{Chunks.reading_fits, Ends.{ended_at, goes_open}}
 use Rattle.sixel_decoder.proofs.dcs_sequences.Ends.{terminator_same}
 use Rattle.sixel_decoder.proofs.dcs_sequences.Ends.{goes_later, some_by}
 use Rattle.sixel_decoder.proofs.{images.Finality.count_ended, chunks.Sessions.dcs_count-most}
-use Rattle.sixel_decoder.specs.declared.dcs_parser.DcsState.TheVariants as states
+use Rattle.sixel_decoder.specs.declared.dcs_state.DcsState.TheVariants as states
 
 -- ---- a DCS sequence goes on
 

@@ -8,41 +8,38 @@ use Rattle.sixel_decoder.proofs.images.ImageEnds.{end_of, refused_begun}
 use Rattle.sixel_decoder.{specs.FedImages.of_sequence_fed, specs.ImageEnds.{Extends, inside}}
 use Rattle.sixel_decoder.specs.Reception.{OfString, of_sequence}
 use Rattle.sixel_decoder.specs.declared.received.Status.TheVariants.{Dcs}
-use Rattle.sixel_decoder.{specs.inside.DcsParser.is_failed, specs.inside.DcsReader.session_of}
+use Rattle.sixel_decoder.{specs.inside.DcsState.is_failed, specs.inside.DcsReader.session_of}
 use Rattle.sixel_decoder.proofs.dcs_reader.DcsReader.feed.Goals as goal
 
 pub invariant_of-self : goal.invariant_of-self
 invariant_of-self g c =
-    let state = c.self.inside.parser.state in
+    let state = c.self.inside.state in
     let accepted : is_failed state ≡ false =
     false_from_ne_true (is_failed state) c.in-Ok.ensures.failed in
-    rw (c.extend.ensures, c.in-Ok.ensures.decoder)
-    (c.in-Ok.ensures.follows c.self.inside.log accepted c.self.invariant).3
+    rw c.extend.ensures (c.in-Ok.ensures.follows c.self.inside.log accepted c.self.invariant).3
 
 pub returns-in-Ok-clause-fed : goal.returns-in-Ok-clause-fed
 returns-in-Ok-clause-fed g c =
     let inside = c.self.inside in
-    let state = inside.parser.state in
+    let state = inside.state in
     let bytes : List ℕ = inside.log in
     let accepted : is_failed state ≡ false =
     false_from_ne_true (is_failed state) c.in-Ok.ensures.failed in
     let goes = c.in-Ok.ensures.follows bytes accepted c.self.invariant in
-    let sound = followed_sound state inside.parser.decoder inside.parser.ended bytes
-    c.self.invariant accepted in
+    let sound = followed_sound state inside.decoder inside.ended bytes c.self.invariant accepted in
     rw (← c.self.view_is)
     (image_fed (of_sequence (session_of inside)) _ c.args.chunk.now (of_sequence_fed c.in-Ok.fed)
-    accepted goes.2 refl c.in-Ok.ensures.decoder c.in-Ok.ensures.released c.extend.ensures sound
+    accepted goes.2 refl refl c.in-Ok.ensures.released c.extend.ensures sound
     (goes.0, ap Dcs goes.1, goes.4))
 
 pub returns-in-Err-clause-fed : goal.returns-in-Err-clause-fed
 returns-in-Err-clause-fed g c =
     let inside = c.self.inside in
-    let parser = inside.parser in
     let bytes : List ℕ = inside.log in
     rw (← c.self.view_is, c.sequence_end.ensures.error)
     (image_rejected (of_sequence (session_of inside)) _ c.args.chunk.now c.in-Err.error
-    (rw c.fail.ensures refl) refl c.in-Err.ensures.decoder c.extend.ensures
-    (followed_sound parser.state parser.decoder parser.ended bytes c.self.invariant)
+    (rw c.fail.ensures refl) refl refl c.extend.ensures
+    (followed_sound inside.state inside.decoder inside.ended bytes c.self.invariant)
     c.in-Err.ensures.failed (λ fine. c.in-Err.ensures.follows bytes fine c.self.invariant))
 
 -- the chunk is counted, and the end that is stored is that of all bytes
@@ -51,9 +48,9 @@ counted : (g : Over) (c : goal.After-sequence_end g)
     × Extends OfString c.self.inside.log (c.self.inside.log ++ c.args.chunk.now) c.args.chunk.now
     c.sequence_end.result.fed
 counted g c =
-    let parser = c.self.inside.parser in
-    let bytes : List ℕ = c.self.inside.log in
-    let known = end_of parser.state parser.decoder parser.ended bytes c.self.invariant in
+    let inside = c.self.inside in
+    let bytes : List ℕ = inside.log in
+    let known = end_of inside.state inside.decoder inside.ended bytes c.self.invariant in
     c.sequence_end.ensures.counted bytes (record {
       begun = c.is_begun-is_begun.ensures ∙ known.begun;
       ended = c.in-Err.ensures.ended ∙ known.ended;
@@ -64,14 +61,14 @@ returns-in-Err-clause-counted g c = rw (← c.self.view_is, c.extend.ensures) (c
 
 pub invariant_of-self-in-Err : goal.invariant_of-self-in-Err
 invariant_of-self-in-Err g c =
-    let parser = c.self.inside.parser in
-    let bytes : List ℕ = c.self.inside.log in
-    let told : is_failed parser.state ≡ false → Faults c.in-Err.error
+    let inside = c.self.inside in
+    let bytes : List ℕ = inside.log in
+    let told : is_failed inside.state ≡ false → Faults c.in-Err.error
     (nat_lt (dcs_growths bytes) (dcs_growths (bytes ++ c.args.chunk.now)))
-    (dcs_fault parser.decoder.pixel_limit (bytes ++ c.args.chunk.now)) =
+    (dcs_fault inside.decoder.pixel_limit (bytes ++ c.args.chunk.now)) =
     λ fine. c.in-Err.ensures.follows bytes fine c.self.invariant in
     rw (c.fail.ensures, c.extend.ensures) (record {
-      begun = refused_begun c.in-Err.error parser.state parser.decoder parser.ended bytes
+      begun = refused_begun c.in-Err.error inside.state inside.decoder inside.ended bytes
           c.args.chunk.now c.self.invariant told;
       ended = (counted g c).0;
     })

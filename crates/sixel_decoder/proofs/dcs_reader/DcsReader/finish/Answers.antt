@@ -1,26 +1,29 @@
-use Rattle.std.proofs.Common.{◌≡◌, ℕ, List, true, ap, subst, sym, ◌∙◌, refl}
+use Rattle.std.proofs.Common.{◌≡◌, ℕ, List, true, ap, rules, subst, ◌∙◌, refl}
 use Rattle.sixel_base.specs.{Dcs.can_finish, Payload.payload_fault, Stroke.Origin}
-use Rattle.sixel_decoder.specs.inside.DcsParser.{HasFollowed, IsInPayload}
-use Rattle.sixel_decoder.specs.declared.dcs_parser.DcsState.{DcsState}
+use Rattle.sixel_decoder.specs.inside.DcsState.{HasFollowed, IsInPayload}
+use Rattle.sixel_decoder.specs.declared.dcs_state.DcsState.{DcsState}
 use Rattle.sixel_decoder.proofs.dcs_sequences.Finishes.{finish_sound, finish_told, taken_in}
 use Rattle.sixel_decoder.proofs.dcs_sequences.Payloads.{found_reading}
 use Rattle.sixel_decoder.proofs.dcs_reader.DcsReader.finish.Goals as goal
+use goal.{else-has_come, then-has_come}
 
-pub returns-then-can_finish : goal.returns-then-can_finish
-returns-then-can_finish g c =
+pub returns-then-lenient : goal.returns-then-lenient
+returns-then-lenient g c =
     let inside = c.self.inside in
-    let parser = inside.parser in
     let reader = c.in-Payload.reader in
     let bytes : List ℕ = inside.log in
-    let is : IsInPayload reader parser.decoder parser.ended bytes =
-    subst (λ (p : DcsState _). HasFollowed p parser.decoder parser.ended bytes)
+    let is : IsInPayload reader inside.decoder inside.ended bytes =
+    subst (λ (p : DcsState _). HasFollowed p inside.decoder inside.ended bytes)
     c.in-Payload.is c.self.invariant in
-    let finishes : can_finish parser.decoder.pixel_limit bytes ≡ true =
-    finish_told reader parser.decoder parser.ended bytes is
-    ∙ (sym c.can_finish-can_finish.ensures ∙ c.if-can_finish.true) in
+    let finishes : can_finish inside.decoder.pixel_limit bytes ≡ true =
+    finish_told reader inside.decoder inside.ended bytes is
+    ∙ elim c.if-has_come.branch [
+      | then-has_come w ↦ search rules
+      | else-has_come w ↦ search rules
+    ] in
     let sound =
     ap (λ (o : Origin). payload_fault o.pixel_limit reader.bytes) is.start
-    ∙ finish_sound reader parser.decoder parser.ended bytes is finishes in
+    ∙ finish_sound reader inside.decoder inside.ended bytes is finishes in
     rw (← c.self.view_is, c.in-Payload.is)
     (taken_in reader _ c.finish.result (record {
       reading = is.reading;

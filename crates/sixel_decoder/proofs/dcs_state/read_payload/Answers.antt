@@ -5,7 +5,7 @@ use Rattle.sixel_base.specs.{Fault.Faults, Payload.{fed_fault, settled, growths}
 use Rattle.sixel_decoder.proofs.{chunks.Feeds.open_follows, dcs_sequences.Chunks.payload_follows}
 use Rattle.sixel_decoder.proofs.{dcs_sequences.Chunks.payload_refuses, dcs_sequences.Ends.ended_at}
 use Rattle.sixel_decoder.proofs.dcs_sequences.Ends.{terminated_by}
-use Rattle.sixel_decoder.proofs.dcs_parser.read_payload.Goals as goal
+use Rattle.sixel_decoder.proofs.dcs_state.read_payload.Goals as goal
 
 pub returns-in-Err-clause-follows : goal.returns-in-Err-clause-follows
 returns-in-Err-clause-follows g c = λ decoder before is.

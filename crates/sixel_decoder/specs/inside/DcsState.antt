@@ -1,4 +1,4 @@
--- What the state of a DCS parser says of the bytes so far, and how it continues with a chunk.
+-- What the state of a DCS reader says of the bytes so far, and how it continues with a chunk.
 -- From the meaning of DCS sequences: each state is one place where a sequence can be.
 use Rattle.std.specs.Prelude.{◌≡◌, ◌+◌, ◌≤◌, nat_lt, Bool, true, false, List, [], ◌∷◌, ◌++◌, ℕ}
 use Rattle.std.specs.Prelude.{Option, None, Result, MatchResult, take, length}
@@ -10,9 +10,9 @@ use Rattle.sixel_base.specs.Dcs.{payload_status, payload_count, dcs_status, dcs_
 use Rattle.sixel_base.specs.{Dcs.{dcs_growths, ended_with}, Decoder.origin_of, Fault.IsFault}
 use Rattle.sixel_base.specs.{Fault.Faults, Header.{header_rest, header_text}, Payload.fed_fault}
 use Rattle.sixel_base.specs.inside.Parameters.{Keeps}
-use Rattle.sixel_decoder.specs.declared.dcs_parser.DcsState.{DcsState}
+use Rattle.sixel_decoder.specs.declared.dcs_state.DcsState.{DcsState}
 use Rattle.sixel_decoder.specs.{ImageEnds.IsEnd, Session.Session}
-use Rattle.sixel_decoder.specs.declared.dcs_parser.DcsState.TheVariants as states
+use Rattle.sixel_decoder.specs.declared.dcs_state.DcsState.TheVariants as states
 use Rattle.sixel_decoder.specs.declared.header.Header as headers
 
 -- the header continues, and its parameters are those of its text so far
@@ -55,6 +55,11 @@ is_begun _ = true
 abbrev pub is_failed : {C : Type 0} → DcsState C → Bool
 is_failed states.Failed = true
 is_failed _ = false
+
+-- how many rows from the top it has released
+abbrev pub released_of : {C : Type 0} → DcsState C → ℕ
+released_of (states.Payload reader) = reader.released
+released_of _ = 0
 
 -- the error names what is wrong before a payload
 abbrev pub IsStageFault : SixelError → Stage → Type 0

@@ -2,17 +2,17 @@ use Rattle.std.proofs.Common.{◌≡◌, ◌++◌, ◌∷◌, [], true, List, �
 use Rattle.std.proofs.Common.{subst}
 use Rattle.std.proofs.lemmas.{Result.err_from_is_err_and}
 use Rattle.sixel_base.specs.Dcs.{stage}
-use Rattle.sixel_decoder.specs.inside.DcsParser.{is_head, IsStageFault}
+use Rattle.sixel_decoder.specs.inside.DcsState.{is_head, IsStageFault}
 use Rattle.sixel_decoder.proofs.dcs_sequences.Terminators.{refused_stays, pieces_join}
-use Rattle.sixel_decoder.proofs.dcs_parser.DcsParser.read_head.Goals as goal
+use Rattle.sixel_decoder.proofs.dcs_state.DcsState.read_head.Goals as goal
 
 pub returns-in_err-step-clause-heads : goal.returns-in_err-step-clause-heads
-returns-in_err-step-clause-heads g c = λ before fine followed.
+returns-in_err-step-clause-heads g c = λ ended before fine followed.
     let chunk = c.args.chunk.now in
     let index = c.head.index in
-    let now = c.head.invariant.2 before fine followed in
-    let head : is_head c.head.self.state ≡ true = sym c.is_head.ensures ∙ c.if-not-is_head.false in
-    let refused = c.in_err-step.ensures.steps (before ++ take index chunk) head now.1 in
+    let now = c.head.invariant.0 ended before fine followed in
+    let head : is_head c.head.self ≡ true = sym c.is_head.ensures ∙ c.if-not-is_head.false in
+    let refused = c.in_err-step.ensures.steps ended (before ++ take index chunk) head now.1 in
     let e = c.in_err-step.field-0.0 in
     let p = err_from_is_err_and c.from_residual.result c.from_residual.ensures.1 in
     rw (p.1, p.2)
