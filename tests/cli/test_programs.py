@@ -65,6 +65,7 @@ GREEN, RED, WHITE = (0, 255, 0), (255, 0, 0), (255, 255, 255)
 STRIPES = [*3 * [WHITE, RED], WHITE]
 HUES = [
     ("-d none -t 0", [GREEN], [0]),
+    ("-d none", [GREEN], [255]),
     ("-d ordered -t 0 -s 1", [GREEN], [255]),
     ("-d diffusion -t 0", [GREEN], [255]),
     ("-d none", STRIPES, [255, 0, 255, 0, 255, 0, 255]),
@@ -177,7 +178,7 @@ class TestPrograms(ProgramTest):
                 self.assertNotEqual(ordered[0], ordered[2])
 
     def test_hues(self):
-        """Dithering draws the brightness in grays, and a tolerance counts no hue."""
+        """In grays the brightness is drawn, but undithered colors with a tolerance of the caller."""
         with tempfile.NamedTemporaryFile() as file:
             Path(file.name).write_bytes(b"P5 2 1 255\n\0\xff")
             for program, (words, colors, drawn) in itertools.product(self.builds(), HUES):

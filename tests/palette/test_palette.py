@@ -73,7 +73,7 @@ def are_gray(colors):
 
 
 def source(colors, pixels):
-    """The pixels that dithering maps: in a palette of grays their brightness."""
+    """The pixels that are mapped: in a palette of grays their brightness."""
     if not are_gray(colors):
         return pixels
     levels = ((77 * r + 150 * g + 29 * b) // 256 for r, g, b, _ in pixels)
@@ -220,7 +220,7 @@ class PaletteTest(unittest.TestCase):
             colors += rng.sample(colors, rng.randint(0, 1))
             if rng.random() < 0.2:
                 colors = [(it, it, it) for it, *_ in colors]
-            dithered = source(colors, pixels)
+            shades = source(colors, pixels)
             amount = rng.choice([1, 3, 7, 8, 64, 255])
             exact, kept = {"tolerance": 0}, {"tolerance": rng.choice([1, 12, 200, 5000])}
             cases = [(OFF, amount, it, it) for it in (exact, kept)]
@@ -229,11 +229,11 @@ class PaletteTest(unittest.TestCase):
             cases += [(DIFFUSION, amount, it, it | strength) for it in (exact, kept)]
             automatic = [
                 (OFF, amount, {}),
-                (ORDERED, 0, {"amplitude": automatic_amplitude(colors, dithered)}),
+                (ORDERED, 0, {"amplitude": automatic_amplitude(colors, shades)}),
                 (DIFFUSION, 0, {"strength": 7}),
             ]
             for kind, number, options in automatic:
-                options["tolerance"] = automatic_tolerance(kind, colors, dithered)
+                options["tolerance"] = automatic_tolerance(kind, colors, shades)
                 cases.append((kind, number, {"tolerance": AUTO}, options))
             for kind, number, passed, options in cases:
                 with self.subTest(turn=turn, kind=kind, amount=number, **passed):
@@ -243,7 +243,8 @@ class PaletteTest(unittest.TestCase):
                         len(colors), bytes([kind, number]), *passed.values(), found, len(pixels),
                     )
                     model = {OFF: cheapest, ORDERED: ordered, DIFFUSION: mapped}[kind]
-                    wanted = pixels if kind == OFF else dithered
+                    is_given = kind == OFF and passed["tolerance"] != AUTO
+                    wanted = pixels if is_given else shades
                     self.assertEqual(list(found.raw), model(width, wanted, colors, **options))
             self.assertEqual(mapped(width, pixels, colors), nearest_of(colors, pixels))
 

@@ -617,10 +617,11 @@ uint32_t icysixel_count_colors(const uint8_t *pixels, size_t length, icysixel_di
 /* Writes the palette index of each pixel in a given palette of 1 to 256 colors. It needs no handle.
  *
  * The pixels are rows of `width` without gaps. Without dithering and tolerance an opaque pixel has
- * the index of its nearest entry, the first of equals. In a palette of grays, dithering maps the
- * brightness of the pixels. A transparent pixel has index 0, and its color has no effect. The
- * tolerance is that of icysixel_encoding. `indices` has a capacity of at least one byte for each
- * pixel, and the bytes after these are unchanged. The errors, in this order, are:
+ * the index of its nearest entry, the first of equals. In a palette of grays, the brightness of the
+ * pixels is mapped, but their colors without dithering and with a tolerance other than
+ * ICYSIXEL_AUTO. A transparent pixel has index 0, and its color has no effect. The tolerance is
+ * that of icysixel_encoding. `indices` has a capacity of at least one byte for each pixel, and the
+ * bytes after these are unchanged. The errors, in this order, are:
  *
  * - ICYSIXEL_BAD_OPTION;
  * - ICYSIXEL_BUFFER_TOO_SMALL;

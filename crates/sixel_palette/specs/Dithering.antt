@@ -13,7 +13,7 @@ use Rattle.sixel_base.specs.Picture.{joined}
 use Rattle.sixel_base.specs.declared.error.SixelError.{SixelError}
 use Rattle.sixel_base.specs.declared.error.SixelError.TheVariants.{InvalidDimensions}
 use Rattle.sixel_base.specs.declared.error.SixelError.TheVariants.{BufferSizeMismatch}
-use Rattle.sixel_palette.specs.{Gray.{are_gray, measured_pixels, source_pixels}, Palette.AreIndices}
+use Rattle.sixel_palette.specs.{Gray.{are_gray, source_pixels}, Palette.AreIndices}
 use Rattle.sixel_palette.specs.Palette.{IsNearest, IsOpaque, color_at, entry_distance, entry_of}
 use Rattle.sixel_palette.specs.{Palette.nearest, Refined.{opaque_pixels, sum_to, summed_error}}
 use Rattle.sixel_palette.specs.Undithered.{AreChosen, Undithered}
@@ -303,8 +303,8 @@ automatic_tolerance (Diffusion strength) mean = max 12 mean
 abbrev pub tolerance_of : Dither → Tolerance → List (List ℕ) → List ℕ → ℕ
 tolerance_of dither (Squared tolerance) colors pixels = tolerance
 tolerance_of dither Auto colors pixels =
-    if summed_error colors (measured_pixels dither colors pixels) == 0 then 0
-    else automatic_tolerance dither (mean_error colors (measured_pixels dither colors pixels))
+    if summed_error colors pixels == 0 then 0
+    else automatic_tolerance dither (mean_error colors pixels)
 
 -- the square root of a number, rounded down, but at most so much
 unfoldable pub root : ℕ → ℕ → ℕ
@@ -375,4 +375,4 @@ HaveTargets mapping width pixels colors indices =
 -- the indices are those of the pixels in the palette
 abbrev pub AreDithered : Mapping → ℕ → List ℕ → List (List ℕ) → List ℕ → Type 0
 AreDithered mapping width pixels colors indices =
-    HaveTargets mapping width (source_pixels mapping.dither colors pixels) colors indices
+    HaveTargets mapping width (source_pixels mapping colors pixels) colors indices

@@ -1,10 +1,12 @@
--- The grays of a picture, which dithering maps to a palette of grays. No gray repays the error of a
+-- The grays of a picture, which are mapped to a palette of grays. No gray repays the error of a
 -- hue. The brightness is the luma of ITU-R BT.601, in 256ths.
 use Rattle.std.specs.Prelude.{ℕ, zero, suc, ◌+◌, ◌*◌, ◌/◌, ◌==◌, ◌&&◌, Bool, true, false, List, []}
 use Rattle.std.specs.Prelude.{◌∷◌, length, if◌then◌else◌, slice_index, slice_index_or}
 use Rattle.sixel_base.specs.Picture.{joined}
 use Rattle.sixel_palette.specs.Palette.{color_at}
 use Rattle.sixel_palette.specs.declared.{dither.Dither.Dither, dither.Dither.TheVariants.Off}
+use Rattle.sixel_palette.specs.declared.{mapping.Mapping.Mapping, mapping.Tolerance.Tolerance}
+use Rattle.sixel_palette.specs.declared.mapping.Tolerance.TheVariants.{Squared}
 
 -- the channels of a color are equal
 abbrev pub is_gray : List ℕ → Bool
@@ -32,18 +34,13 @@ gray_pixel pixels pixel =
 abbrev pub gray_pixels : List ℕ → List ℕ
 gray_pixels pixels = joined (gray_pixel pixels) (length pixels / 4)
 
--- dithering in a palette of grays maps the grays of an image
-abbrev pub maps_grays : Dither → List (List ℕ) → Bool
-maps_grays Off colors = false
-maps_grays dither colors = are_gray colors (length colors)
+-- the grays of an image are mapped to a palette of grays, but for undithered pixels with a tolerance
+-- that is given
+abbrev pub maps_grays : Dither → Tolerance → List (List ℕ) → Bool
+maps_grays Off (Squared tolerance) colors = false
+maps_grays dither tolerance colors = are_gray colors (length colors)
 
 -- the pixels that are mapped
-abbrev pub source_pixels : Dither → List (List ℕ) → List ℕ → List ℕ
-source_pixels dither colors pixels =
-    if maps_grays dither colors then gray_pixels pixels else pixels
-
--- the pixels of which an automatic tolerance is measured: without dithering the grays, too
-abbrev pub measured_pixels : Dither → List (List ℕ) → List ℕ → List ℕ
-measured_pixels Off colors pixels =
-    if are_gray colors (length colors) then gray_pixels pixels else pixels
-measured_pixels dither colors pixels = pixels
+abbrev pub source_pixels : Mapping → List (List ℕ) → List ℕ → List ℕ
+source_pixels mapping colors pixels =
+    if maps_grays mapping.dither mapping.tolerance colors then gray_pixels pixels else pixels

@@ -63,9 +63,9 @@ use std::alloc::{AllocError, Global};
 /// after counts with nearest entries. So without dithering the summed squared error is at most the
 /// least one plus the tolerance for each opaque pixel.
 ///
-/// In a palette of grays, dithering maps the brightness of the pixels, because no gray repays the
-/// difference of a hue. What pixels pass on is gray then. Without dithering the colors are mapped,
-/// and only the automatic tolerance is that of the brightness.
+/// In a palette of grays, the brightness of the pixels is mapped in place of their colors, because
+/// no gray repays the difference of a hue. What pixels pass on is gray then. Only without dithering
+/// and with a tolerance that is given, the colors are mapped.
 ///
 /// A transparent pixel, whose alpha is below 128, has index 0. Its color has no effect: it neither
 /// receives nor passes on a difference.
@@ -102,9 +102,10 @@ pub fn palette_indices(
     ensures nearest { mapping.dither ≡ Dither.Off → mapping.tolerance ≡ Tolerance.Squared 0
         → IfOk result (λ indices. AreIndices pixels.now colors.now indices.items) }
     ensures summed { mapping.dither ≡ Dither.Off → IfOk result (λ indices.
-        index_error colors.now pixels.now indices.items ≤ summed_error colors.now pixels.now
-        + tolerance_of mapping.dither mapping.tolerance colors.now pixels.now
-        * opaque_pixels pixels.now (λ _. 1)) }
+        let source = source_pixels mapping colors.now pixels.now in
+        index_error colors.now source indices.items ≤ summed_error colors.now source
+        + tolerance_of mapping.dither mapping.tolerance colors.now source
+        * opaque_pixels source (λ _. 1)) }
     ensures exact { (strength : ℕ) → mapping.dither ≡ Dither.Diffusion strength
         → (mapping.tolerance ≡ Tolerance.Auto) ⊎ (mapping.tolerance ≡ Tolerance.Squared 0)
         → ((pixel : ℕ) → pixel < length pixels.now / 4 → IsOpaque pixels.now pixel
@@ -129,7 +130,7 @@ pub fn dithered_indices(
         AreDithered mapping image.now.width image.now.pixels.now image.now.colors.now
         indices.items) }
 {
-    if !maps_grays(mapping.dither, image.colors) {
+    if !maps_grays(mapping, image.colors) {
         return searched_indices(alloc, image, mapping);
     }
     let grays = gray_pixels(alloc, image.pixels)?;
@@ -210,7 +211,7 @@ fn indices_from(
     if image.colors.is_empty() {
         return Ok(nearest.indices(alloc, image)?);
     }
-    if maps_grays(mapping.dither, image.colors) {
+    if maps_grays(mapping, image.colors) {
         dithered_indices(alloc, image, mapping)
     } else {
         mapped_indices(alloc, image, nearest, mapping)
@@ -270,7 +271,7 @@ fn mapped_indices(
         indices.items) }
 {
     channel_bytes(image.pixels, image.colors);
-    let tolerance = tolerance_of(alloc, image, &nearest, mapping)?;
+    let tolerance = tolerance_of(image, &nearest, mapping);
     let image = MappedImage {
         tolerance,
         ..*image
@@ -324,8 +325,8 @@ pub fn error_diffusion()
 /// strength, a pixel passes on at most twice that and one sixteenth, in either direction.
 pub fn gray_diffusion()
     ensures grays { (mapping : Mapping) (width : ℕ) (pixels : List ℕ) (colors : List (List ℕ))
-        → maps_grays mapping.dither colors ≡ true
-        → AreGrays (mapped_of mapping width (source_pixels mapping.dither colors pixels) colors) }
+        → maps_grays mapping.dither mapping.tolerance colors ≡ true
+        → AreGrays (mapped_of mapping width (source_pixels mapping colors pixels) colors) }
     ensures gray { (m : Mapped) (indices : List ℕ) (n : ℕ) → AreGrays m
         → All (λ error. is_gray error ≡ true) (errors_of m indices n) }
     ensures near { (m : Mapped) (indices : List ℕ) (n entry : ℕ) → AreGrays m

@@ -19,7 +19,7 @@ use Rattle.sixel_encoder.specs.{Encoding.shown_image, IndexedDrawing.{entries_of
 use Rattle.sixel_palette.proofs.mapped_images.DitheredIndices.{AreRowsOf, visit-inside}
 use Rattle.sixel_palette.proofs.mapped_images.GraySource.{AreRowsOf-source, IsSource-pixels}
 use Rattle.sixel_palette.proofs.mapped_images.GraySource.{dithered-count, entry-source}
-use Rattle.sixel_palette.proofs.mapped_images.GraySource.{measured-alike, source-alike}
+use Rattle.sixel_palette.proofs.mapped_images.GraySource.{source-alike}
 use Rattle.sixel_palette.proofs.mapped_images.{KeptEntries.IsIndex-same, MovedPixels.moved-alike}
 use Rattle.sixel_palette.proofs.mapped_images.{MovedPixels.moved-entry, PaletteError.number-dark}
 use Rattle.sixel_palette.proofs.mapped_images.PaletteError.{number-light, sum_to-same}
@@ -88,9 +88,7 @@ pixels-same p q alike number = grind (arith, nat_tests, sum_to-same, number-dark
 -- so are the tolerance and the amplitude
 tolerance-alike : (dither : Dither) (tolerance : Tolerance) (colors : List (List ℕ)) (p q : List ℕ)
     → AreAlike p q → tolerance_of dither tolerance colors p ≡ tolerance_of dither tolerance colors q
-tolerance-alike dither tolerance colors p q alike =
-    let measured = measured-alike dither colors p q alike in
-    grind (arith, nat_tests, measured, pixels-same)
+tolerance-alike dither tolerance colors p q alike = grind (arith, nat_tests, pixels-same)
 
 amplitude-alike : (amplitude : Amplitude) (colors : List (List ℕ)) (p q : List ℕ) → AreAlike p q
     → amplitude_of amplitude colors p ≡ amplitude_of amplitude colors q
@@ -194,10 +192,10 @@ module _ (mapping : Mapping) (width : ℕ) (colors : List (List ℕ)) where
   pub AreDithered-alike : (p q a : List ℕ) → AreAlike p q → AreRowsOf p width
       → AreDithered mapping width p colors a → AreDithered mapping width q colors a
   AreDithered-alike p q a alike rows are =
-      let first = source_pixels mapping.dither colors p in
-      let second = source_pixels mapping.dither colors q in
-      HaveTargets-alike first second a (source-alike mapping.dither colors p q alike)
-      (AreRowsOf-source p first width (IsSource-pixels mapping.dither colors p) rows) are
+      let first = source_pixels mapping colors p in
+      let second = source_pixels mapping colors q in
+      HaveTargets-alike first second a (source-alike mapping colors p q alike)
+      (AreRowsOf-source p first width (IsSource-pixels mapping colors p) rows) are
 
 module _ (mapping : Mapping) (colors : List (List ℕ)) (a b : List ℕ) where
   -- so are the entries of all pixels
@@ -215,13 +213,13 @@ module _ (mapping : Mapping) (colors : List (List ℕ)) (a b : List ℕ) where
       → AreDithered mapping width p colors a → AreDithered mapping width q colors b
       → pixel < length p / 4 → entry_of p a pixel ≡ entry_of q b pixel
   entry-alike width p q pixel alike rows first second l =
-      let s = source_pixels mapping.dither colors p in
-      let t = source_pixels mapping.dither colors q in
-      let own = IsSource-pixels mapping.dither colors p in
-      let same = source-alike mapping.dither colors p q alike in
+      let s = source_pixels mapping colors p in
+      let t = source_pixels mapping colors q in
+      let own = IsSource-pixels mapping colors p in
+      let same = source-alike mapping colors p q alike in
       let both =
       entry-targets width s t pixel same (AreRowsOf-source p s width own rows) first second in
-      grind (arith, nat_tests, entry-source, IsSource-pixels mapping.dither colors q)
+      grind (arith, nat_tests, entry-source, IsSource-pixels mapping colors q)
 
   -- and the drawings
   pub drawing-alike : (image other : Image) → shown_image image ≡ shown_image other

@@ -5,14 +5,13 @@ use Rattle.std.{proofs.lemmas.Bool.{and_parts, cases_lt}, proofs.lemmas.Bool.Dec
 use Rattle.std.{proofs.lemmas.List.{get_or_default, get_or_past}, specs.Int.abs_diff}
 use Rattle.std.specs.Prelude.{◌/◌, ◌%◌, ◌&&◌, Contains, slice_index, slice_index_or, All}
 use Rattle.sixel_palette.specs.Palette.{AreIndices, IsOpaque, color_at, distance, square_gap}
-use Rattle.sixel_palette.{specs.Palette.entry_of, specs.declared.dither.Dither.Dither}
-use Rattle.sixel_palette.specs.declared.dither.Dither.TheVariants.{Diffusion, Off, Ordered}
+use Rattle.sixel_palette.{specs.Palette.entry_of}
 use Rattle.sixel_palette.{specs.declared.mapping.Mapping.Mapping, specs.Dithering.AreDithered}
 use Rattle.sixel_palette.specs.Dithering.{mapped_of, Mapped, errors_of, no_error, opaque_error}
 use Rattle.sixel_palette.specs.Dithering.{passed_on, received, sixteenths, target_of_visit}
 use Rattle.sixel_palette.specs.Dithering.{error_above, error_before, error_behind, error_beyond}
 use Rattle.sixel_palette.specs.Gray.{are_gray, gray_color, gray_pixel, gray_pixels, is_gray}
-use Rattle.sixel_palette.specs.Gray.{maps_grays, measured_pixels, source_pixels}
+use Rattle.sixel_palette.specs.Gray.{maps_grays, source_pixels}
 use Rattle.sixel_palette.proofs.mapped_images.AllKinds.{have-count, have-entry}
 use Rattle.sixel_palette.proofs.mapped_images.DitheredIndices.{AreRowsOf}
 use Rattle.sixel_palette.{proofs.mapped_images.SameVisits.AreAlike, specs.GrayDiffusion.AreGrays}
@@ -56,9 +55,9 @@ pub record IsSource (p s : List ℕ) : Type 0 where
 chosen : (p : List ℕ) (grays : Bool) → IsSource p (cond grays (gray_pixels p) p)
 chosen p grays = grind (arith, nat_tests, gray-length, gray-byte)
 
-pub IsSource-pixels : (dither : Dither) (colors : List (List ℕ)) (p : List ℕ)
-    → IsSource p (source_pixels dither colors p)
-IsSource-pixels dither colors p = chosen p (maps_grays dither colors)
+pub IsSource-pixels : (mapping : Mapping) (colors : List (List ℕ)) (p : List ℕ)
+    → IsSource p (source_pixels mapping colors p)
+IsSource-pixels mapping colors p = chosen p (maps_grays mapping.dither mapping.tolerance colors)
 
 -- it is whole rows too, and pixels have the same entries
 pub AreRowsOf-source : (p s : List ℕ) (width : ℕ) → IsSource p s → AreRowsOf p width
@@ -83,10 +82,11 @@ bytes-chosen p true bytes j =
         → slice_index (gray_pixels p) j < 256
     bytes_at pixel k l lk same = grind (arith, nat_tests, gray-byte)
 
-pub bytes-source : (dither : Dither) (colors : List (List ℕ)) (p : List ℕ)
+pub bytes-source : (mapping : Mapping) (colors : List (List ℕ)) (p : List ℕ)
     → ((j : ℕ) → slice_index p j < 256) → (j : ℕ)
-    → slice_index (source_pixels dither colors p) j < 256
-bytes-source dither colors p bytes j = bytes-chosen p (maps_grays dither colors) bytes j
+    → slice_index (source_pixels mapping colors p) j < 256
+bytes-source mapping colors p bytes j =
+    bytes-chosen p (maps_grays mapping.dither mapping.tolerance colors) bytes j
 
 -- ---- images that show the same
 
@@ -101,15 +101,10 @@ chosen-alike : (p q : List ℕ) (grays : Bool) → AreAlike p q
 chosen-alike p q true alike = gray-alike p q alike
 chosen-alike p q false alike = alike
 
-pub source-alike : (dither : Dither) (colors : List (List ℕ)) (p q : List ℕ) → AreAlike p q
-    → AreAlike (source_pixels dither colors p) (source_pixels dither colors q)
-source-alike dither colors p q alike = chosen-alike p q (maps_grays dither colors) alike
-
-pub measured-alike : (dither : Dither) (colors : List (List ℕ)) (p q : List ℕ) → AreAlike p q
-    → AreAlike (measured_pixels dither colors p) (measured_pixels dither colors q)
-measured-alike Off colors p q alike = chosen-alike p q (are_gray colors (length colors)) alike
-measured-alike (Ordered amplitude) colors p q alike = alike
-measured-alike (Diffusion strength) colors p q alike = alike
+pub source-alike : (mapping : Mapping) (colors : List (List ℕ)) (p q : List ℕ) → AreAlike p q
+    → AreAlike (source_pixels mapping colors p) (source_pixels mapping colors q)
+source-alike mapping colors p q alike =
+    chosen-alike p q (maps_grays mapping.dither mapping.tolerance colors) alike
 
 -- ---- entries that are colors of the image
 
@@ -153,9 +148,9 @@ pub dithered-count : (mapping : Mapping) (width : ℕ) (p : List ℕ) (colors : 
     (indices : List ℕ) → AreDithered mapping width p colors indices
     → length indices ≡ length p / 4
 dithered-count mapping width p colors indices are =
-    let s = source_pixels mapping.dither colors p in
+    let s = source_pixels mapping colors p in
     have-count mapping.dither (mapped_of mapping width s colors) indices are
-    ∙ (IsSource-pixels mapping.dither colors p).count
+    ∙ (IsSource-pixels mapping colors p).count
 
 -- that of an opaque pixel is the index of an entry
 pub dithered-entry : (mapping : Mapping) (width : ℕ) (p : List ℕ) (colors : List (List ℕ))
@@ -163,8 +158,8 @@ pub dithered-entry : (mapping : Mapping) (width : ℕ) (p : List ℕ) (colors : 
     → AreDithered mapping width p colors indices → pixel < length p / 4 → IsOpaque p pixel
     → slice_index indices pixel < length colors
 dithered-entry mapping width p colors indices pixel rows are l light =
-    let s = source_pixels mapping.dither colors p in
-    let is = IsSource-pixels mapping.dither colors p in
+    let s = source_pixels mapping colors p in
+    let is = IsSource-pixels mapping colors p in
     have-entry mapping.dither (mapped_of mapping width s colors) indices pixel
     (AreRowsOf-source p s width is rows) are (omega (arith, l, is.count))
     (omega (arith, is.alpha pixel l, light))

@@ -1,16 +1,20 @@
-//! The grays of a picture, which dithering maps to a palette of grays.
+//! The grays of a picture, which are mapped to a palette of grays.
 
 ghost use Rattle.std.specs.Prelude.{◌≡◌, ◌*◌, ◌/◌, IfOk, length};
 ghost use Rattle.sixel_palette.specs.Gray.{are_gray, brightness, gray_pixels, is_gray, maps_grays};
 
 use crate::dither::Dither;
+use crate::mapping::{Mapping, Tolerance};
 use std::alloc::{AllocError, Global};
 
 /// Returns whether the grays of an image are mapped in place of its colors.
-pub fn maps_grays(dither: Dither, colors: &[[u8; 3]]) -> bool
-    ensures { result ≡ maps_grays dither colors.now }
+pub fn maps_grays(mapping: Mapping, colors: &[[u8; 3]]) -> bool
+    ensures { result ≡ maps_grays mapping.dither mapping.tolerance colors.now }
 {
-    dither != Dither::Off && are_gray(colors)
+    match (mapping.dither, mapping.tolerance) {
+        (Dither::Off, Tolerance::Squared(_)) => false,
+        _ => are_gray(colors),
+    }
 }
 
 /// Returns the pixels of an image in gray.

@@ -2,12 +2,11 @@
 
 ghost use Rattle.std.specs.Prelude.{◌≡◌, ◌*◌, ◌/◌, ◌≤◌, IfOk, max};
 ghost use Rattle.sixel_palette.specs.Dithering.{amplitude_of, refined_dither, root, tolerance_of};
-ghost use Rattle.sixel_palette.specs.{Gray.measured_pixels, Palette.{AreIndices, no_entry}};
+ghost use Rattle.sixel_palette.specs.Palette.{AreIndices, no_entry};
 ghost use Rattle.sixel_palette.specs.Refined.{opaque_pixels, summed_error};
 ghost use Rattle.sixel_palette.specs.inside.{Error.{HasNearest, IsErrorOf}, Mapped.IsMappable};
 
 use crate::dither::{Amplitude, Dither};
-use crate::dithering::gray::{are_gray, gray_pixels};
 use crate::dithering::mapped::MappedImage;
 use crate::dithering::nearest::Nearest;
 use crate::mapping::{Mapping, Tolerance};
@@ -24,23 +23,17 @@ struct PaletteError {
 }
 
 /// Returns the tolerance for the palette of an image.
-pub fn tolerance_of(
-    alloc: Global,
-    image: &MappedImage<'_>,
-    nearest: &Nearest<'_>,
-    mapping: Mapping,
-) -> Result<u32, AllocError>
-    requires image { IsMappable image.now }
-    requires nearest { HasNearest image.now nearest.now }
-    ensures { IfOk result (λ tolerance. tolerance ≡ tolerance_of mapping.dither mapping.tolerance
-        image.now.colors.now image.now.pixels.now) }
+pub fn tolerance_of(image: &MappedImage<'_>, nearest: &Nearest<'_>, mapping: Mapping) -> u32
+    requires { HasNearest image.now nearest.now }
+    ensures { result ≡ tolerance_of mapping.dither mapping.tolerance image.now.colors.now
+        image.now.pixels.now }
 {
-    let squared = match mapping.tolerance {
+    match mapping.tolerance {
         Tolerance::Squared(squared) => squared,
         Tolerance::Auto => {
-            let error = measured_error(alloc, image, nearest, mapping.dither)?;
+            let error = palette_error(image, nearest);
             if error.sum == 0 {
-                return Ok(0);
+                return 0;
             }
             let mean = error.mean().max(12);
             match mapping.dither {
@@ -49,32 +42,7 @@ pub fn tolerance_of(
                 Dither::Diffusion { .. } => mean,
             }
         }
-    };
-    Ok(squared)
-}
-
-/// Returns the error of the palette, in undithered grays that of the brightness.
-fn measured_error(
-    alloc: Global,
-    image: &MappedImage<'_>,
-    nearest: &Nearest<'_>,
-    dither: Dither,
-) -> Result<PaletteError, AllocError>
-    requires image { IsMappable image.now }
-    requires nearest { HasNearest image.now nearest.now }
-    ensures { IfOk result (IsErrorOf image.now.colors.now
-        (measured_pixels dither image.now.colors.now image.now.pixels.now)) }
-{
-    if dither != Dither::Off || !are_gray(image.colors) {
-        return Ok(palette_error(image, nearest));
     }
-    let grays = gray_pixels(alloc, image.pixels)?;
-    let nearest = nearest_indices(alloc, &grays, image.colors)?;
-    let image = MappedImage {
-        pixels: &grays,
-        ..*image
-    };
-    Ok(palette_error(&image, &Nearest::Found(nearest)))
 }
 
 /// Returns the amplitude for the palette of an image.

@@ -9,8 +9,8 @@ returns-then-is_empty c =
     let image = c.args.image.now in
     let pixels = image.pixels.now in
     let colors = image.colors.now in
-    let s = source_pixels c.args.mapping.dither colors pixels in
-    let is = IsSource-pixels c.args.mapping.dither colors pixels in
+    let s = source_pixels c.args.mapping colors pixels in
+    let is = IsSource-pixels c.args.mapping colors pixels in
     let m = mapped_of c.args.mapping image.width s colors in
     let none : length colors ≡ 0 = grind (arith, nat_tests) in
     have-none c.args.mapping.dither m c.in_ok-indices.field-0.items

@@ -24,30 +24,45 @@ returns-clause-count c =
     dithered-count c.args.mapping c.args.width c.args.pixels.now c.args.colors.now
     c.in_ok-dithered_indices.field-0.items (grind (arith, nat_tests))
 
+-- the image that is mapped
+abbrev source-of : goal.In_ok-dithered_indices → Mapped
+source-of c = mapped_of c.args.mapping c.args.width
+    (source_pixels c.args.mapping c.args.colors.now c.args.pixels.now) c.args.colors.now
+
+source-rows : (c : goal.In_ok-dithered_indices) → AreRows (source-of c)
+source-rows c =
+    let pixels = c.args.pixels.now in
+    let colors = c.args.colors.now in
+    let plain = rows-of c (mapped_of c.args.mapping c.args.width pixels colors) refl refl refl in
+    record {
+      some = plain.some;
+      rows = AreRowsOf-source pixels (source_pixels c.args.mapping colors pixels) c.args.width
+          (IsSource-pixels c.args.mapping colors pixels) plain.rows;
+    }
+
 -- the choice without dithering
 undithered-of : (c : goal.In_ok-dithered_indices) → c.args.mapping.dither ≡ Off
-    → HaveIndices Off (mapped_of c.args.mapping c.args.width c.args.pixels.now c.args.colors.now)
-    c.in_ok-dithered_indices.field-0.items
+    → HaveIndices Off (source-of c) c.in_ok-dithered_indices.field-0.items
 undithered-of c off =
-    let m = mapped_of c.args.mapping c.args.width c.args.pixels.now c.args.colors.now in
     let indices = c.in_ok-dithered_indices.field-0.items in
-    subst (λ (d : Dither). HaveIndices d m indices) off (grind (arith, nat_tests))
+    subst (λ (d : Dither). HaveIndices d (source-of c) indices) off (grind (arith, nat_tests))
 
 pub returns-clause-nearest : goal.returns-clause-nearest
 returns-clause-nearest c = λ off exact.
-    let m = mapped_of c.args.mapping c.args.width c.args.pixels.now c.args.colors.now in
     let have = undithered-of c off in
-    let rows = rows-of c m refl refl refl in
-    AreIndices-chosen (undithered_of m have.0 c.in_ok-dithered_indices.field-0.items) have.2 have.1
-    rows.rows.some rows.some (grind (arith, exact))
+    let rows = source-rows c in
+    let nearest =
+    AreIndices-chosen (undithered_of (source-of c) have.0 c.in_ok-dithered_indices.field-0.items)
+    have.2 have.1 rows.rows.some rows.some (grind (arith, exact)) in
+    rw (off, exact) at nearest
 
 pub returns-clause-exact : goal.returns-clause-exact
 returns-clause-exact c = λ strength is none held.
     let pixels = c.args.pixels.now in
     let colors = c.args.colors.now in
     let dither = c.args.mapping.dither in
-    let s = source_pixels dither colors pixels in
-    let of = IsSource-pixels dither colors pixels in
+    let s = source_pixels c.args.mapping colors pixels in
+    let of = IsSource-pixels c.args.mapping colors pixels in
     let m = mapped_of c.args.mapping c.args.width s colors in
     let plain = mapped_of c.args.mapping c.args.width pixels colors in
     let indices = c.in_ok-dithered_indices.field-0.items in
@@ -72,9 +87,10 @@ returns-clause-exact c = λ strength is none held.
 
 pub returns-clause-summed : goal.returns-clause-summed
 returns-clause-summed c = λ off.
-    let m = mapped_of c.args.mapping c.args.width c.args.pixels.now c.args.colors.now in
     let have = undithered-of c off in
     let all : All IsColor c.args.colors.now =
     λ k e l. grind (arith, nat_tests, get_or_default, c.color_bytes.ensures) in
-    chosen-bound (undithered_of m have.0 c.in_ok-dithered_indices.field-0.items) have.2 have.1
-    (rows-of c m refl refl refl).rows.some (λ j. omega (arith, c.type_inv.pixels j)) all
+    chosen-bound (undithered_of (source-of c) have.0 c.in_ok-dithered_indices.field-0.items) have.2
+    have.1 (source-rows c).rows.some
+    (bytes-source c.args.mapping c.args.colors.now c.args.pixels.now
+    (λ j. omega (arith, c.type_inv.pixels j))) all
