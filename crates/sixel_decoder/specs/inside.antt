@@ -1,4 +1,4 @@
--- Words that only the contracts of private functions cite, over the painter, the parsers and the
+-- Words that only the contracts of private functions cite, over the painter, the parser and the
 -- readers. What sessions and decoding mean does not depend on them.
 pub mod DrawnRows
 pub mod Painter

@@ -172,5 +172,8 @@ impl DcsReader<BandCanvas> {
 fn has_come(ended: Option<SixelDcsFeedStatus>) -> bool
     ensures { result ≡ has_come ended }
 {
-    !matches!(ended, None | Some(SixelDcsFeedStatus::NeedMoreData))
+    match ended {
+        Some(status) => status.has_ended(),
+        None => false,
+    }
 }

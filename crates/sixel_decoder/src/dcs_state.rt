@@ -1,4 +1,4 @@
-//! How far a DCS sequence was read: introducer, header, payload and end.
+//! How far a DCS sequence was read: introducer, header or payload.
 
 ghost use Rattle.std.specs.Prelude.{◌≡◌, ◌≤◌, ◌++◌, ◌+◌, ◌∷◌, [], true, false, List, ℕ, length};
 ghost use Rattle.std.specs.Prelude.{Option, IfOk, OnErr, OnOk, MatchResult};

@@ -1,4 +1,4 @@
--- What a feed that succeeds does to a session, and what a byte of its own does to the parsers.
+-- What a feed that succeeds does to a session, and what a byte of its own does to the parser.
 use Rattle.std.proofs.Common.{◌≡◌, ℕ, ◌+◌, false, List, [], ◌∷◌, ◌++◌, sym, ◌∙◌, arith, None, Ok}
 use Rattle.std.proofs.Common.{ap, refl, subst, Option, Some}
 use Rattle.std.specs.Prelude.{is_some}

@@ -76,11 +76,11 @@ closed-ended (Newline ∷ h) ended = refl
 closed-ended (Skip _ ∷ h) ended = refl
 
 -- what a reader has read whose parser is this one
-pub reading_read : {C : Type 0} {canvas : Ghosts C} (found : Option (PayloadParser C canvas))
+pub parser_read : {C : Type 0} {canvas : Ghosts C} (found : Option (PayloadParser C canvas))
     (parser : PayloadParser C canvas) (o : Origin) (terminator : Option ℕ) (bytes : List ℕ)
     → found ≡ Some parser → HasRead found o terminator bytes
     → HasRead (Some parser) o terminator bytes
-reading_read found parser o terminator bytes is read = rw is at read
+parser_read found parser o terminator bytes is read = rw is at read
 
 -- what was drawn is what is closed
 stands_shown : {C : Type 0} {canvas : Ghosts C} (command : OpenCommand) (o : Origin)

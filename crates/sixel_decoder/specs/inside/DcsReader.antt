@@ -1,4 +1,4 @@
--- What contracts see of a DCS reader, and what its parser has read.
+-- What contracts see of a DCS reader, and what its state says of the bytes.
 -- From the form of the session: it begins from the state of its decoder.
 use Rattle.std.specs.Prelude.{ℕ}
 use Rattle.sixel_decoder.specs.declared.dcs_state.DcsState.{DcsState}

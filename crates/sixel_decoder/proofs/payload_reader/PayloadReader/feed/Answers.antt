@@ -10,7 +10,7 @@ use Rattle.sixel_decoder.specs.declared.payload_parser.PayloadParser.{PayloadPar
 use Rattle.sixel_decoder.specs.inside.PayloadReader.{session_of, HasRead}
 use Rattle.sixel_decoder.proofs.{chunks.FedImages.image_rejected, chunks.Feeds.payload_fed}
 use Rattle.sixel_decoder.proofs.chunks.Joined.{ended_goes_on, ended_reads, open_goes_on}
-use Rattle.sixel_decoder.proofs.chunks.Joined.{reading_read}
+use Rattle.sixel_decoder.proofs.chunks.Joined.{parser_read}
 use Rattle.sixel_decoder.proofs.{chunks.Sessions.read_sound, dcs_sequences.Ends.terminator_same}
 use Rattle.sixel_decoder.proofs.payload_reader.PayloadReader.feed.Goals as goal
 
@@ -27,7 +27,7 @@ invariant_of-self-in-Some-terminator g c =
     let origin : Origin = (session_of inside).origin in
     let bytes : List ℕ = inside.log in
     let parser = c.in-Some.parser in
-    let read = reading_read _ _ origin inside.terminator bytes c.in-Some.is c.self.invariant in
+    let read = parser_read _ _ origin inside.terminator bytes c.in-Some.is c.self.invariant in
     let ended : HasRead (Some parser) origin (Some c.in-Some-terminator.byte) bytes =
     subst (λ (w : Option ℕ). HasRead (Some parser) origin w bytes) c.in-Some-terminator.is read in
     rw (c.extend.ensures, c.in-Some-terminator.is)
@@ -42,7 +42,7 @@ returns-in-Some-terminator-clause-fed g c =
     let parser = c.in-Some.parser in
     let byte : ℕ = c.in-Some-terminator.byte in
     let fed : SixelFeedResult = record { consumed = 0; status = status_of (Some byte) } in
-    let read = reading_read _ _ origin inside.terminator bytes c.in-Some.is c.self.invariant in
+    let read = parser_read _ _ origin inside.terminator bytes c.in-Some.is c.self.invariant in
     let ended : HasRead (Some parser) origin (Some byte) bytes =
     subst (λ (w : Option ℕ). HasRead (Some parser) origin w bytes) c.in-Some-terminator.is read in
     let goes = ended_goes_on origin parser bytes chunk byte ended in
@@ -56,7 +56,7 @@ invariant_of-self-in-Ok g c =
     let inside = c.self.inside in
     let origin : Origin = (session_of inside).origin in
     let bytes : List ℕ = inside.log in
-    let read = reading_read _ _ origin inside.terminator bytes c.in-Some.is c.self.invariant in
+    let read = parser_read _ _ origin inside.terminator bytes c.in-Some.is c.self.invariant in
     let goes =
     open_goes_on (Ok c.in-Ok.fed) origin c.in-Some.parser c.feed.new.self inside.terminator bytes
     c.args.chunk.now
@@ -70,7 +70,7 @@ returns-in-Ok-clause-fed g c =
     let inside = c.self.inside in
     let origin : Origin = (session_of inside).origin in
     let bytes : List ℕ = inside.log in
-    let read = reading_read _ _ origin inside.terminator bytes c.in-Some.is c.self.invariant in
+    let read = parser_read _ _ origin inside.terminator bytes c.in-Some.is c.self.invariant in
     let goes =
     open_goes_on (Ok c.in-Ok.fed) origin c.in-Some.parser c.feed.new.self inside.terminator bytes
     c.args.chunk.now
@@ -88,7 +88,7 @@ returns-in-Err-clause-fed g c =
     let bytes : List ℕ = inside.log in
     let chunk : List ℕ = c.args.chunk.now in
     let error : SixelError = c.in-Err.error in
-    let read = reading_read _ _ origin inside.terminator bytes c.in-Some.is c.self.invariant in
+    let read = parser_read _ _ origin inside.terminator bytes c.in-Some.is c.self.invariant in
     let was : is_none inside.parser ≡ false = rw c.in-Some.is refl in
     rw (← c.self.view_is, c.payload_end-in-Err.ensures.error) (record {
       origin = refl;

@@ -8,7 +8,7 @@ use Rattle.sixel_decoder.specs.{FinishedImages.IsTaken, Reception.of_payload, Se
 use Rattle.sixel_decoder.specs.declared.decoded_payload.DecodedPayload.{DecodedPayload}
 use Rattle.sixel_decoder.specs.{inside.Painter.Ends}
 use Rattle.sixel_decoder.specs.inside.PayloadReader.{session_of}
-use Rattle.sixel_decoder.proofs.chunks.{Joined.reading_read, PayloadFaults.payload_ends}
+use Rattle.sixel_decoder.proofs.chunks.{Joined.parser_read, PayloadFaults.payload_ends}
 use Rattle.sixel_decoder.proofs.payload_reader.PayloadReader.finish.Goals as goal
 
 -- how an image is taken whose parser ended its history
@@ -24,7 +24,7 @@ pub returns-in-Some : goal.returns-in-Some
 returns-in-Some g c =
     let inside = c.self.inside in
     let o : Origin = (session_of inside).origin in
-    let read = reading_read _ _ o inside.terminator inside.log c.in-Some.is c.self.invariant in
+    let read = parser_read _ _ o inside.terminator inside.log c.in-Some.is c.self.invariant in
     rw (← c.self.view_is)
     (taken_by c.finish.result (session_of inside) (rw c.in-Some.is refl)
     (rw c.in-Some.is c.finish.ensures.first)

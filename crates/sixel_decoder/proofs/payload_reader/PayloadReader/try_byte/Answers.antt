@@ -5,7 +5,7 @@ use Rattle.sixel_base.specs.Stroke.{Origin}
 use Rattle.sixel_decoder.specs.PayloadCalls.{byte_read}
 use Rattle.sixel_decoder.specs.inside.PayloadReader.{session_of, GoesOn, HasRead}
 use Rattle.sixel_decoder.proofs.chunks.{Feeds.{byte_goes_on, payload_fed}, Sessions.read_sound}
-use Rattle.sixel_decoder.proofs.chunks.Joined.{reading_read}
+use Rattle.sixel_decoder.proofs.chunks.Joined.{parser_read}
 use Rattle.sixel_decoder.proofs.payload_reader.PayloadReader.try_byte.Given.{Over}
 use Rattle.sixel_decoder.proofs.payload_reader.PayloadReader.try_byte.Goals as goal
 
@@ -19,7 +19,7 @@ went_on g c =
     let inside = c.self.inside in
     let origin : Origin = (session_of inside).origin in
     let bytes : List ℕ = inside.log in
-    let read = reading_read _ _ origin inside.terminator bytes c.in-Some.is c.self.invariant in
+    let read = parser_read _ _ origin inside.terminator bytes c.in-Some.is c.self.invariant in
     byte_goes_on origin c.in-Some.parser c.try_byte.new.self inside.terminator bytes c.args.byte
     (sym c.is_some.ensures ∙ c.if-is_some.false) read
     (c.try_byte.ensures.printable c.if-not-try_byte.false)
