@@ -44,8 +44,8 @@ DEFAULTS = [
 
 # Arguments of `draw`, three grays, and how they are drawn in black and white. 90 and 7/16 of what
 # it passes on is 129 with 8 eighths, and 124 with 7. The squared distances of 150 are 67500 from
-# black and 33075 from white. The mean of the least ones is 24550 and 24651 in the last two lines,
-# of which 7/5 is 34370 and 34511.
+# black and 33075 from white. The mean of the least ones is 11475 and 11537 in the last two lines,
+# of which three times is 34425 and 34611.
 GRAYS = [
     ("-t 0", [90, 90, 90], [0, 255, 0]),
     ("-t 0 -s 8", [90, 90, 90], [0, 255, 0]),
@@ -73,6 +73,12 @@ HUES = [
     ("-d none -t 65026", STRIPES, 7 * [255]),
     ("-d none -t 83601", STRIPES, 7 * [255]),
 ]
+
+# Tints whose refined palette of two has the grays 115 and 204. Their own grays are 130, 97, 221 and
+# 186, at the squared distances 675, 972, 867 and 972. The root of the mean is 29, so the pattern
+# moves a gray by at most 14, and none gets the other entry. By the colors it would be 75, and the
+# pattern would move the gray of pixel 11 by 29, so that 115 is nearer.
+TINTS = [(72, 156, 156), (156, 72, 72), (159, 249, 249), (249, 159, 159)]
 
 # The most colors of a palette, and by how many 32nds its entries are spread for diffusion.
 SPREADS = [(65, 0), (64, 1), (17, 1), (16, 2), (3, 2), (2, 16)]
@@ -178,7 +184,7 @@ class TestPrograms(ProgramTest):
                 self.assertNotEqual(ordered[0], ordered[2])
 
     def test_hues(self):
-        """In grays the brightness is drawn, but undithered colors with a tolerance of the caller."""
+        """In grays the brightness is drawn. Only undithered pixels with `-t` keep their colors."""
         with tempfile.NamedTemporaryFile() as file:
             Path(file.name).write_bytes(b"P5 2 1 255\n\0\xff")
             for program, (words, colors, drawn) in itertools.product(self.builds(), HUES):
@@ -187,6 +193,15 @@ class TestPrograms(ProgramTest):
                     text = self.drawn(program, f"-p {file.name} {words}", picture)
                     pixels = run(program, "pam", stdin=text)[1].split(b"ENDHDR\n")[1]
                     self.assertEqual(list(pixels[: 4 * len(colors) : 4]), drawn)
+
+    def test_refined_grays(self):
+        """In a refined palette of grays, the pattern's amplitude is by their brightness."""
+        picture = b"P6 32 1 255\n" + 8 * b"".join(map(bytes, TINTS))
+        for program in self.builds():
+            with self.subTest(program=program.name):
+                text = self.drawn(program, "-c 2 -d ordered -t 0", picture)
+                pixels = run(program, "pam", stdin=text)[1].split(b"ENDHDR\n")[1]
+                self.assertEqual(list(pixels[: 4 * 32 : 4]), 8 * [115, 115, 204, 204])
 
     def test_spread(self):
         """Few entries are spread for diffusion, as the model says, but not those of flat art."""

@@ -322,12 +322,16 @@ refined_dither (Ordered AutoAmplitude) colors pixels =
     Ordered (Levels (root (mean_error colors pixels) 255))
 refined_dither dither colors pixels = dither
 
--- so are its pixels mapped
-abbrev pub refined_mapping : Mapping → List (List ℕ) → List ℕ → Mapping
-refined_mapping mapping colors pixels = record {
-  dither = refined_dither mapping.dither colors pixels;
+-- so are pixels mapped, which are those of the image or its grays
+abbrev pub mapping_from : Mapping → List (List ℕ) → List ℕ → Mapping
+mapping_from mapping colors source = record {
+  dither = refined_dither mapping.dither colors source;
   tolerance = mapping.tolerance;
 }
+
+abbrev pub refined_mapping : Mapping → List (List ℕ) → List ℕ → Mapping
+refined_mapping mapping colors pixels =
+    mapping_from mapping colors (source_pixels mapping colors pixels)
 
 -- how many eighths of an error a kind of dithering passes on
 abbrev pub strength_of : Dither → ℕ

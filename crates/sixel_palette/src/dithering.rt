@@ -32,7 +32,7 @@ use crate::dithering::gray::{gray_pixels, maps_grays};
 use crate::dithering::mapped::MappedImage;
 use crate::dithering::nearest::Nearest;
 use crate::dithering::ordered::ordered_indices;
-use crate::dithering::palette_error::{amplitude_of, refined_dither, tolerance_of};
+use crate::dithering::palette_error::{amplitude_of, refined_mapping, tolerance_of};
 use crate::dithering::undithered::chosen_indices;
 use crate::mapping::{Mapping, Tolerance};
 use crate::palette::nearest_indices::{color_bytes, nearest_indices};
@@ -64,8 +64,8 @@ use std::alloc::{AllocError, Global};
 /// least one plus the tolerance for each opaque pixel.
 ///
 /// In a palette of grays, the brightness of the pixels is mapped in place of their colors, because
-/// no gray repays the difference of a hue. What pixels pass on is gray then. Only without dithering
-/// and with a tolerance that is given, the colors are mapped.
+/// no gray makes up for the difference of a hue. What pixels pass on is gray then. Only without
+/// dithering and with a tolerance other than the automatic one the colors are mapped.
 ///
 /// A transparent pixel, whose alpha is below 128, has index 0. Its color has no effect: it neither
 /// receives nor passes on a difference.
@@ -182,19 +182,14 @@ pub fn map_to_refined(
     let amount = spread_amount(mapping.dither, room);
     let refinement = Refinement::of(alloc, pixels, room, amount)?;
     let image = MappedImage::plain(pixels, width, &refinement.entries.colors);
-    let nearest = Nearest::Refined(&refinement);
-    let mapping = Mapping {
-        dither: refined_dither(&image, &nearest, mapping.dither),
-        ..mapping
-    };
-    let indices = indices_from(alloc, &image, nearest, mapping)?;
+    let indices = indices_from(alloc, &image, Nearest::Refined(&refinement), mapping)?;
     Ok(RefinedMapping {
         colors: refinement.entries.colors,
         indices,
     })
 }
 
-/// Returns the palette index of each pixel of whole rows, by the nearest entries.
+/// Returns the palette index of each pixel of whole rows in their refined palette.
 fn indices_from(
     alloc: Global,
     image: &MappedImage<'_>,
@@ -205,17 +200,24 @@ fn indices_from(
     requires strength { image.now.strength ≤ 8 }
     requires nearest { HasNearest image.now nearest }
     ensures { IfOk result (λ indices.
-        AreDithered mapping image.now.width image.now.pixels.now image.now.colors.now
-        indices.items) }
+        AreDithered (refined_mapping mapping image.now.colors.now image.now.pixels.now)
+        image.now.width image.now.pixels.now image.now.colors.now indices.items) }
 {
     if image.colors.is_empty() {
         return Ok(nearest.indices(alloc, image)?);
     }
-    if maps_grays(mapping, image.colors) {
-        dithered_indices(alloc, image, mapping)
-    } else {
-        mapped_indices(alloc, image, nearest, mapping)
+    if !maps_grays(mapping, image.colors) {
+        let mapping = refined_mapping(image, &nearest, mapping);
+        return mapped_indices(alloc, image, nearest, mapping);
     }
+    let grays = gray_pixels(alloc, image.pixels)?;
+    let nearest = Nearest::Found(nearest_indices(alloc, &grays, image.colors)?);
+    let image = MappedImage {
+        pixels: &grays,
+        ..*image
+    };
+    let mapping = refined_mapping(&image, &nearest, mapping);
+    mapped_indices(alloc, &image, nearest, mapping)
 }
 
 /// Returns the index of each pixel for its target.

@@ -6,10 +6,11 @@ use Rattle.std.proofs.lemmas.{Bool.cases_lt, Bool.Decides.nat_tests, List.ext_ge
 use Rattle.std.proofs.lemmas.{List.FromFn.length-map-range_with_len, Nat.{div-add-mod', mod_below}}
 use Rattle.sixel_palette.specs.Dithering.{AreDiffused, AreDithered, AreVisited, HasTarget}
 use Rattle.sixel_palette.specs.Dithering.{HaveChoice, HaveIndices, HaveTargets, IsIndex, Mapped}
-use Rattle.sixel_palette.specs.Dithering.{amplitude_of, errors_of, mapped_of, moved_image}
-use Rattle.sixel_palette.specs.Dithering.{moved_pixels, refined_mapping, serpentine, shift_of}
-use Rattle.sixel_palette.specs.Dithering.{target_of_visit, tolerance_of, undithered_of, with_pixels}
-use Rattle.sixel_palette.specs.{Gray.source_pixels, Palette.{IsOpaque, entry_of}}
+use Rattle.sixel_palette.specs.Dithering.{amplitude_of, errors_of, mapped_of, mapping_from}
+use Rattle.sixel_palette.specs.Dithering.{moved_image, moved_pixels, refined_mapping, serpentine}
+use Rattle.sixel_palette.specs.Dithering.{shift_of, target_of_visit, tolerance_of, undithered_of}
+use Rattle.sixel_palette.specs.{Dithering.with_pixels, Gray.source_pixels}
+use Rattle.sixel_palette.specs.Palette.{IsOpaque, entry_of}
 use Rattle.sixel_palette.specs.Refined.{opaque_pixels}
 use Rattle.sixel_palette.specs.declared.{dither.Amplitude.Amplitude, dither.Dither.Dither}
 use Rattle.sixel_palette.specs.declared.dither.Dither.TheVariants.{Diffusion, Off, Ordered}
@@ -95,9 +96,14 @@ amplitude-alike : (amplitude : Amplitude) (colors : List (List ℕ)) (p q : List
 amplitude-alike amplitude colors p q alike = grind (arith, nat_tests, pixels-same)
 
 -- so is the mapping to a refined palette
+mapping-alike : (mapping : Mapping) (colors : List (List ℕ)) (p q : List ℕ) → AreAlike p q
+    → mapping_from mapping colors p ≡ mapping_from mapping colors q
+mapping-alike mapping colors p q alike = grind (arith, nat_tests, pixels-same)
+
 pub refined-alike : (mapping : Mapping) (colors : List (List ℕ)) (p q : List ℕ) → AreAlike p q
     → refined_mapping mapping colors p ≡ refined_mapping mapping colors q
-refined-alike mapping colors p q alike = grind (arith, nat_tests, pixels-same)
+refined-alike mapping colors p q alike =
+    mapping-alike mapping colors _ _ (source-alike mapping colors p q alike)
 
 -- indices of error diffusion are those of the other pixels
 other-diffused : (m : Mapped) (q a : List ℕ) → AreAlike m.pixels q → AreRowsOf m.pixels m.width

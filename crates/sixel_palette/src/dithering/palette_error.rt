@@ -1,10 +1,10 @@
 //! The summed squared error of a palette, and the tolerance and the amplitude that follow from it.
 
-ghost use Rattle.std.specs.Prelude.{◌≡◌, ◌*◌, ◌/◌, ◌≤◌, IfOk, max};
-ghost use Rattle.sixel_palette.specs.Dithering.{amplitude_of, refined_dither, root, tolerance_of};
+ghost use Rattle.std.specs.Prelude.{◌≡◌, ◌*◌, ◌/◌, ◌≤◌, max};
+ghost use Rattle.sixel_palette.specs.Dithering.{amplitude_of, mapping_from, root, tolerance_of};
 ghost use Rattle.sixel_palette.specs.Palette.{AreIndices, no_entry};
 ghost use Rattle.sixel_palette.specs.Refined.{opaque_pixels, summed_error};
-ghost use Rattle.sixel_palette.specs.inside.{Error.{HasNearest, IsErrorOf}, Mapped.IsMappable};
+ghost use Rattle.sixel_palette.specs.inside.Error.{HasNearest, IsErrorOf};
 
 use crate::dither::{Amplitude, Dither};
 use crate::dithering::mapped::MappedImage;
@@ -12,8 +12,6 @@ use crate::dithering::nearest::Nearest;
 use crate::mapping::{Mapping, Tolerance};
 use crate::palette::colors::is_opaque;
 use crate::palette::distance::distance;
-use crate::palette::nearest_indices::nearest_indices;
-use std::alloc::{AllocError, Global};
 
 /// The summed squared error of a palette, and the number of opaque pixels.
 #[derive(Clone, Copy)]
@@ -56,18 +54,21 @@ pub fn amplitude_of(image: &MappedImage<'_>, nearest: &Nearest<'_>, amplitude: A
     }
 }
 
-/// Returns the dithering of an image in its refined palette.
-pub fn refined_dither(image: &MappedImage<'_>, nearest: &Nearest<'_>, dither: Dither) -> Dither
+/// Returns how an image is mapped to its refined palette.
+pub fn refined_mapping(image: &MappedImage<'_>, nearest: &Nearest<'_>, mapping: Mapping) -> Mapping
     requires { HasNearest image.now nearest.now }
-    ensures { result ≡ refined_dither dither image.now.colors.now image.now.pixels.now }
+    ensures { result ≡ mapping_from mapping image.now.colors.now image.now.pixels.now }
 {
-    match dither {
+    match mapping.dither {
         Dither::Ordered {
             amplitude: Amplitude::Auto,
-        } => Dither::Ordered {
-            amplitude: Amplitude::Levels(root(palette_error(image, nearest).mean())),
+        } => Mapping {
+            dither: Dither::Ordered {
+                amplitude: Amplitude::Levels(root(palette_error(image, nearest).mean())),
+            },
+            ..mapping
         },
-        _ => dither,
+        _ => mapping,
     }
 }
 

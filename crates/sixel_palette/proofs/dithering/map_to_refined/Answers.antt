@@ -1,5 +1,5 @@
 use Rattle.std.proofs.{Common.{◌/◌, arith, length}}
-use Rattle.sixel_palette.specs.declared.mapping.Mapping.{Mapping}
+use Rattle.sixel_palette.specs.Dithering.{refined_mapping}
 use Rattle.sixel_palette.proofs.mapped_images.DitheredIndices.{AreRowsOf}
 use Rattle.sixel_palette.proofs.mapped_images.GraySource.{dithered-count, dithered-entry}
 use Rattle.sixel_palette.proofs.refinement.Refinement.{refinement-some}
@@ -8,21 +8,15 @@ use Rattle.sixel_palette.proofs.dithering.map_to_refined.Goals as goal
 pub returns-clause-count : goal.returns-clause-count
 returns-clause-count c =
     let image = c.plain-image.result in
-    let mapping : Mapping = record {
-      dither = c.refined_dither.result;
-      tolerance = c.args.mapping.tolerance;
-    } in
-    rw c.plain-image.ensures.pixels at
-    (dithered-count mapping image.width image.pixels.now image.colors.now
-    c.in_ok-indices.indices.items c.in_ok-indices.ensures)
+    let mapping = refined_mapping c.args.mapping image.colors.now c.args.pixels.now in
+    dithered-count mapping c.args.width c.args.pixels.now image.colors.now
+    c.in_ok-indices.indices.items
+    (rw (c.plain-image.ensures.pixels, c.plain-image.ensures.width) at c.in_ok-indices.ensures)
 
 pub returns-clause-known : goal.returns-clause-known
 returns-clause-known c =
     let image = c.plain-image.result in
-    let mapping : Mapping = record {
-      dither = c.refined_dither.result;
-      tolerance = c.args.mapping.tolerance;
-    } in
+    let mapping = refined_mapping c.args.mapping image.colors.now c.args.pixels.now in
     let rows : AreRowsOf c.args.pixels.now c.args.width = record {
       some = c.requires.width;
       count = length c.args.pixels.now / 4 / c.args.width;
