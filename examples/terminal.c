@@ -12,7 +12,7 @@ static const icysixel_color palette[] = {{40, 42, 54}, {255, 85, 85}, {80, 250, 
 struct terminal {
     icysixel sixel; /* zeroed, and created with the first image */
     enum { TEXT, ESCAPE, PARAMETERS, PAYLOAD, SKIPPED } state;
-    int32_t parameters[3], count; /* the third takes all that follow */
+    int32_t parameters[3], count; /* later ones go to the third */
     size_t rows;    /* rows of cells that are reserved for the open image */
     uint32_t error; /* the last error that was shown for the image, or 0 */
 };

@@ -115,7 +115,7 @@ typedef struct {
 } icysixel_color;
 
 /* A block of memory that the library has transferred to the caller. Zeros mean no block. With the
- * default memory functions it is a block of malloc, and has the alignment of one. */
+ * default memory functions malloc allocates it, so it is aligned for every type. */
 typedef struct {
     uint8_t *data;
     size_t length;   /* bytes in use */
@@ -141,9 +141,9 @@ typedef struct {
     uint8_t are_exact; /* 1 if every channel is a whole percentage, rounded to a byte; else 0 */
 } icysixel_distinct;
 
-/* How each pixel gets an entry of the palette. Zeros mean the nearest entry. An amount of 0 means
- * the default. For diffusion it is 7. For ordered dithering it is the square root of the palette's
- * mean squared error, and twice that root in a given palette. */
+/* How each pixel gets an entry of the palette. Zeros mean no dithering. An amount of 0 means the
+ * default. For diffusion it is 7. For ordered dithering it is the square root of the palette's mean
+ * squared error, and twice that root in a given palette. */
 typedef struct {
     uint8_t kind;   /* an enum icysixel_dither */
     uint8_t amount; /* diffusion: eighths of the error; ordered: the amplitude in levels; or 0 */
@@ -157,7 +157,7 @@ typedef struct {
     size_t height;        /* rows */
     size_t stride;        /* bytes from the start of a row to the next, or 0 for no gaps */
     uint32_t tolerance;   /* a squared distance, for longer runs; or ICYSIXEL_AUTO */
-    uint16_t max_colors;  /* entries of a refined or farthest palette at most, or 0 for 256 */
+    uint16_t max_colors;  /* most entries of a refined or farthest palette, or 0 for 256 */
     uint16_t color_count; /* colors at `colors` */
     uint8_t format;       /* an enum icysixel_format */
     uint8_t pixel_height; /* the height of a pixel of width 1: 2, 3 or 5; others mean 1 */
@@ -241,7 +241,7 @@ enum icysixel_background {
  * palette of grays the error is that of the brightness. */
 #define ICYSIXEL_AUTO UINT32_MAX
 
-/* Palettes of encoded images. Indexed pixels have the given palette in each mode. */
+/* Palettes of encoded images. Indexed pixels use the given palette in each mode. */
 enum icysixel_palette_mode {
     ICYSIXEL_PALETTE_REFINED = 0,  /* that of icysixel_refine_palette, best for most images */
     ICYSIXEL_PALETTE_FARTHEST = 1, /* that of icysixel_choose_palette, which keeps rare colors */
@@ -257,7 +257,7 @@ enum icysixel_height {
 
 /* Kinds of dithering. */
 enum icysixel_dither {
-    ICYSIXEL_DITHER_OFF = 0,       /* none: each pixel gets its nearest entry */
+    ICYSIXEL_DITHER_OFF = 0,       /* none: with a tolerance of 0, the nearest entries */
     ICYSIXEL_DITHER_DIFFUSION = 1, /* error diffusion (Floyd and Steinberg), serpentine */
     ICYSIXEL_DITHER_ORDERED = 2    /* a fixed pattern, stable from frame to frame */
 };
@@ -353,8 +353,8 @@ size_t icysixel_get_rows_so_far(const icysixel *handle);
  * - ICYSIXEL_NO_SESSION if no image is open;
  * - ICYSIXEL_ROWS_NOT_FINAL if first + rows is above icysixel_get_rows_so_far;
  * - ICYSIXEL_ROWS_RELEASED if rows from `first` on were released;
- * - ICYSIXEL_BAD_STRIDE if the stride is shorter than a row or a pixel, or a row has more than
- *   SIZE_MAX bytes;
+ * - ICYSIXEL_BAD_STRIDE if the stride is shorter than a row or than 4 bytes, or a row has more
+ *   than SIZE_MAX bytes;
  * - ICYSIXEL_OVERFLOW if the rows overflow size_t;
  * - ICYSIXEL_BUFFER_TOO_SMALL. */
 uint32_t icysixel_copy_rows(const icysixel *handle, size_t first, size_t rows,
@@ -401,14 +401,14 @@ uint32_t icysixel_decode_payload(icysixel *handle, const uint8_t *bytes, size_t 
  * - ICYSIXEL_NO_IMAGE;
  * - ICYSIXEL_ROWS_NOT_FINAL if first + rows is above the height;
  * - ICYSIXEL_ROWS_RELEASED if `first` is less than `first_row` of the shape;
- * - ICYSIXEL_BAD_STRIDE if the stride is shorter than a row or a pixel, or a row has more than
- *   SIZE_MAX bytes;
+ * - ICYSIXEL_BAD_STRIDE if the stride is shorter than a row or than 4 bytes, or a row has more
+ *   than SIZE_MAX bytes;
  * - ICYSIXEL_OVERFLOW if the rows overflow size_t;
  * - ICYSIXEL_BUFFER_TOO_SMALL. */
 uint32_t icysixel_copy_pixels(const icysixel *handle, size_t first, size_t rows,
                               const icysixel_layout *layout, uint8_t *buf, size_t size);
 
-/* Transfers the pixels of the stored rows to the caller, with stride 0 and without a copy. `order`
+/* Transfers the pixels of the stored rows to the caller, without gaps and without a copy. `order`
  * is an enum icysixel_order. For BGRA red and blue are exchanged in place. The errors are
  * ICYSIXEL_BAD_OPTION and ICYSIXEL_NO_IMAGE. The call does not allocate, and does not free an
  * earlier block in `pixels`. Without a stored row `pixels` becomes zeros. The block stays valid
@@ -478,8 +478,8 @@ uint8_t icysixel_get_transparent(const icysixel *handle);
 
 /* Sets whether pixels that are not drawn are transparent in images that are begun or decoded
  * afterwards, whatever P2 says: 0 is off, any other number is on. `p2` of the shape stays that of
- * the sequence. So a multiplexer can encode an image again with its P2, and the user's background
- * is not painted in the color of register 0. */
+ * the sequence. So a multiplexer can encode an image again with its P2, and the terminal that shows
+ * it paints the background. */
 void icysixel_set_transparent(icysixel *handle, uint8_t on);
 
 /* Returns the register in which an image draws until it selects one. */
@@ -519,8 +519,8 @@ void icysixel_set_clip(icysixel *handle, size_t width, size_t height);
  *   distance of at most 12 to their nearest entry.
  * - A farthest palette has at most max_colors entries, where 1 is taken as 2 and a number above 256
  *   as 256. With it, dithering and tolerance are ignored.
- * - In a given palette pixels have the indices of icysixel_palette_indices. Indexed pixels have
- *   their own. With them, dithering and tolerance are ignored.
+ * - A given palette has color_count entries. Indexed pixels have their own indices. With them,
+ *   dithering and tolerance are ignored.
  *
  * With diffusion and a tolerance a pixel keeps the entry of an opaque neighbor, unless the nearest
  * entry is nearer by the tolerance or more. Neighbors are the pixel above in the same band of six
@@ -528,10 +528,14 @@ void icysixel_set_clip(icysixel *handle, size_t width, size_t height);
  *
  * Without diffusion a pixel has the cheapest of up to four entries: its nearest one, those of the
  * opaque pixels on the left and above in its band, and the nearest one of the opaque pixel on the
- * right. An entry costs twice its squared distance to the color of the pixel, which ordered
- * dithering has moved. The tolerance is added for each of the two adjacent columns that does not
- * contain the entry in this band. Nothing is added if the pixel above in the band has the entry. So
- * runs are longer, and the output is shorter.
+ * right. An entry costs twice its squared distance to the color of the pixel, as ordered dithering
+ * moves it. The tolerance is added for each of the two adjacent columns that does not contain the
+ * entry in this band. Nothing is added if the pixel above in the band has the entry. So runs are
+ * longer, and the output is shorter.
+ *
+ * In a palette of grays, the brightness of the pixels is mapped in place of their colors, and the
+ * mean squared error is that of the brightness. Only without dithering and with a tolerance other
+ * than ICYSIXEL_AUTO the colors are mapped.
  *
  * The errors, in this order, are:
  *
@@ -545,7 +549,7 @@ void icysixel_set_clip(icysixel *handle, size_t width, size_t height);
  * - ICYSIXEL_COLOR_COUNT for a refined palette if max_colors is above 256, and for a given one
  *   unless color_count is 1 to 256;
  * - ICYSIXEL_INDEX_RANGE if the index of an opaque pixel is not below color_count;
- * - ICYSIXEL_OUT_OF_MEMORY, which can come before the last two if pixels are copied.
+ * - ICYSIXEL_OUT_OF_MEMORY, which can precede the two above if pixels are copied.
  *
  * The call does not free an earlier block in `text`. icysixel_free_bytes frees the block, and so
  * does free(text->data) with the default memory functions. */
@@ -586,10 +590,10 @@ uint32_t icysixel_choose_palette(const uint8_t *pixels, size_t length, uint16_t 
  * The palette has at most max_colors entries, 1 to 256. Each channel of an entry is the byte of a
  * whole percentage. If there are no more opaque colors than max_colors, each has an entry: the
  * color, rounded to percentages. Otherwise the colors are divided into boxes, each time by the cut
- * that lowers the error most, and each box has an entry. Two rounds of Lloyd's algorithm move these
- * entries if that lowers the error. At least a sixteenth of max_colors, rounded down, is left for
- * further entries. They are chosen farthest first, until the palette is full or no color has a
- * squared distance above 6 to its nearest entry.
+ * that lowers the error most, where green counts twice. Each box has an entry. Two rounds of
+ * Lloyd's algorithm move these entries if that lowers the error. At least a sixteenth of
+ * max_colors, rounded down, is left for further entries. They are chosen farthest first, until the
+ * palette is full or no color has a squared distance above 6 to its nearest entry.
  *
  * `colors` and `indices` receive what those of icysixel_choose_palette receive. A buffer is too
  * small if `colors` has fewer than max_colors, or `indices` fewer than one byte for each pixel.
@@ -616,12 +620,12 @@ uint32_t icysixel_count_colors(const uint8_t *pixels, size_t length, icysixel_di
 
 /* Writes the palette index of each pixel in a given palette of 1 to 256 colors. It needs no handle.
  *
- * The pixels are rows of `width` without gaps. Without dithering and tolerance an opaque pixel has
- * the index of its nearest entry, the first of equals. In a palette of grays, the brightness of the
- * pixels is mapped, but their colors without dithering and with a tolerance other than
- * ICYSIXEL_AUTO. A transparent pixel has index 0, and its color has no effect. The tolerance is
- * that of icysixel_encoding. `indices` has a capacity of at least one byte for each pixel, and the
- * bytes after these are unchanged. The errors, in this order, are:
+ * The pixels are rows of `width` without gaps. With a tolerance of 0 and without dithering an
+ * opaque pixel has the index of its nearest entry, the first of equals. Otherwise its index is
+ * chosen as in icysixel_encode, in a palette of grays too. A transparent pixel has index 0, and its
+ * color has no effect. The tolerance is that of icysixel_encoding. `indices` has a capacity of at
+ * least one byte for each pixel, and the bytes after these are unchanged. The errors, in this
+ * order, are:
  *
  * - ICYSIXEL_BAD_OPTION;
  * - ICYSIXEL_BUFFER_TOO_SMALL;

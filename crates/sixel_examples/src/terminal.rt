@@ -21,7 +21,7 @@ pub struct Read {
 }
 
 impl Images {
-    /// Creates the images of a terminal with this background, and a screen in pixels.
+    /// Creates a receiver for a terminal with this background and this screen in pixels.
     ///
     /// The background is that of an opaque image.
     pub fn new(background: [u8; 3], width: usize, height: usize) -> Self {

@@ -34,8 +34,8 @@ gray_pixel pixels pixel =
 abbrev pub gray_pixels : List ℕ → List ℕ
 gray_pixels pixels = joined (gray_pixel pixels) (length pixels / 4)
 
--- the grays of an image are mapped to a palette of grays, but not without dithering by a tolerance
--- that is given
+-- the grays of an image are mapped to a palette of grays, unless it is undithered with a tolerance
+-- other than the automatic one
 abbrev pub maps_grays : Dither → Tolerance → List (List ℕ) → Bool
 maps_grays Off (Squared tolerance) colors = false
 maps_grays dither tolerance colors = are_gray colors (length colors)

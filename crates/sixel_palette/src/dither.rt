@@ -3,7 +3,7 @@
 /// Which color a pixel's entry is chosen for: its target.
 #[derive(Debug, Clone, Copy, PartialEq, Eq)]
 pub enum Dither {
-    /// The target of a pixel is its color.
+    /// The target of a pixel is its color, or its gray: see `palette_indices`.
     Off,
     /// Error diffusion by Floyd and Steinberg, in serpentine order.
     ///
@@ -27,7 +27,8 @@ pub enum Amplitude {
     /// Twice the square root of the palette's mean squared error over the opaque pixels.
     ///
     /// Evenly spaced levels are so far apart. A palette that is refined for the image has half of
-    /// that. It is rounded down, and at most 255.
+    /// that. It is rounded down, and at most 255. In a palette of grays the error is that of the
+    /// brightness.
     Auto,
     /// A number of the 256 levels. 0 and 1 move nothing.
     ///

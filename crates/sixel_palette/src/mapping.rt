@@ -28,7 +28,7 @@ pub enum Tolerance {
     /// The mean squared error of the palette, by a pattern twice and without dithering three times.
     ///
     /// The mean is over the opaque pixels, and taken as at least 12. The tolerance is 0 if each of
-    /// their colors is an entry. In a palette of grays it is that of their brightness.
+    /// their colors is an entry. In a palette of grays the error is that of the brightness.
     Auto,
     /// A squared distance. With 0 each pixel has the nearest entry.
     Squared(u32),

@@ -218,9 +218,11 @@ impl<'a> Encoding<'a> {
 /// # Ok::<(), icy_sixel::SixelError>(())
 /// ```
 ///
-/// The pixels are rows of `width`, four bytes each. Without dithering and tolerance each opaque
-/// pixel has the index of its nearest entry, the first of equals. A transparent pixel has index 0,
-/// and its color has no effect.
+/// The pixels are rows of `width`, four bytes each. With `Tolerance::Squared(0)` and `Dither::Off`
+/// each opaque pixel has the index of its nearest entry, the first of equals. In a palette of grays
+/// the brightness of the pixels is mapped in place of their colors, but with `Dither::Off` and
+/// `Tolerance::Squared` their colors are. A transparent pixel has index 0, and its color has no
+/// effect.
 ///
 /// # Errors
 ///
