@@ -187,16 +187,16 @@ enum icysixel_code {
     /* about the caller's numbers and buffers */
     ICYSIXEL_BAD_OPTION = 5,       /* an enum does not have the number, or two options conflict */
     ICYSIXEL_BUFFER_TOO_SMALL = 6, /* the buffer is smaller than the documented size */
-    ICYSIXEL_BAD_STRIDE = 7,       /* it is shorter than a row */
+    ICYSIXEL_BAD_STRIDE = 7,       /* it is shorter than a row or a pixel */
     /* about memory and sizes */
     ICYSIXEL_OUT_OF_MEMORY = 8,
     ICYSIXEL_OVERFLOW = 9,         /* a size overflows its type, as with too many new lines */
     ICYSIXEL_BAD_DIMENSIONS = 10,  /* a size is zero, or above the limits of the format */
-    ICYSIXEL_BUFFER_MISMATCH = 11, /* the sizes need more pixels, or the last pixel is incomplete */
+    ICYSIXEL_BUFFER_MISMATCH = 11, /* too few pixels, or an incomplete pixel or row at the end */
     /* about SIXEL data */
     ICYSIXEL_NO_SIXEL_DATA = 12,     /* the data do not begin with an introducer, ESC P or 0x90 */
     ICYSIXEL_MALFORMED = 13,         /* a limit is exceeded, or a control ends the header */
-    ICYSIXEL_TOO_LARGE = 14,         /* the image has more pixels than the decoder's limit */
+    ICYSIXEL_TOO_LARGE = 14,         /* the image has more pixels than the limit */
     ICYSIXEL_BAD_HEADER = 15,        /* the header has an invalid byte: another DCS sequence */
     ICYSIXEL_MISSING_COMMAND = 16,   /* the data end in the header; from icysixel_decode only */
     ICYSIXEL_INCOMPLETE = 17,        /* the DCS sequence has no terminator yet */
@@ -273,7 +273,7 @@ enum icysixel_status {
     ICYSIXEL_MORE = 0,        /* feed the next chunk */
     ICYSIXEL_COMPLETE = 1,    /* the image has ended: finish */
     ICYSIXEL_CANCELLED = 2,   /* CAN or SUB, in `byte`, ended a DCS sequence: finish or abort */
-    ICYSIXEL_INTERRUPTED = 3, /* another control, `byte`, ended a DCS sequence: finish or abort */
+    ICYSIXEL_INTERRUPTED = 3, /* ESC or C1, in `byte`, ended a DCS sequence: finish or abort */
     ICYSIXEL_ROWS = 4         /* from icysixel_feed_band: rows became final; feed the next bytes */
 };
 
@@ -368,8 +368,8 @@ uint32_t icysixel_release_rows(icysixel *handle, size_t rows);
 
 /* Closes the open image, stores it and writes its properties. It replaces an image that is stored.
  * Rows that were released are not stored. The decoder takes over the image's registers.
- * `is_complete` is 1 if the image has ended: by its terminator or by another control byte. The
- * image of a payload that has not ended is stored, too. The errors are those of icysixel_feed, and
+ * `is_complete` is 1 if the image has ended: complete, cancelled or interrupted. The image of a
+ * payload that has not ended is stored, too. The errors are those of icysixel_feed, and
  * ICYSIXEL_INCOMPLETE for a DCS sequence without terminator. An error closes the image too. Then no
  * image is stored and no register changes. */
 uint32_t icysixel_finish(icysixel *handle, icysixel_shape *shape);
@@ -528,14 +528,14 @@ void icysixel_set_clip(icysixel *handle, size_t width, size_t height);
  *
  * Without diffusion a pixel has the cheapest of up to four entries: its nearest one, those of the
  * opaque pixels on the left and above in its band, and the nearest one of the opaque pixel on the
- * right. An entry costs twice its squared distance to the color of the pixel, as ordered dithering
- * moves it. The tolerance is added for each of the two adjacent columns that does not contain the
+ * right. An entry costs twice its squared distance to the pixel's color, after any ordered
+ * dithering. The tolerance is added for each of the two adjacent columns that does not contain the
  * entry in this band. Nothing is added if the pixel above in the band has the entry. So runs are
  * longer, and the output is shorter.
  *
  * In a palette of grays, the brightness of the pixels is mapped in place of their colors, and the
- * mean squared error is that of the brightness. Only without dithering and with a tolerance other
- * than ICYSIXEL_AUTO the colors are mapped.
+ * mean squared error is that of the brightness. The colors are mapped only without dithering and
+ * with a tolerance other than ICYSIXEL_AUTO.
  *
  * The errors, in this order, are:
  *
@@ -571,14 +571,15 @@ uint32_t icysixel_encode(const uint8_t *pixels, size_t length, const icysixel_en
  * `colors` receives the entries. `indices` receives one byte for each pixel: the index of its
  * nearest entry, the first of equals, and 0 for a transparent pixel. `witnesses` receives the
  * certificate, unless every opaque color is an entry. The certificate is a list of opaque colors,
- * one more than there are entries, each two of them at least `error` apart. In any palette of that
- * size two of them share an entry, so its error is at least a fourth of `error`.
+ * one more than there are entries, each two of them at least `error` apart. In any palette with as
+ * many entries two of these colors share an entry, so its error is at least a fourth of `error`.
  *
  * The capacities are in colors, and in bytes for the indices. The errors are
  * ICYSIXEL_BUFFER_MISMATCH if `length` is no multiple of four, ICYSIXEL_OUT_OF_MEMORY, and
  * ICYSIXEL_BUFFER_TOO_SMALL. A buffer is too small if `colors` has fewer than max_colors,
- * `witnesses` fewer than max_colors + 1, or `indices` fewer than one byte for each pixel. Here a
- * max_colors of 0 or 1 counts as 2. What the palette does not fill is unchanged. */
+ * `witnesses` fewer than max_colors + 1, or `indices` fewer than one byte for each pixel. Here,
+ * too, a max_colors of 0 or 1 counts as 2, and one above 256 as 256. What the palette does not fill
+ * is unchanged. */
 uint32_t icysixel_choose_palette(const uint8_t *pixels, size_t length, uint16_t max_colors,
                                  icysixel_color *colors, size_t color_capacity,
                                  icysixel_color *witnesses, size_t witness_capacity,
