@@ -86,6 +86,9 @@ impl Header {
         requires index { index < self.now.depth }
         ensures { result ≡ level self.now.maxval pixel.now index }
     {
+        if self.maxval == 255 {
+            return pixel[index];
+        }
         let sample = if self.maxval < 256 {
             usize::from(pixel[index])
         } else {
