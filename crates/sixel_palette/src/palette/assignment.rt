@@ -40,7 +40,7 @@ pub fn assign(
 {
     let mut colors = Vec::with_capacity(alloc, entries.len())?;
     colors.extend_from_slice(entries)?;
-    let traversal = traversal_of(alloc, codes, entries)?;
+    let traversal = nearest_among(alloc, codes, entries)?;
     let error = summed(counts, &traversal.squares);
     Ok(Assignment {
         colors,
@@ -52,7 +52,11 @@ pub fn assign(
 /// Each color's nearest entry.
 ///
 /// A search among the entries pays if there are more colors than cubes that it makes lists for.
-fn traversal_of(alloc: Global, codes: &[u32], colors: &[[u8; 3]]) -> Result<Traversal, AllocError>
+pub fn nearest_among(
+    alloc: Global,
+    codes: &[u32],
+    colors: &[[u8; 3]],
+) -> Result<Traversal, AllocError>
     requires small { AreColorCodes codes.now }
     requires few { length colors.now ≤ 256 }
     ensures whole { IfOk result (IsTraversal codes.now) }

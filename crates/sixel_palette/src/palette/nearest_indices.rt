@@ -3,8 +3,8 @@
 ghost use Rattle.std.specs.Prelude.{ℕ, ◌<◌, ◌≤◌, length, All, IfOk, slice_index};
 ghost use Rattle.sixel_palette.specs.Palette.{AreIndices};
 
+use crate::palette::assignment::nearest_among;
 use crate::palette::color_set::ColorSet;
-use crate::palette::farthest::Traversal;
 use crate::palette::indices::indices_of;
 use std::alloc::{AllocError, Global};
 
@@ -21,7 +21,7 @@ pub fn nearest_indices(
     ensures { IfOk result (λ indices. AreIndices pixels.now colors.now indices.items) }
 {
     let shown = ColorSet::of(alloc, pixels)?;
-    let traversal = Traversal::among(alloc, &shown.codes, colors)?;
+    let traversal = nearest_among(alloc, &shown.codes, colors)?;
     color_bytes(colors);
     Ok(indices_of(alloc, pixels, &shown, &traversal.indices)?)
 }
