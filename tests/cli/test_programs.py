@@ -74,11 +74,21 @@ HUES = [
     ("-d none -t 83601", STRIPES, 7 * [255]),
 ]
 
-# Tints whose refined palette of two has the grays 115 and 204. Their own grays are 130, 97, 221 and
-# 186, at the squared distances 675, 972, 867 and 972. The root of the mean is 29, so the pattern
-# moves a gray by at most 14, and none gets the other entry. By the colors it would be 75, and the
-# pattern would move the gray of pixel 11 by 29, so that 115 is nearer.
-TINTS = [(72, 156, 156), (156, 72, 72), (159, 249, 249), (249, 159, 159)]
+# Tints whose refined palette of two has the grays 130 and 199. Their own grays are 139, 118, 211 and
+# 184, at the squared distances 243, 432, 432 and 675. The root of the mean is 21, so the pattern
+# moves a gray by at most 10, and none gets the other entry. By the colors the mean is 2650. A quarter
+# of it is 662, so the gray 184 would not stay. The amplitude would be 51, and the pattern would move
+# the gray of pixel 11 by 20, so that 130 is nearer.
+TINTS = [(103, 155, 155), (155, 103, 103), (165, 231, 231), (231, 165, 165)]
+
+# Strengths, a row of grays, and how it is drawn in black and the gray 204 by ordered dithering. The
+# mean squared errors are 20009 and 20004, so the automatic amplitude is 255. It moves the last
+# pixel up by 110, unless its squared distance to black is at most 12.
+NEAR = [
+    ("", [100, 100, 3], [0, 0, 204]),
+    ("", [100, 100, 2], [0, 0, 0]),
+    ("-s 255", [100, 100, 2], [0, 0, 204]),
+]
 
 # The most colors of a palette, and by how many 32nds its entries are spread for diffusion.
 SPREADS = [(65, 0), (64, 1), (17, 1), (16, 2), (3, 2), (2, 16)]
@@ -164,7 +174,8 @@ class TestPrograms(ProgramTest):
 
     def test_black_and_white(self):
         """Strengths, tolerances and their defaults in a given palette."""
-        noise = random.Random(1).randbytes(20000)
+        # No gray is so near to an entry that it stays.
+        noise = bytes(3 + it % 250 for it in random.Random(1).randbytes(20000))
         error = sum(3 * min(it, 255 - it) ** 2 for it in noise) // len(noise)
         levels, picture = math.isqrt(4 * error), b"P5 200 100 255\n" + noise
         with tempfile.NamedTemporaryFile() as file:
@@ -182,6 +193,17 @@ class TestPrograms(ProgramTest):
                 ]
                 self.assertEqual(ordered[0], ordered[1])
                 self.assertNotEqual(ordered[0], ordered[2])
+
+    def test_near_colors(self):
+        """The automatic pattern moves no color that is near to an entry."""
+        with tempfile.NamedTemporaryFile() as file:
+            Path(file.name).write_bytes(b"P5 2 1 255\n\0\xcc")
+            for program, (words, grays, drawn) in itertools.product(self.builds(), NEAR):
+                with self.subTest(program=program.name, words=words, grays=grays):
+                    words += f" -d ordered -t 0 -p {file.name}"
+                    text = self.drawn(program, words, b"P5 3 1 255\n" + bytes(grays))
+                    pixels = run(program, "pam", stdin=text)[1].split(b"ENDHDR\n")[1]
+                    self.assertEqual(list(pixels[:12:4]), drawn)
 
     def test_hues(self):
         """In grays the brightness is drawn. Only undithered pixels with `-t` keep their colors."""
@@ -201,7 +223,7 @@ class TestPrograms(ProgramTest):
             with self.subTest(program=program.name):
                 text = self.drawn(program, "-c 2 -d ordered -t 0", picture)
                 pixels = run(program, "pam", stdin=text)[1].split(b"ENDHDR\n")[1]
-                self.assertEqual(list(pixels[: 4 * 32 : 4]), 8 * [115, 115, 204, 204])
+                self.assertEqual(list(pixels[: 4 * 32 : 4]), 8 * [130, 130, 199, 199])
 
     def test_spread(self):
         """Few entries are spread for diffusion, as the model says, but not those of flat art."""

@@ -56,8 +56,14 @@ def automatic_tolerance(kind, colors, pixels):
     return max(12, mean) * {OFF: 3, ORDERED: 2, DIFFUSION: 1}[kind] if has_error else 0
 
 
-def automatic_amplitude(colors, pixels):
-    return min(math.isqrt(4 * mean_error(colors, pixels)[0]), 255)
+def automatic_pattern(colors, pixels, is_refined=False):
+    """The amplitude for a palette, and the squared distance below which a color stays."""
+    mean, _ = mean_error(colors, pixels)
+    amplitude = math.isqrt(mean if is_refined else 4 * mean)
+    return {
+        "amplitude": min(amplitude, 255),
+        "limit": 1 + (mean // 4 if is_refined else min(mean // 4, 12)),
+    }
 
 
 def chosen(colors, color, tolerance, neighbors):
@@ -120,10 +126,14 @@ def cheapest(width, pixels, colors, tolerance=0):
     return indices
 
 
-def ordered(width, pixels, colors, amplitude, tolerance=0):
+def ordered(width, pixels, colors, amplitude, limit=0, tolerance=0):
     """The undithered indices of colors that are moved by the pattern, of grays alike."""
     shift = 0 if are_gray(colors) else 112
-    target = [(*moved(width, at, it, amplitude, shift), it[3]) for at, it in enumerate(pixels)]
+    target = []
+    for place, pixel in enumerate(pixels):
+        stays = limit and distance(colors[nearest(colors, pixel)], pixel) < limit
+        color = pixel[:3] if stays else moved(width, place, pixel, amplitude, shift)
+        target.append((*color, pixel[3]))
     return cheapest(width, target, colors, tolerance)
 
 
@@ -229,7 +239,7 @@ class PaletteTest(unittest.TestCase):
             cases += [(DIFFUSION, amount, it, it | strength) for it in (exact, kept)]
             automatic = [
                 (OFF, amount, {}),
-                (ORDERED, 0, {"amplitude": automatic_amplitude(colors, shades)}),
+                (ORDERED, 0, automatic_pattern(colors, shades)),
                 (DIFFUSION, 0, {"strength": 7}),
             ]
             for kind, number, options in automatic:
@@ -285,9 +295,24 @@ class PaletteTest(unittest.TestCase):
             with self.subTest(name, program=program.name, words=words):
                 drawn = run(program, *words, stdin=b"P6 96 64 255\n" + data)[1]
                 self.assertEqual(encoded(data, encoding), drawn)
-                if kind == ORDERED and amount == 0 and most in ERRORS[name]:
-                    encoding.amount = math.isqrt(ERRORS[name][most] // len(pixels))
-                    self.assertEqual(encoded(data, encoding), drawn)
+
+    def test_automatic_pattern(self):
+        """In a refined palette, the pattern's amplitude and its limit are the model's."""
+        for name, pixels in pictures().items():
+            data = bytes(itertools.chain(*pixels))
+            parts, found = (ctypes.create_string_buffer(it) for it in (48, len(pixels)))
+            call(
+                "icysixel_refine_palette", pixels, len(data), 16, parts, 16, found, len(pixels),
+                ctypes.byref(Refined()),
+            )
+            colors = [tuple(parts.raw[it : it + 3]) for it in range(0, 48, 3)]
+            pattern = automatic_pattern(colors, pixels, is_refined=True)
+            options = {"width": 96, "height": 64, "form": COMPACT}
+            indices = bytes(ordered(96, pixels, colors, **pattern))
+            encoding = Encoding(kind=ORDERED, max_colors=16, **options)
+            listed = Encoding(format=INDEXED, **options).given(colors, REFINED)
+            with self.subTest(name):
+                self.assertEqual(encoded(data, encoding), encoded(indices, listed))
 
     def test_error(self):
         """The summed error of a refined palette is at most 1 % above the model's."""

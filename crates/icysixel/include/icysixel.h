@@ -143,7 +143,9 @@ typedef struct {
 
 /* How each pixel gets an entry of the palette. Zeros mean no dithering. An amount of 0 means the
  * default. For diffusion it is 7. For ordered dithering it is the square root of the palette's mean
- * squared error, and twice that root in a given palette. */
+ * squared error, and twice that root in a given palette. With this default, a color is not moved if
+ * its squared distance to the nearest entry is at most a quarter of the mean squared error. In a
+ * given palette, as in icysixel_palette_indices, it is also at most 12. */
 typedef struct {
     uint8_t kind;   /* an enum icysixel_dither */
     uint8_t amount; /* diffusion: eighths of the error; ordered: the amplitude in levels; or 0 */

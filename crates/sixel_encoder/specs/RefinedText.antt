@@ -40,7 +40,7 @@ pub record IsRefinedText (image : Image) (max_colors : ℕ) (mapping : Mapping) 
   pub spread : colors
       ≡ spread_entries (spread_amount mapping.dither max_colors) (opaque_pixels image.pixels)
       palette.colors.items
-  pub text : IsPaletteText image colors (refined_mapping mapping colors image.pixels) form bytes
+  pub text : IsPaletteText image colors (refined_mapping mapping) form bytes
   pub exact : ShowsEntries (indexed_drawing image colors text.indices)
 
 -- how many colors there may be beside a background: at least one
@@ -66,8 +66,7 @@ pub record IsBackgroundText (image : Image) (background : Background) (mapping :
       ≡ spread_entries (spread_amount mapping.dither (others_of background.max_colors))
       (opaque_pixels image.pixels) palette.colors.items
   pub indices : List ℕ
-  pub dithered : AreDithered (refined_mapping mapping colors image.pixels) image.width image.pixels
-      colors indices
+  pub dithered : AreDithered (refined_mapping mapping) image.width image.pixels colors indices
   pub text : IsTextOf form
       (indexed_drawing (on_background image) (background.color ∷ colors) (map next_index indices))
       bytes

@@ -3,25 +3,25 @@
 -- pixel has the entry that is nearest to its target, its color with the errors that it receives,
 -- or it keeps the entry of a neighbor that is hardly farther. This diffusion is that of R. W. Floyd
 -- and L. Steinberg, "An adaptive algorithm for spatial greyscale", Proceedings of the Society for
--- Information Display 17 (1976), 75-77, in serpentine order and in whole sixteenths. The pattern of
--- ordered dithering is that of Ø. Kolås, "a dither" (2013).
+-- Information Display 17 (1976), 75-77, in serpentine order and in whole sixteenths.
 use Rattle.std.specs.{Option.option_or, Prelude.{◌≡◌, ℕ, zero, suc, ◌+◌, ◌-◌, ◌*◌, ◌/◌, ◌%◌, ◌<◌}}
 use Rattle.std.specs.Prelude.{◌≤◌, ◌==◌, nat_le, nat_lt, min, max, if◌then◌else◌, List, [], ◌∷◌}
-use Rattle.std.specs.Prelude.{◌++◌, length, slice_index, slice_index_or, Option, Some, None}
+use Rattle.std.specs.Prelude.{length, slice_index, slice_index_or, Option, Some, None}
 use Rattle.sixel_base.specs.CallFault.{CallFault, color_count_fault, size_call_fault}
-use Rattle.sixel_base.specs.Picture.{joined}
 use Rattle.sixel_base.specs.declared.error.SixelError.{SixelError}
 use Rattle.sixel_base.specs.declared.error.SixelError.TheVariants.{InvalidDimensions}
 use Rattle.sixel_base.specs.declared.error.SixelError.TheVariants.{BufferSizeMismatch}
-use Rattle.sixel_palette.specs.{Gray.{are_gray, source_pixels}, Palette.AreIndices}
+use Rattle.sixel_palette.specs.{Gray.source_pixels, Palette.AreIndices}
 use Rattle.sixel_palette.specs.Palette.{IsNearest, IsOpaque, color_at, entry_distance, entry_of}
-use Rattle.sixel_palette.specs.{Palette.nearest, Refined.{opaque_pixels, sum_to, summed_error}}
+use Rattle.sixel_palette.specs.{Palette.nearest, Pattern.{Pattern, moved_pixels}}
+use Rattle.sixel_palette.specs.Refined.{opaque_pixels, sum_to, summed_error}
 use Rattle.sixel_palette.specs.Undithered.{AreChosen, Undithered}
 use Rattle.sixel_palette.specs.declared.{dither.Amplitude.Amplitude, dither.Dither.Dither}
 use Rattle.sixel_palette.specs.declared.dither.Dither.TheVariants.{Off, Diffusion, Ordered}
 use Rattle.sixel_palette.specs.declared.{mapping.Mapping.Mapping, mapping.Tolerance.Tolerance}
 use Rattle.sixel_palette.specs.declared.mapping.Tolerance.TheVariants.{Auto, Squared}
 use Rattle.sixel_palette.specs.declared.dither.Amplitude.TheVariants.{Auto as AutoAmplitude, Levels}
+use Rattle.sixel_palette.specs.declared.dither.Amplitude.TheVariants.{Refined as RefinedAmplitude}
 
 -- ---- errors of a call
 
@@ -110,44 +110,6 @@ pub record HasTarget (m : Mapped) (target : List ℕ) (indices : List ℕ) (n : 
 
 -- ---- ordered dithering
 
--- a number from 0 to 255 for each place, in the pattern shifted by some columns
-abbrev pub threshold : ℕ → ℕ → ℕ → ℕ
-threshold column row shift = (column + 237 * row + shift) * 119 % 256
-
--- by how many columns the pattern of each channel is shifted: not in a palette of grays, in which
--- the gray of a pixel stays gray
-abbrev pub shift_of : List (List ℕ) → ℕ
-shift_of colors = if are_gray colors (length colors) then 0 else 112
-
--- A channel moved by the threshold's part of the amplitude, from half of it down to half of it up:
--- by (2 * threshold - 255) * amplitude / 512, rounded to a whole number, within a byte. The 65536
--- and the 128 keep the numbers natural, and the 256 rounds.
-abbrev pub moved_channel : ℕ → ℕ → ℕ → ℕ
-moved_channel amplitude threshold value =
-    min 255 (value + (2 * threshold * amplitude + 256 + (65536 - 255 * amplitude)) / 512 - 128)
-
--- a channel of a pixel, moved
-abbrev pub moved_at : ℕ → ℕ → ℕ → ℕ → ℕ → ℕ
-moved_at amplitude width pixel shift value =
-    moved_channel amplitude (threshold (pixel % width) (pixel / width) shift) value
-
--- its color, and its bytes
-abbrev pub moved_color : ℕ → ℕ → ℕ → ℕ → List ℕ → List ℕ
-moved_color amplitude shift width pixel c =
-    moved_at amplitude width pixel 0 (slice_index c 0)
-    ∷ moved_at amplitude width pixel shift (slice_index c 1)
-    ∷ moved_at amplitude width pixel (2 * shift) (slice_index c 2) ∷ []
-
-abbrev pub moved_pixel : ℕ → ℕ → ℕ → List ℕ → ℕ → List ℕ
-moved_pixel amplitude shift width pixels pixel =
-    moved_color amplitude shift width pixel (color_at pixels pixel)
-    ++ (slice_index pixels (4 * pixel + 3) ∷ [])
-
--- the pixels of an image whose colors are moved
-abbrev pub moved_pixels : ℕ → ℕ → ℕ → List ℕ → List ℕ
-moved_pixels amplitude shift width pixels =
-    joined (moved_pixel amplitude shift width pixels) (length pixels / 4)
-
 -- the same mapping of other pixels
 abbrev pub with_pixels : Mapped → List ℕ → Mapped
 with_pixels m pixels = record {
@@ -158,9 +120,8 @@ with_pixels m pixels = record {
   tolerance = m.tolerance;
 }
 
-abbrev pub moved_image : Mapped → ℕ → Mapped
-moved_image m amplitude =
-    with_pixels m (moved_pixels amplitude (shift_of m.colors) m.width m.pixels)
+abbrev pub moved_image : Mapped → Pattern → Mapped
+moved_image m pattern = with_pixels m (moved_pixels pattern m.width m.pixels)
 
 -- ---- error diffusion
 
@@ -311,27 +272,38 @@ unfoldable pub root : ℕ → ℕ → ℕ
 root number zero = 0
 root number (suc n) = if nat_le (suc n * suc n) number then suc n else root number n
 
--- the amplitude for a palette: the distance of evenly spaced levels with this mean error
+-- the amplitude for a palette: the distance of evenly spaced levels with this mean error, and half
+-- of that if the palette is refined for the image
 abbrev pub amplitude_of : Amplitude → List (List ℕ) → List ℕ → ℕ
 amplitude_of (Levels amplitude) colors pixels = amplitude
 amplitude_of AutoAmplitude colors pixels = root (4 * mean_error colors pixels) 255
+amplitude_of RefinedAmplitude colors pixels = root (mean_error colors pixels) 255
 
--- in a palette that is refined for the image the automatic amplitude is half of that
-abbrev pub refined_dither : Dither → List (List ℕ) → List ℕ → Dither
-refined_dither (Ordered AutoAmplitude) colors pixels =
-    Ordered (Levels (root (mean_error colors pixels) 255))
-refined_dither dither colors pixels = dither
+-- a color stays if its squared distance is below this: one more than a quarter of the mean error,
+-- which is taken as at most 12 unless the palette is refined for the image
+abbrev pub limit_of : Amplitude → List (List ℕ) → List ℕ → ℕ
+limit_of (Levels amplitude) colors pixels = 0
+limit_of AutoAmplitude colors pixels = min 12 (mean_error colors pixels / 4) + 1
+limit_of RefinedAmplitude colors pixels = mean_error colors pixels / 4 + 1
 
--- so are pixels mapped, which are those of the image or its grays
-abbrev pub mapping_from : Mapping → List (List ℕ) → List ℕ → Mapping
-mapping_from mapping colors source = record {
-  dither = refined_dither mapping.dither colors source;
-  tolerance = mapping.tolerance;
+-- the pattern for a palette
+abbrev pub pattern_of : Amplitude → List (List ℕ) → List ℕ → Pattern
+pattern_of amplitude colors pixels = record {
+  colors = colors;
+  amplitude = amplitude_of amplitude colors pixels;
+  limit = limit_of amplitude colors pixels;
 }
 
-abbrev pub refined_mapping : Mapping → List (List ℕ) → List ℕ → Mapping
-refined_mapping mapping colors pixels =
-    mapping_from mapping colors (source_pixels mapping colors pixels)
+-- how pixels are mapped to a palette that is refined for them
+abbrev pub refined_dither : Dither → Dither
+refined_dither (Ordered AutoAmplitude) = Ordered RefinedAmplitude
+refined_dither dither = dither
+
+abbrev pub refined_mapping : Mapping → Mapping
+refined_mapping mapping = record {
+  dither = refined_dither mapping.dither;
+  tolerance = mapping.tolerance;
+}
 
 -- how many eighths of an error a kind of dithering passes on
 abbrev pub strength_of : Dither → ℕ
@@ -368,7 +340,7 @@ HaveChoice m indices =
 abbrev pub HaveIndices : Dither → Mapped → List ℕ → Type 0
 HaveIndices Off m indices = HaveChoice m indices
 HaveIndices (Ordered amplitude) m indices =
-    HaveChoice (moved_image m (amplitude_of amplitude m.colors m.pixels)) indices
+    HaveChoice (moved_image m (pattern_of amplitude m.colors m.pixels)) indices
 HaveIndices (Diffusion strength) m indices = AreDiffused m indices
 
 -- so it is in a palette

@@ -3,6 +3,7 @@ pub mod GainCut
 pub mod Lloyd
 pub mod Palette
 pub mod PaletteBound
+pub mod Pattern
 pub mod Refined
 pub mod Spread
 pub mod inside

@@ -26,11 +26,18 @@ pub enum Dither {
 pub enum Amplitude {
     /// Twice the square root of the palette's mean squared error over the opaque pixels.
     ///
-    /// Evenly spaced levels are so far apart. A palette that is refined for the image has half of
-    /// that. It is rounded down, and at most 255. In a palette of grays the error is that of the
-    /// brightness.
+    /// Evenly spaced levels are so far apart. It is rounded down, and at most 255. In a palette of
+    /// grays the error is that of the brightness. A color is not moved if its squared distance to
+    /// the nearest entry is at most 12 and at most a quarter of the mean. `encode_refined` takes it
+    /// as `Refined`.
     Auto,
-    /// A number of the 256 levels. 0 and 1 move nothing.
+    /// The square root of the mean squared error, for palettes refined for the image.
+    ///
+    /// The error is that of `Auto`. A color is not moved if its squared distance to the nearest
+    /// entry is at most a quarter of the mean. Among evenly spaced levels, the pattern would not
+    /// change its entry.
+    Refined,
+    /// A number of the 256 levels, for all colors. 0 and 1 move nothing.
     ///
     /// The distance of neighboring entries suits a fixed palette, as 51 six equal levels.
     Levels(u8),

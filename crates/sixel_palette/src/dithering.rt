@@ -31,8 +31,8 @@ use crate::dithering::diffusion::diffused_indices;
 use crate::dithering::gray::{gray_pixels, maps_grays};
 use crate::dithering::mapped::MappedImage;
 use crate::dithering::nearest::Nearest;
-use crate::dithering::ordered::ordered_indices;
-use crate::dithering::palette_error::{amplitude_of, refined_mapping, tolerance_of};
+use crate::dithering::ordered::{Pattern, ordered_indices};
+use crate::dithering::palette_error::{pattern_of, tolerance_of};
 use crate::dithering::undithered::chosen_indices;
 use crate::mapping::{Mapping, Tolerance};
 use crate::palette::nearest_indices::{color_bytes, nearest_indices};
@@ -150,8 +150,8 @@ pub struct RefinedMapping {
 
 /// Refines a palette of at most `room` entries for whole rows of pixels, and maps them to it.
 ///
-/// A palette of at most 64 entries is spread for error diffusion, unless the image is flat art. An
-/// automatic amplitude is half of that in a given palette.
+/// A palette of at most 64 entries is spread for error diffusion, unless the image is flat art.
+/// `Amplitude::Auto` is taken as `Amplitude::Refined`.
 pub fn map_to_refined(
     alloc: Global,
     pixels: &[u8],
@@ -176,12 +176,12 @@ pub fn map_to_refined(
         → IsOpaque pixels.now pixel
         → slice_index it.indices.items pixel < length it.colors.items) }
     ensures dithered { IfOk result (λ it.
-        AreDithered (refined_mapping mapping it.colors.items pixels.now) width pixels.now
-        it.colors.items it.indices.items) }
+        AreDithered (refined_mapping mapping) width pixels.now it.colors.items it.indices.items) }
 {
     let amount = spread_amount(mapping.dither, room);
     let refinement = Refinement::of(alloc, pixels, room, amount)?;
     let image = MappedImage::plain(pixels, width, &refinement.entries.colors);
+    let mapping = refined_mapping(mapping);
     let indices = indices_from(alloc, &image, Nearest::Refined(&refinement), mapping)?;
     Ok(RefinedMapping {
         colors: refinement.entries.colors,
@@ -200,14 +200,13 @@ fn indices_from(
     requires strength { image.now.strength ≤ 8 }
     requires nearest { HasNearest image.now nearest }
     ensures { IfOk result (λ indices.
-        AreDithered (refined_mapping mapping image.now.colors.now image.now.pixels.now)
-        image.now.width image.now.pixels.now image.now.colors.now indices.items) }
+        AreDithered mapping image.now.width image.now.pixels.now image.now.colors.now
+        indices.items) }
 {
     if image.colors.is_empty() {
         return Ok(nearest.indices(alloc, image)?);
     }
     if !maps_grays(mapping, image.colors) {
-        let mapping = refined_mapping(image, &nearest, mapping);
         return mapped_indices(alloc, image, nearest, mapping);
     }
     let grays = gray_pixels(alloc, image.pixels)?;
@@ -216,8 +215,24 @@ fn indices_from(
         pixels: &grays,
         ..*image
     };
-    let mapping = refined_mapping(&image, &nearest, mapping);
     mapped_indices(alloc, &image, nearest, mapping)
+}
+
+/// Returns how pixels are mapped to a palette that is refined for them.
+fn refined_mapping(mapping: Mapping) -> Mapping
+    ensures { result ≡ refined_mapping mapping }
+{
+    match mapping.dither {
+        Dither::Ordered {
+            amplitude: Amplitude::Auto,
+        } => Mapping {
+            dither: Dither::Ordered {
+                amplitude: Amplitude::Refined,
+            },
+            ..mapping
+        },
+        _ => mapping,
+    }
 }
 
 /// Returns the index of each pixel for its target.
@@ -250,7 +265,11 @@ fn searched_indices(
                 tolerance,
                 ..*image
             };
-            ordered_indices(alloc, &image, amplitude)
+            let pattern = Pattern {
+                amplitude,
+                limit: 0,
+            };
+            ordered_indices(alloc, &image, &[], pattern)
         }
         _ => {
             let nearest = nearest_indices(alloc, image.pixels, image.colors)?;
@@ -284,8 +303,9 @@ fn mapped_indices(
             chosen_indices(alloc, &image, nearest)
         }
         Dither::Ordered { amplitude } => {
-            let amplitude = amplitude_of(&image, &nearest, amplitude);
-            ordered_indices(alloc, &image, amplitude)
+            let pattern = pattern_of(&image, &nearest, amplitude);
+            let nearest = nearest.indices(alloc, &image)?;
+            ordered_indices(alloc, &image, &nearest, pattern)
         }
         // Each pixel's color is an entry, so there is nothing to pass on.
         Dither::Diffusion { .. } if tolerance == 0 && mapping.tolerance == Tolerance::Auto => {

@@ -25,6 +25,28 @@ fn tolerances() {
     }
 }
 
+/// By an automatic amplitude, a color that is near to an entry is not moved.
+#[test]
+fn near_colors() {
+    let colors = [[0; 3], [204; 3]];
+    // The mean squared errors of the rows are 20004, 20009, 21600 and 22025. An amplitude of 255
+    // moves the last pixel up by 110, one of 146 by 63, and one of 148 by 64.
+    let runs = [
+        (2, Amplitude::Auto, 0),
+        (3, Amplitude::Auto, 1),
+        (40, Amplitude::Auto, 1),
+        (40, Amplitude::Refined, 0),
+        (40, Amplitude::Levels(146), 1),
+        (45, Amplitude::Refined, 1),
+    ];
+    for (gray, amplitude, index) in runs {
+        let pixels: Vec<u8> = [100, 100, gray].iter().flat_map(|it| [*it, *it, *it, 255]).collect();
+        let mapping = exact(Dither::Ordered { amplitude });
+        let found = palette_indices(&pixels, 3, &colors, mapping).unwrap();
+        assert_eq!(found, [0, 0, index], "{gray} {amplitude:?}");
+    }
+}
+
 /// With more colors than entries the buffers of entries and of witnesses are full, and the entries
 /// are those of the text.
 #[test]

@@ -86,6 +86,7 @@ impl Header {
         requires index { index < self.now.depth }
         ensures { result ≡ level self.now.maxval pixel.now index }
     {
+        // The sample is a byte already, and a division per sample is slow.
         if self.maxval == 255 {
             return pixel[index];
         }

@@ -17,7 +17,7 @@ use Rattle.sixel_palette.proofs.mapped_images.UnditheredAlike.{indices-alike}
 use Rattle.sixel_palette.proofs.{refinement.One.refined_same, refinement.Tops.tops_alike}
 use Rattle.sixel_encoder.proofs.drawings.PaletteText.{hidden-returned, rows-sound}
 use Rattle.sixel_encoder.proofs.drawings.SameDithering.{AreDithered-alike, drawing-alike}
-use Rattle.sixel_encoder.proofs.drawings.SameDithering.{pixels-same, refined-alike}
+use Rattle.sixel_encoder.proofs.drawings.SameDithering.{pixels-same}
 use Rattle.sixel_encoder.proofs.drawings.SameDrawing.{IsShown-other, AreAlike-images}
 
 -- nor is such a color
@@ -94,8 +94,7 @@ IsRefinedText-other image other max_colors mapping form text sound e is =
     let colors = is.colors in
     let indices = is.text.indices in
     let wide : image.width ≡ other.width = ap (λ s. s.width) e in
-    let own = refined_mapping mapping colors image.pixels in
-    let same = refined-alike mapping colors image.pixels other.pixels alike in
+    let own = refined_mapping mapping in
     let dithered : AreDithered own other.width other.pixels colors indices =
     rw wide at (AreDithered-alike own _ _ _ _ _ alike rows is.text.dithered) in
     let drawing = drawing-alike own colors _ _ image other e rows is.text.dithered dithered in
@@ -106,9 +105,7 @@ IsRefinedText-other image other max_colors mapping form text sound e is =
       spread = is.spread ∙ spread-alike image other _ is.palette.colors.items e;
       text = record {
         indices = indices;
-        dithered =
-            subst (λ (m : Mapping). AreDithered m other.width other.pixels colors indices) same
-            dithered;
+        dithered = dithered;
         text = subst (λ d. IsTextOf form d text) drawing is.text.text;
       };
       exact = subst ShowsEntries drawing is.exact;
@@ -132,7 +129,6 @@ hidden-refined bytes (Ok text) image other most mapping form others rest fails s
     let colors : is.colors ≡ too.colors =
     is.spread ∙ spread-alike image other _ is.palette.colors.items e
     ∙ ap (spread_entries _ (opaque_pixels other.pixels)) palette ∙ sym too.spread in
-    let mapped = refined-alike mapping is.colors image.pixels other.pixels alike in
     hidden-returned bytes (Ok text) image other is.colors _ form others rest
-    fails is.text e (rw mapped (rw colors too.text))
+    fails is.text e (rw colors too.text)
 hidden-refined bytes (Err f) image other most mapping form others rest fails small is e too = tt

@@ -6,10 +6,9 @@ use Rattle.std.proofs.lemmas.{Bool.cases_lt, Bool.Decides.nat_tests, List.ext_ge
 use Rattle.std.proofs.lemmas.{List.FromFn.length-map-range_with_len, Nat.{div-add-mod', mod_below}}
 use Rattle.sixel_palette.specs.Dithering.{AreDiffused, AreDithered, AreVisited, HasTarget}
 use Rattle.sixel_palette.specs.Dithering.{HaveChoice, HaveIndices, HaveTargets, IsIndex, Mapped}
-use Rattle.sixel_palette.specs.Dithering.{amplitude_of, errors_of, mapped_of, mapping_from}
-use Rattle.sixel_palette.specs.Dithering.{moved_image, moved_pixels, refined_mapping, serpentine}
-use Rattle.sixel_palette.specs.Dithering.{shift_of, target_of_visit, tolerance_of, undithered_of}
-use Rattle.sixel_palette.specs.{Dithering.with_pixels, Gray.source_pixels}
+use Rattle.sixel_palette.specs.Dithering.{errors_of, mapped_of, moved_image, pattern_of}
+use Rattle.sixel_palette.specs.Dithering.{serpentine, target_of_visit, tolerance_of, undithered_of}
+use Rattle.sixel_palette.specs.{Dithering.with_pixels, Gray.source_pixels, Pattern.moved_pixels}
 use Rattle.sixel_palette.specs.Palette.{IsOpaque, entry_of}
 use Rattle.sixel_palette.specs.Refined.{opaque_pixels}
 use Rattle.sixel_palette.specs.declared.{dither.Amplitude.Amplitude, dither.Dither.Dither}
@@ -86,24 +85,14 @@ pub pixels-same : (p q : List ℕ) → AreAlike p q → (number : List ℕ → �
     → opaque_pixels p number ≡ opaque_pixels q number
 pixels-same p q alike number = grind (arith, nat_tests, sum_to-same, number-dark, number-light)
 
--- so are the tolerance and the amplitude
+-- so are the tolerance and the pattern
 tolerance-alike : (dither : Dither) (tolerance : Tolerance) (colors : List (List ℕ)) (p q : List ℕ)
     → AreAlike p q → tolerance_of dither tolerance colors p ≡ tolerance_of dither tolerance colors q
 tolerance-alike dither tolerance colors p q alike = grind (arith, nat_tests, pixels-same)
 
-amplitude-alike : (amplitude : Amplitude) (colors : List (List ℕ)) (p q : List ℕ) → AreAlike p q
-    → amplitude_of amplitude colors p ≡ amplitude_of amplitude colors q
-amplitude-alike amplitude colors p q alike = grind (arith, nat_tests, pixels-same)
-
--- so is the mapping to a refined palette
-mapping-alike : (mapping : Mapping) (colors : List (List ℕ)) (p q : List ℕ) → AreAlike p q
-    → mapping_from mapping colors p ≡ mapping_from mapping colors q
-mapping-alike mapping colors p q alike = grind (arith, nat_tests, pixels-same)
-
-pub refined-alike : (mapping : Mapping) (colors : List (List ℕ)) (p q : List ℕ) → AreAlike p q
-    → refined_mapping mapping colors p ≡ refined_mapping mapping colors q
-refined-alike mapping colors p q alike =
-    mapping-alike mapping colors _ _ (source-alike mapping colors p q alike)
+pattern-alike : (amplitude : Amplitude) (colors : List (List ℕ)) (p q : List ℕ) → AreAlike p q
+    → pattern_of amplitude colors p ≡ pattern_of amplitude colors q
+pattern-alike amplitude colors p q alike = grind (arith, nat_tests, pixels-same)
 
 -- indices of error diffusion are those of the other pixels
 other-diffused : (m : Mapped) (q a : List ℕ) → AreAlike m.pixels q → AreRowsOf m.pixels m.width
@@ -145,10 +134,10 @@ HaveIndices-alike : (dither : Dither) (m : Mapped) (q a : List ℕ) → AreAlike
     → AreRowsOf m.pixels m.width → HaveIndices dither m a → HaveIndices dither (with_pixels m q) a
 HaveIndices-alike Off m q a alike rows have = other-choice m q a alike have
 HaveIndices-alike (Ordered amplitude) m q a alike rows have =
-    let moved = amplitude_of amplitude m.colors m.pixels in
-    rw (amplitude-alike amplitude m.colors m.pixels q alike) at
-    (other-choice (moved_image m moved) (moved_pixels moved (shift_of m.colors) m.width q) a
-    (moved-alike moved (shift_of m.colors) m.width m.pixels q alike) have)
+    let pattern = pattern_of amplitude m.colors m.pixels in
+    rw (pattern-alike amplitude m.colors m.pixels q alike) at
+    (other-choice (moved_image m pattern) (moved_pixels pattern m.width q) a
+    (moved-alike pattern m.width m.pixels q alike) have)
 HaveIndices-alike (Diffusion strength) m q a alike rows have = other-diffused m q a alike rows have
 
 -- and the entries
@@ -168,14 +157,14 @@ have-alike : (dither : Dither) (m : Mapped) (q a b : List ℕ) (pixel : ℕ) →
 have-alike Off m q a b pixel alike rows first second l =
     choice-entry m q a b pixel alike rows.some first second
 have-alike (Ordered amplitude) m q a b pixel alike rows first second l =
-    let moved = amplitude_of amplitude m.colors m.pixels in
-    let other = moved_pixels moved (shift_of m.colors) m.width q in
+    let pattern = pattern_of amplitude m.colors m.pixels in
+    let other = moved_pixels pattern m.width q in
     let also : HaveChoice (with_pixels m other) b =
-    rw (amplitude-alike amplitude m.colors m.pixels q alike) second in
-    moved-entry moved (shift_of m.colors) m.width m.pixels a pixel l
-    ∙ (choice-entry (moved_image m moved) other a b pixel
-    (moved-alike moved (shift_of m.colors) m.width m.pixels q alike) rows.some first also
-    ∙ sym (moved-entry moved (shift_of m.colors) m.width q b pixel (omega (arith, l, alike.count))))
+    rw (pattern-alike amplitude m.colors m.pixels q alike) second in
+    moved-entry pattern m.width m.pixels a pixel l
+    ∙ (choice-entry (moved_image m pattern) other a b pixel
+    (moved-alike pattern m.width m.pixels q alike) rows.some first also
+    ∙ sym (moved-entry pattern m.width q b pixel (omega (arith, l, alike.count))))
 have-alike (Diffusion strength) m q a b pixel alike rows first second l =
     let count = length m.pixels / 4 in
     entry-before m q a b count pixel alike rows.some l (same-opaque m q a b count alike rows

@@ -6,8 +6,8 @@ use Rattle.sixel_palette.proofs.mapped_images.DitheredIndices.{visit-inside}
 use Rattle.sixel_palette.proofs.mapped_images.MovedPixels.{moved-alpha, moved-length}
 use Rattle.sixel_palette.proofs.mapped_images.Serpentine.{serpentine-serpentine}
 use Rattle.sixel_palette.proofs.mapped_images.UnditheredLaws.{AreChosen-none, chosen-below}
-use Rattle.sixel_palette.specs.Dithering.{HaveChoice, HaveIndices, Mapped, amplitude_of}
-use Rattle.sixel_palette.specs.Dithering.{moved_image, serpentine, shift_of, undithered_of}
+use Rattle.sixel_palette.specs.Dithering.{HaveChoice, HaveIndices, Mapped, moved_image}
+use Rattle.sixel_palette.specs.Dithering.{pattern_of, serpentine, undithered_of}
 use Rattle.sixel_palette.{specs.Palette.{AreIndices, IsOpaque}, specs.declared.dither.Dither.Dither}
 use Rattle.sixel_palette.specs.declared.dither.Dither.TheVariants.{Diffusion, Off, Ordered}
 
@@ -15,8 +15,8 @@ pub have-count : (dither : Dither) (m : Mapped) (indices : List ℕ) → HaveInd
     → length indices ≡ length m.pixels / 4
 have-count Off m indices have = have.2.one_each
 have-count (Ordered amplitude) m indices have =
-    let moved = amplitude_of amplitude m.colors m.pixels in
-    omega (arith, have.2.one_each, moved-length moved (shift_of m.colors) m.width m.pixels)
+    let pattern = pattern_of amplitude m.colors m.pixels in
+    omega (arith, have.2.one_each, moved-length pattern m.width m.pixels)
 have-count (Diffusion strength) m indices have = have.one_each
 
 pub have-entry : (dither : Dither) (m : Mapped) (indices : List ℕ) (pixel : ℕ)
@@ -25,10 +25,11 @@ pub have-entry : (dither : Dither) (m : Mapped) (indices : List ℕ) (pixel : �
 have-entry Off m indices pixel rows have inside light =
     chosen-below (undithered_of m have.0 indices) have.2 have.1 rows.some pixel inside light
 have-entry (Ordered amplitude) m indices pixel rows have inside light =
-    let moved = amplitude_of amplitude m.colors m.pixels in
-    chosen-below (undithered_of (moved_image m moved) have.0 indices) have.2 have.1 rows.some pixel
-    (omega (arith, moved-length moved (shift_of m.colors) m.width m.pixels, inside))
-    (omega (arith, moved-alpha moved (shift_of m.colors) m.width m.pixels pixel inside, light))
+    let pattern = pattern_of amplitude m.colors m.pixels in
+    chosen-below (undithered_of (moved_image m pattern) have.0 indices) have.2 have.1 rows.some
+    pixel
+    (omega (arith, moved-length pattern m.width m.pixels, inside))
+    (omega (arith, moved-alpha pattern m.width m.pixels pixel inside, light))
 have-entry (Diffusion strength) m indices pixel rows have inside light =
     let back = serpentine-serpentine m.width pixel rows.some in
     let has = have.each (serpentine m.width pixel) (visit-inside m pixel rows inside) in
@@ -44,9 +45,9 @@ pub have-none : (dither : Dither) (m : Mapped) (indices : List ℕ) → AreRowsO
     → length m.colors ≡ 0 → AreIndices m.pixels m.colors indices → HaveIndices dither m indices
 have-none Off m indices rows none are = choice-none m indices rows.some none are
 have-none (Ordered amplitude) m indices rows none are =
-    let moved = amplitude_of amplitude m.colors m.pixels in
-    let length = moved-length moved (shift_of m.colors) m.width m.pixels in
-    let alpha = moved-alpha moved (shift_of m.colors) m.width m.pixels in
-    choice-none (moved_image m moved) indices rows.some none
+    let pattern = pattern_of amplitude m.colors m.pixels in
+    let length = moved-length pattern m.width m.pixels in
+    let alpha = moved-alpha pattern m.width m.pixels in
+    choice-none (moved_image m pattern) indices rows.some none
     (grind (arith, nat_tests, length, alpha))
 have-none (Diffusion strength) m indices rows none are = AreDiffused-none m indices rows none are

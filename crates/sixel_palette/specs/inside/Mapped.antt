@@ -1,11 +1,14 @@
--- How code sees an image that is mapped to a palette, its places, and the entries that may be kept.
+-- How code sees an image that is mapped to a palette, its pattern and its places, and the entries
+-- that may be kept.
 use Rattle.std.specs.Prelude.{◌≡◌, ℕ, ◌+◌, ◌*◌, ◌/◌, ◌<◌, ◌≤◌, List, length, slice_index, Option}
 use Rattle.std.specs.Prelude.{Some, None}
 use Rattle.sixel_palette.specs.Palette.{IsOpaque, nearest, no_entry, entry_distance}
 use Rattle.sixel_palette.specs.declared.dithering.mapped.Kept.{Kept}
 use Rattle.sixel_palette.specs.declared.dithering.mapped.MappedImage.{MappedImage}
 use Rattle.sixel_palette.specs.declared.dithering.mapped.Place.{Place}
+use Rattle.sixel_palette.specs.declared.dithering.ordered.Pattern.{Pattern as CodePattern}
 use Rattle.sixel_palette.specs.Dithering.{IsIndex, Mapped, neighbor_of, serpentine, whole_rows}
+use Rattle.sixel_palette.specs.Pattern.{Pattern}
 
 -- the image, apart from where its pixels and colors lie
 abbrev pub mapped_value : MappedImage → Mapped
@@ -15,6 +18,14 @@ mapped_value image = record {
   colors = image.colors.now;
   strength = image.strength;
   tolerance = image.tolerance;
+}
+
+-- the pattern for these entries
+abbrev pub pattern_value : List (List ℕ) → CodePattern → Pattern
+pattern_value colors pattern = record {
+  colors = colors;
+  amplitude = pattern.amplitude;
+  limit = pattern.limit;
 }
 
 -- the pixels are whole rows, and the palette has not too many colors

@@ -1,28 +1,45 @@
 //! Ordered dithering by the pattern of Ø. Kolås, "a dither" (2013).
 
 ghost use Rattle.std.specs.Prelude.{◌≡◌, ◌*◌, ◌/◌, ◌<◌, ◌≤◌, IfOk, length};
-ghost use Rattle.sixel_palette.specs.Dithering.{HaveChoice, moved_channel, moved_image};
-ghost use Rattle.sixel_palette.specs.Dithering.{moved_pixels, shift_of, threshold};
-ghost use Rattle.sixel_palette.specs.inside.Mapped.{IsMappable, mapped_value};
+ghost use Rattle.sixel_palette.specs.{Dithering.{HaveChoice, moved_image}, Pattern.amplitude_at};
+ghost use Rattle.sixel_palette.specs.Pattern.{moved_channel, moved_pixels, shift_of, threshold};
+ghost use Rattle.sixel_palette.specs.inside.Mapped.{IsMappable, mapped_value, pattern_value};
+ghost use Rattle.sixel_palette.specs.Palette.{AreIndices};
 
 use crate::dithering::gray::are_gray;
 use crate::dithering::mapped::MappedImage;
 use crate::dithering::undithered::chosen_indices;
+use crate::palette::colors::is_opaque;
+use crate::palette::distance::distance;
 use crate::palette::nearest_indices::nearest_indices;
 use std::alloc::{AllocError, Global};
 
+/// Which colors the pattern moves, and how far.
+#[derive(Clone, Copy)]
+pub struct Pattern {
+    /// How many levels apart it moves a channel at most.
+    pub amplitude: u8,
+    /// The squared distance to its nearest entry below which a color stays.
+    pub limit: u32,
+}
+
 /// Returns the chosen index of each pixel, whose color is moved by the pattern.
+///
+/// The indices of nearest entries are not read if the limit is 0.
 pub fn ordered_indices(
     alloc: Global,
     image: &MappedImage<'_>,
-    amplitude: u8,
+    nearest: &[u8],
+    pattern: Pattern,
 ) -> Result<Vec<u8>, AllocError>
-    requires { IsMappable image.now }
-    ensures { IfOk result (λ indices.
-        HaveChoice (moved_image (mapped_value image.now) amplitude) indices.items) }
+    requires image { IsMappable image.now }
+    requires nearest { 0 < pattern.limit
+        → AreIndices image.now.pixels.now image.now.colors.now nearest.now }
+    ensures { IfOk result (λ indices. HaveChoice
+        (moved_image (mapped_value image.now) (pattern_value image.now.colors.now pattern))
+        indices.items) }
 {
-    let shift = shift_of(image.colors);
-    let moved = moved_pixels(alloc, image.pixels, image.width, amplitude, shift)?;
+    let moved = moved_pixels(alloc, image, nearest, pattern)?;
     let image = MappedImage {
         pixels: &moved,
         ..*image
@@ -42,36 +59,67 @@ fn shift_of(colors: &[[u8; 3]]) -> u32
 /// Returns the pixels of an image, whose colors are moved by the pattern.
 fn moved_pixels(
     alloc: Global,
-    pixels: &[u8],
-    width: usize,
-    amplitude: u8,
-    shift: u32,
+    image: &MappedImage<'_>,
+    nearest: &[u8],
+    pattern: Pattern,
 ) -> Result<Vec<u8>, AllocError>
-    requires width { 0 < width }
-    requires shift { shift ≤ 112 }
-    ensures { IfOk result (λ moved. moved.items ≡ moved_pixels amplitude shift width pixels.now) }
+    requires image { IsMappable image.now }
+    requires nearest { 0 < pattern.limit
+        → AreIndices image.now.pixels.now image.now.colors.now nearest.now }
+    ensures { IfOk result (λ moved. moved.items ≡ moved_pixels
+        (pattern_value image.now.colors.now pattern) image.now.width image.now.pixels.now) }
 {
-    let mut moved = vec![in alloc; 0; 4 * (pixels.len() / 4)]?;
-    fill(pixels, width, amplitude, shift, &mut moved);
+    let mut moved = vec![in alloc; 0; 4 * (image.pixels.len() / 4)]?;
+    fill(image, nearest, pattern, &mut moved);
     Ok(moved)
 }
 
 /// Writes the pixels of an image, whose colors are moved by the pattern.
 #[tactic(auto, unfolding(sixel_base::specs::Picture::joined))]
-fn fill(pixels: &[u8], width: usize, amplitude: u8, shift: u32, moved: &mut [u8])
-    requires width { 0 < width }
-    requires shift { shift ≤ 112 }
-    requires size { length moved.old ≡ 4 * (length pixels.now / 4) }
-    ensures { moved.new ≡ moved_pixels amplitude shift width pixels.now }
+fn fill(image: &MappedImage<'_>, nearest: &[u8], pattern: Pattern, moved: &mut [u8])
+    requires image { IsMappable image.now }
+    requires nearest { 0 < pattern.limit
+        → AreIndices image.now.pixels.now image.now.colors.now nearest.now }
+    requires size { length moved.old ≡ 4 * (length image.now.pixels.now / 4) }
+    ensures { moved.new ≡ moved_pixels (pattern_value image.now.colors.now pattern)
+        image.now.width image.now.pixels.now }
 {
-    for pixel in 0..pixels.len() / 4 {
-        let column = pixel % width;
-        let row = pixel / width;
+    let shift = shift_of(image.colors);
+    for pixel in 0..image.pixels.len() / 4 {
+        let column = pixel % image.width;
+        let row = pixel / image.width;
         let at = 4 * pixel;
-        let red = moved_channel(amplitude, threshold(column, row, 0), pixels[at]);
-        let green = moved_channel(amplitude, threshold(column, row, shift), pixels[at + 1]);
-        let blue = moved_channel(amplitude, threshold(column, row, 2 * shift), pixels[at + 2]);
-        moved[at..at + 4].copy_from_slice(&[red, green, blue, pixels[at + 3]]);
+        let amplitude = pattern.amplitude_at(image, nearest, pixel);
+        let [red, green, blue] = image.color(pixel);
+        let red = moved_channel(amplitude, threshold(column, row, 0), red);
+        let green = moved_channel(amplitude, threshold(column, row, shift), green);
+        let blue = moved_channel(amplitude, threshold(column, row, 2 * shift), blue);
+        moved[at..at + 4].copy_from_slice(&[red, green, blue, image.pixels[at + 3]]);
+    }
+}
+
+impl Pattern {
+    /// Returns the amplitude at a pixel, 0 if its color stays.
+    #[inline(always)]
+    fn amplitude_at(self, image: &MappedImage<'_>, nearest: &[u8], pixel: usize) -> u8
+        requires nearest { 0 < self.limit
+            → AreIndices image.now.pixels.now image.now.colors.now nearest.now }
+        requires pixel { pixel < length image.now.pixels.now / 4 }
+        ensures { result ≡ amplitude_at (pattern_value image.now.colors.now self)
+            image.now.pixels.now pixel }
+    {
+        if self.limit == 0 {
+            return self.amplitude;
+        }
+        if !is_opaque(image.pixels, pixel) {
+            return 0;
+        }
+        let entry = image.colors[usize::from(nearest[pixel])];
+        if distance(entry, image.color(pixel)) < self.limit {
+            0
+        } else {
+            self.amplitude
+        }
     }
 }
 

@@ -1,14 +1,16 @@
-//! The summed squared error of a palette, and the tolerance and the amplitude that follow from it.
+//! The summed squared error of a palette, and the tolerance and the pattern that follow from it.
 
 ghost use Rattle.std.specs.Prelude.{◌≡◌, ◌*◌, ◌/◌, ◌≤◌, max};
-ghost use Rattle.sixel_palette.specs.Dithering.{amplitude_of, mapping_from, root, tolerance_of};
+ghost use Rattle.sixel_palette.specs.Dithering.{pattern_of, root, tolerance_of};
 ghost use Rattle.sixel_palette.specs.Palette.{AreIndices, no_entry};
 ghost use Rattle.sixel_palette.specs.Refined.{opaque_pixels, summed_error};
 ghost use Rattle.sixel_palette.specs.inside.Error.{HasNearest, IsErrorOf};
+ghost use Rattle.sixel_palette.specs.inside.Mapped.{pattern_value};
 
 use crate::dither::{Amplitude, Dither};
 use crate::dithering::mapped::MappedImage;
 use crate::dithering::nearest::Nearest;
+use crate::dithering::ordered::Pattern;
 use crate::mapping::{Mapping, Tolerance};
 use crate::palette::colors::is_opaque;
 use crate::palette::distance::distance;
@@ -43,32 +45,31 @@ pub fn tolerance_of(image: &MappedImage<'_>, nearest: &Nearest<'_>, mapping: Map
     }
 }
 
-/// Returns the amplitude for the palette of an image.
-pub fn amplitude_of(image: &MappedImage<'_>, nearest: &Nearest<'_>, amplitude: Amplitude) -> u8
+/// Returns the pattern for the palette of an image.
+pub fn pattern_of(image: &MappedImage<'_>, nearest: &Nearest<'_>, amplitude: Amplitude) -> Pattern
     requires { HasNearest image.now nearest.now }
-    ensures { result ≡ amplitude_of amplitude image.now.colors.now image.now.pixels.now }
+    ensures { pattern_value image.now.colors.now result
+        ≡ pattern_of amplitude image.now.colors.now image.now.pixels.now }
 {
     match amplitude {
-        Amplitude::Levels(levels) => levels,
-        Amplitude::Auto => root(4 * palette_error(image, nearest).mean()),
-    }
-}
-
-/// Returns how an image is mapped to its refined palette.
-pub fn refined_mapping(image: &MappedImage<'_>, nearest: &Nearest<'_>, mapping: Mapping) -> Mapping
-    requires { HasNearest image.now nearest.now }
-    ensures { result ≡ mapping_from mapping image.now.colors.now image.now.pixels.now }
-{
-    match mapping.dither {
-        Dither::Ordered {
-            amplitude: Amplitude::Auto,
-        } => Mapping {
-            dither: Dither::Ordered {
-                amplitude: Amplitude::Levels(root(palette_error(image, nearest).mean())),
-            },
-            ..mapping
+        Amplitude::Levels(amplitude) => Pattern {
+            amplitude,
+            limit: 0,
         },
-        _ => mapping,
+        Amplitude::Auto => {
+            let mean = palette_error(image, nearest).mean();
+            Pattern {
+                amplitude: root(4 * mean),
+                limit: (mean / 4).min(12) + 1,
+            }
+        }
+        Amplitude::Refined => {
+            let mean = palette_error(image, nearest).mean();
+            Pattern {
+                amplitude: root(mean),
+                limit: mean / 4 + 1,
+            }
+        }
     }
 }
 
@@ -78,10 +79,7 @@ fn palette_error(image: &MappedImage<'_>, nearest: &Nearest<'_>) -> PaletteError
     ensures { IsErrorOf image.now.colors.now image.now.pixels.now result }
 {
     match nearest {
-        Nearest::Found(indices) => PaletteError {
-            sum: index_error(image, indices),
-            pixels: opaque_pixels(image.pixels),
-        },
+        Nearest::Found(indices) => index_error(image, indices),
         Nearest::Refined(refinement) => PaletteError {
             sum: u128::from(refinement.entries.error),
             pixels: refinement.entries.opaque,
@@ -89,32 +87,21 @@ fn palette_error(image: &MappedImage<'_>, nearest: &Nearest<'_>) -> PaletteError
     }
 }
 
-/// Returns the summed squared distance of the pixels to their nearest entries.
-fn index_error(image: &MappedImage<'_>, nearest: &[u8]) -> u128
+/// Returns the error of a palette by the indices of nearest entries.
+fn index_error(image: &MappedImage<'_>, nearest: &[u8]) -> PaletteError
     requires { AreIndices image.now.pixels.now image.now.colors.now nearest.now }
-    ensures { result ≡ summed_error image.now.colors.now image.now.pixels.now }
+    ensures sum { result.sum ≡ summed_error image.now.colors.now image.now.pixels.now }
+    ensures count { result.pixels ≡ opaque_pixels image.now.pixels.now (λ _. 1) }
 {
-    let mut sum = 0;
+    let mut error = PaletteError { sum: 0, pixels: 0 };
     for pixel in 0..nearest.len() {
         if is_opaque(image.pixels, pixel) {
             let entry = image.colors[usize::from(nearest[pixel])];
-            sum += u128::from(distance(entry, image.color(pixel)));
+            error.sum += u128::from(distance(entry, image.color(pixel)));
+            error.pixels += 1;
         }
     }
-    sum
-}
-
-/// Returns the number of opaque pixels.
-fn opaque_pixels(pixels: &[u8]) -> u64
-    ensures { result ≡ opaque_pixels pixels.now (λ _. 1) }
-{
-    let mut count = 0;
-    for pixel in 0..pixels.len() / 4 {
-        if is_opaque(pixels, pixel) {
-            count += 1;
-        }
-    }
-    count
+    error
 }
 
 impl PaletteError {

@@ -49,9 +49,10 @@ pub fn assign(
     })
 }
 
-/// Each color's nearest entry.
+/// Returns each color's nearest entry.
 ///
-/// A search among the entries pays if there are more colors than cubes that it makes lists for.
+/// It searches among more than 16 entries if there are more colors than cubes. Otherwise it relaxes
+/// the colors by one entry after the other.
 pub fn nearest_among(
     alloc: Global,
     codes: &[u32],

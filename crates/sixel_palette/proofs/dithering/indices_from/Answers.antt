@@ -1,5 +1,5 @@
 use Rattle.std.proofs.{Common.{◌≡◌, length, arith}, lemmas.Bool.Decides.nat_tests}
-use Rattle.sixel_palette.specs.{Dithering.{mapped_of, refined_mapping}, Gray.source_pixels}
+use Rattle.sixel_palette.specs.{Dithering.mapped_of, Gray.source_pixels}
 use Rattle.sixel_palette.proofs.mapped_images.AllKinds.{have-none}
 use Rattle.sixel_palette.proofs.mapped_images.GraySource.{AreRowsOf-source, IsSource-pixels}
 use Rattle.sixel_palette.proofs.mapped_images.GraySource.{gray-length}
@@ -10,7 +10,7 @@ returns-then-is_empty c =
     let image = c.args.image.now in
     let pixels = image.pixels.now in
     let colors = image.colors.now in
-    let mapping = refined_mapping c.args.mapping colors pixels in
+    let mapping = c.args.mapping in
     let s = source_pixels mapping colors pixels in
     let is = IsSource-pixels mapping colors pixels in
     let m = mapped_of mapping image.width s colors in

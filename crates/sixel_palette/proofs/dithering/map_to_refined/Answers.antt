@@ -1,5 +1,4 @@
 use Rattle.std.proofs.{Common.{◌/◌, arith, length}}
-use Rattle.sixel_palette.specs.Dithering.{refined_mapping}
 use Rattle.sixel_palette.proofs.mapped_images.DitheredIndices.{AreRowsOf}
 use Rattle.sixel_palette.proofs.mapped_images.GraySource.{dithered-count, dithered-entry}
 use Rattle.sixel_palette.proofs.refinement.Refinement.{refinement-some}
@@ -8,7 +7,7 @@ use Rattle.sixel_palette.proofs.dithering.map_to_refined.Goals as goal
 pub returns-clause-count : goal.returns-clause-count
 returns-clause-count c =
     let image = c.plain-image.result in
-    let mapping = refined_mapping c.args.mapping image.colors.now c.args.pixels.now in
+    let mapping = c.refined_mapping-mapping.result in
     dithered-count mapping c.args.width c.args.pixels.now image.colors.now
     c.in_ok-indices.indices.items
     (rw (c.plain-image.ensures.pixels, c.plain-image.ensures.width) at c.in_ok-indices.ensures)
@@ -16,7 +15,7 @@ returns-clause-count c =
 pub returns-clause-known : goal.returns-clause-known
 returns-clause-known c =
     let image = c.plain-image.result in
-    let mapping = refined_mapping c.args.mapping image.colors.now c.args.pixels.now in
+    let mapping = c.refined_mapping-mapping.result in
     let rows : AreRowsOf c.args.pixels.now c.args.width = record {
       some = c.requires.width;
       count = length c.args.pixels.now / 4 / c.args.width;

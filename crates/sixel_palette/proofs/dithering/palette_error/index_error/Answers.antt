@@ -6,7 +6,8 @@ use Rattle.sixel_palette.proofs.dithering.palette_error.index_error.Goals as goa
 
 pub loop-pixel-init : goal.loop-pixel-init
 unfolding sum_to
-loop-pixel-init c = record { sum = refl; small = omega arith }
+loop-pixel-init c =
+    record { sum = refl; small = omega arith; count = refl; most = omega arith }
 
 pub loop-pixel-preserved : goal.loop-pixel-preserved
 loop-pixel-preserved c =

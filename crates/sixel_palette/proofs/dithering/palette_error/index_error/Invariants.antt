@@ -4,6 +4,9 @@ use Rattle.sixel_palette.proofs.dithering.palette_error.index_error.Given as goa
 
 abbrev pub invariant-loop-pixel : goal.invariant-loop-pixel
 invariant-loop-pixel l = record {
-  sum : l.sum ≡ sum_to (opaque_number (nearest l.image.colors.now) l.image.pixels.now) l.pixel;
-  small : l.sum ≤ no_entry * l.pixel;
+  sum : l.error.sum
+      ≡ sum_to (opaque_number (nearest l.image.colors.now) l.image.pixels.now) l.pixel;
+  small : l.error.sum ≤ no_entry * l.pixel;
+  count : l.error.pixels ≡ sum_to (opaque_number (λ _. 1) l.image.pixels.now) l.pixel;
+  most : l.error.pixels ≤ l.pixel;
 }

@@ -6,7 +6,7 @@ use Rattle.sixel_palette.proofs.dithering.palette_error.palette_error.Goals as g
 
 pub returns-in-Found : goal.returns-in-Found
 returns-in-Found c =
-    grind (arith, nat_tests, c.index_error.ensures, c.opaque_pixels.ensures, error-small)
+    grind (arith, nat_tests, c.index_error.ensures, error-small)
 
 pub returns-in-Refined : goal.returns-in-Refined
 returns-in-Refined c =
